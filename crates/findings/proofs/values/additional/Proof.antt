@@ -1,0 +1,48 @@
+-- `findings::values::additional` meets its contract. The loop's invariant: the first i addresses are those of the joined list.
+-- Assumes nothing.
+use Prim.Native.Nat.{ℕ, _≤_, _-_}
+use mathlib.Core.Path.{_≡_, refl}
+use mathlib.Core.List.{List}
+use borrow.Author.Needs.{needs}
+use native.Mathlib.Omega.{arith}
+use lib.ListN.{replicate}
+use Rattle.octets.proofs.Zip.{joined, joins-one, joins-all}
+use Rattle.findings.specs.Values.{addressAt}
+use Rattle.findings.proofs.values.additional.Statement.{statement}
+use Rattle.findings.proofs.values.additional.Tie as tie
+
+abbrev zeros : List ℕ
+zeros = replicate 16 0
+
+abbrev Inv-loop : tie.InvT-loop
+Inv-loop body places families out₀ i₀ out i = (i ≤ 16) × (out ≡ joined (addressAt body) zeros places families 16 i)
+
+abbrev μ-loop : tie.MeasureT-loop
+μ-loop body places families out₀ i₀ out i = 16 - i
+
+pub additional-spec : {M : Type 1} → statement M
+additional-spec =
+    tie.close
+    (tie.spec
+    Inv-loop
+    μ-loop
+    (λ c. (search needs, refl))
+    (λ c. search needs)
+    (λ c. search needs)
+    (λ c. search needs)
+    (λ c κs. search needs)
+    (λ c. search needs)
+    (λ c. search needs)
+    (λ c. search needs)
+    (λ c. search needs)
+    (λ c.
+    let a = c .before .before .before .before .before .before .args in
+    let l = c .before .before .loop in (
+      omega arith,
+      rw (c .address-at .ensures)
+          (joins-one (addressAt (a .body .now)) zeros (a .list .places) (a .list .families) 16 (search needs) (search needs) (l .out) (l .i) 0 0 (omega arith) (l .inv .1)),
+    ))
+    (λ c.
+    let a = c .before .before .before .before .before .args in
+    let l = c .before .loop in
+    joins-all (addressAt (a .body .now)) zeros (a .list .places) (a .list .families) 16 (search needs) (search needs) (l .out) (l .i) (omega arith) (l .inv .1)))

@@ -1,0 +1,122 @@
+// The values that a reading hands out: parts of the lent body, and the addresses in it.
+use crate::seen::Places;
+use crate::seen::Seen;
+use octets::address::width_of;
+use octets::be16_at;
+use octets::padded_to_16;
+ghost use mathlib.Core.Path.{_≡_};
+ghost use Prim.Native.Nat.{_+_, _≤_};
+ghost use lib.ListN.{length};
+ghost use Rattle.findings.specs.Values.{partOf, natValue, noNatsIn, noNatsOf, noNatsSeen, absent, addressAt, additionalOf};
+
+// The `len` octets at `at`; none where they would run past the end.
+pub fn part(body: &[u8], at: u16, len: u16) -> &[u8]
+    ensures { λ r. ⌜ now r ≡ partOf (now (body .entry)) at len ⌝ }
+{
+    let start = at as usize;
+    let end = start + len as usize;
+    if end <= body.len() {
+        &body[start..end]
+    } else {
+        &body[..0]
+    }
+}
+
+// COOKIE2's data as a part of the body, empty if there is none.
+pub fn cookie(body: &[u8], seen: Seen) -> &[u8]
+    ensures { λ r. ⌜ now r ≡ partOf (now (body .entry)) (seen .cookie) (seen .«cookie_len») ⌝ }
+{
+    part(body, seen.cookie, seen.cookie_len)
+}
+
+// The NAT detection value at a place, empty where there is none.
+pub fn nat_value(body: &[u8], place: u16) -> &[u8]
+    ensures { λ r. ⌜ now r ≡ natValue (now (body .entry)) place ⌝ }
+{
+    if place == 0 {
+        part(body, 0, 0)
+    } else {
+        part(body, place, 20)
+    }
+}
+
+// What NO_NATS_ALLOWED holds; family 0 where there is none.
+#[repr(C)]
+pub struct NoNats {
+    pub family: u8,
+    pub source: [u8; 16],
+    pub destination: [u8; 16],
+    pub source_port: u16,
+    pub destination_port: u16,
+}
+
+// Two addresses of n octets and two ports.
+fn no_nats_in(family: u8, n: usize, data: &[u8]) -> NoNats
+    requires { ⌜ n + n + 4 ≤ length (now «data») ⌝ }
+    ensures { λ r. ⌜ r ≡ noNatsIn family n (now («data» .entry)) ⌝ }
+{
+    let both = n + n;
+    let source = padded_to_16(&data[..n]);
+    let destination = padded_to_16(&data[n..both]);
+    NoNats {
+        family,
+        source,
+        destination,
+        source_port: be16_at(data, both),
+        destination_port: be16_at(data, both + 2),
+    }
+}
+
+fn nothing_allowed() -> NoNats
+    ensures { λ r. ⌜ r ≡ absent ⌝ }
+{
+    NoNats {
+        family: 0,
+        source: [0u8; 16],
+        destination: [0u8; 16],
+        source_port: 0,
+        destination_port: 0,
+    }
+}
+
+// NO_NATS_ALLOWED's data, whose length tells the family.
+pub fn no_nats_of(data: &[u8]) -> NoNats
+    ensures { λ r. ⌜ r ≡ noNatsOf (now («data» .entry)) ⌝ }
+{
+    if data.len() == 12 {
+        return no_nats_in(4, 4, data);
+    }
+    if data.len() == 36 {
+        return no_nats_in(6, 16, data);
+    }
+    nothing_allowed()
+}
+
+pub fn no_nats(body: &[u8], seen: Seen) -> NoNats
+    ensures { λ r. ⌜ r ≡ noNatsSeen (now (body .entry)) seen ⌝ }
+{
+    no_nats_of(part(body, seen.no_nats, seen.no_nats_len))
+}
+
+// The address at a place, of a family that says how many octets it has.
+pub fn address_at(body: &[u8], place: u16, family: u8) -> [u8; 16]
+    ensures { λ r. ⌜ r ≡ addressAt (now (body .entry)) place family ⌝ }
+{
+    padded_to_16(part(body, place, width_of(family)))
+}
+
+// The additional addresses, the first sixteen, with zeros in unused places.
+pub fn additional(body: &[u8], list: Places) -> [[u8; 16]; 16]
+    ensures { λ r. ⌜ r ≡ additionalOf (now (body .entry)) (list .places) (list .families) ⌝ }
+{
+    let places = list.places;
+    let families = list.families;
+    let mut out = [[0u8; 16]; 16];
+    let mut i = 0;
+    while i < 16 {
+        let a = address_at(body, places[i], families[i]);
+        out[i] = a;
+        i += 1;
+    }
+    out
+}

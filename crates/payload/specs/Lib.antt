@@ -1,0 +1,2 @@
+pub mod Notify
+pub mod Payload

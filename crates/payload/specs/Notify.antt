@@ -1,0 +1,45 @@
+-- Notify types: their numbers, kinds and data sizes, the table of 01 ("The payload chain").
+use Prim.Native.Nat.{ℕ}
+use mathlib.Core.Bool.{Bool, true, false, cond, _&&_, _||_}
+use lib.Dec.{eqb, leb}
+use Rattle.payload.specs.declared.notify.NotifyKind.{NotifyKind}
+use Rattle.payload.specs.declared.notify.NotifyKind.the-variants.{NatDetectionSource, NatDetectionDestination, MobikeSupported, AdditionalIp4, AdditionalIp6, NoAdditionalAddresses, UpdateSaAddresses, Cookie2, NoNatsAllowed, Unknown}
+
+-- 01: "The numbers belong to the notify type as its named constants. Every other notify type is tallied as unknown".
+unfoldable pub kindOf : ℕ → NotifyKind
+kindOf n =
+    cond (eqb n 16388) NatDetectionSource
+    (cond (eqb n 16389) NatDetectionDestination
+    (cond (eqb n 16396) MobikeSupported
+    (cond (eqb n 16397) AdditionalIp4
+    (cond (eqb n 16398) AdditionalIp6
+    (cond (eqb n 16399) NoAdditionalAddresses
+    (cond (eqb n 16400) UpdateSaAddresses
+    (cond (eqb n 16401) Cookie2
+    (cond (eqb n 16402) NoNatsAllowed
+    Unknown))))))))
+
+-- 01's column "Data octets"; unknown types are taken "whatever [their] SPI or data".
+abbrev pub dataFits : NotifyKind → ℕ → Bool
+dataFits NatDetectionSource n = eqb n 20
+dataFits NatDetectionDestination n = eqb n 20
+dataFits MobikeSupported n = true
+dataFits AdditionalIp4 n = eqb n 4
+dataFits AdditionalIp6 n = eqb n 16
+dataFits NoAdditionalAddresses n = eqb n 0
+dataFits UpdateSaAddresses n = eqb n 0
+dataFits Cookie2 n = leb 8 n && leb n 64
+dataFits NoNatsAllowed n = eqb n 12 || eqb n 36
+dataFits Unknown n = true
+
+abbrev pub isUnknown : NotifyKind → Bool
+isUnknown NatDetectionSource = false
+isUnknown NatDetectionDestination = false
+isUnknown MobikeSupported = false
+isUnknown AdditionalIp4 = false
+isUnknown AdditionalIp6 = false
+isUnknown NoAdditionalAddresses = false
+isUnknown UpdateSaAddresses = false
+isUnknown Cookie2 = false
+isUnknown NoNatsAllowed = false
+isUnknown Unknown = true

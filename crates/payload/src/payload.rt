@@ -1,0 +1,112 @@
+// One payload of a chain: where it ends and what it is, or what is wrong with it.
+use crate::notify::NotifyKind;
+use crate::notify::NotifyType;
+use crate::notify::data_fits;
+use octets::be16_at;
+ghost use mathlib.Core.Path.{_≡_};
+ghost use Prim.Native.Nat.{_+_, _≤_};
+ghost use lib.ListN.{length};
+ghost use Rattle.payload.specs.Payload.{spiFits, notifyAt, payloadAt};
+
+// What can be wrong with a chain.
+pub enum Fault {
+    // Fewer octets left than a header has, or a length under 4 or past the end.
+    ChainLength,
+    // A Notify under 8 octets, an SPI past its length, or an SPI where the type has none.
+    NotifyShape,
+    // Notification data of a size that its type does not allow.
+    DataSize,
+    // A notification that may not stand twice, or that contradicts an earlier one.
+    Conflict,
+    // Octets after the end of the chain.
+    Leftover,
+    // A payload type that is not known, marked critical.
+    Critical,
+}
+
+// What a payload is to the reader.
+pub enum Content {
+    // A type that is known and of no concern here.
+    Skipped,
+    // A type that is not known, not marked critical.
+    Unknown,
+    // A Notify: its kind, its type's number, and how many octets of data it has.
+    Notify(NotifyKind, u16, u16),
+}
+
+pub enum Found {
+    // A payload of so many octets, its header counted.
+    Payload(u16, Content),
+    Faulty(Fault),
+}
+
+// Whether a Notify of this kind may have an SPI of so many octets.
+pub fn spi_fits(kind: NotifyKind, spi: u16) -> bool
+    ensures { λ r. ⌜ r ≡ spiFits kind spi ⌝ }
+{
+    if spi == 0 {
+        return true;
+    }
+    match kind {
+        NotifyKind::Unknown => true,
+        _ => false,
+    }
+}
+
+// The Notify at `at`, of `size` octets. Its data, which starts in the middle of the body, is passed on as a part.
+pub fn notify_at(body: &[u8], at: usize, size: u16) -> Found
+    requires { ⌜ at + size ≤ length (now body) ⌝ }
+    ensures { λ r. ⌜ r ≡ notifyAt (now (body .entry)) at size ⌝ }
+{
+    if size < 8 {
+        return Found::Faulty(Fault::NotifyShape);
+    }
+    let spi = body[at + 5] as u16;
+    if size - 8 < spi {
+        return Found::Faulty(Fault::NotifyShape);
+    }
+    let number = be16_at(body, at + 6);
+    let kind = NotifyType { number }.kind();
+    if spi_fits(kind, spi) {
+        let start = at + 8 + spi as usize;
+        let end = at + size as usize;
+        if data_fits(kind, &body[start..end]) {
+            Found::Payload(size, Content::Notify(kind, number, size - 8 - spi))
+        } else {
+            Found::Faulty(Fault::DataSize)
+        }
+    } else {
+        Found::Faulty(Fault::NotifyShape)
+    }
+}
+
+// The payload of type `first` at `at`.
+pub fn payload_at(first: u8, body: &[u8], at: usize) -> Found
+    requires { ⌜ at ≤ length (now body) ⌝ }
+    ensures { λ r. ⌜ r ≡ payloadAt first (now (body .entry)) at ⌝ }
+{
+    let left = body.len() - at;
+    if left < 4 {
+        return Found::Faulty(Fault::ChainLength);
+    }
+    let size = be16_at(body, at + 2);
+    if size < 4 {
+        return Found::Faulty(Fault::ChainLength);
+    }
+    if left < size as usize {
+        return Found::Faulty(Fault::ChainLength);
+    }
+    if first == 41 {
+        return notify_at(body, at, size);
+    }
+    if 33 <= first {
+        if first <= 48 {
+            return Found::Payload(size, Content::Skipped);
+        }
+    }
+    if 128 <= body[at + 1] {
+        Found::Faulty(Fault::Critical)
+    } else {
+        Found::Payload(size, Content::Unknown)
+    }
+}

@@ -1,0 +1,4 @@
+-- Laws that belong to no one function.
+pub mod Chain
+pub mod Scan
+pub mod Count

@@ -1,0 +1,41 @@
+-- Laws of scanning: one for each way that a step can end.
+use Prim.Native.Nat.{ℕ, _+_, _≤_}
+use mathlib.Core.Path.{_≡_}
+use mathlib.Core.List.{List}
+use mathlib.Core.Bool.{true, false}
+use borrow.Author.Tests.{eq-eqb, ne-eqb}
+use lib.ListN.{length, getD}
+use Rattle.payload.specs.Payload.{payloadAt}
+use Rattle.findings.specs.Seen.{contentNoted, conflicts}
+use Rattle.reader.specs.Chain.{chainAt, scanned, stopped}
+use Rattle.payload.specs.declared.payload.Fault.{Fault}
+use Rattle.payload.specs.declared.payload.Fault.the-variants.{Leftover, Conflict}
+use Rattle.payload.specs.declared.payload.Content.{Content}
+use Rattle.payload.specs.declared.payload.Found.the-variants.{Payload, Faulty}
+use Rattle.findings.specs.declared.seen.Seen.{Seen}
+use Rattle.reader.specs.declared.read.Outcome.the-variants.{Whole, Broken}
+use Rattle.reader.proofs.Chain.{chain-step}
+
+module _ (s : Seen) (first : ℕ) (body : List ℕ) (at : ℕ) (inside : at ≤ length body) where
+  pub at-end : first ≡ 0 → at ≡ length body → scanned s (chainAt body first at) ≡ stopped Whole s
+  unfolding scanned
+  at-end z e = rw (chain-step first body at inside, eq-eqb first 0 z, eq-eqb at (length body) e)
+
+  pub at-leftover : first ≡ 0 → (at ≡ length body → ⊥) → scanned s (chainAt body first at) ≡ stopped (Broken Leftover at) s
+  unfolding scanned
+  at-leftover z e = rw (chain-step first body at inside, eq-eqb first 0 z, ne-eqb at (length body) e)
+
+  module _ (more : first ≡ 0 → ⊥) where
+    pub at-fault : (f : Fault) → payloadAt first body at ≡ Faulty f → scanned s (chainAt body first at) ≡ stopped (Broken f at) s
+    unfolding scanned
+    at-fault f e = rw (chain-step first body at inside, ne-eqb first 0 more, e)
+
+    module _ (n : ℕ) (content : Content) (e : payloadAt first body at ≡ Payload n content) where
+      pub at-conflict : conflicts s content ≡ true → scanned s (chainAt body first at) ≡ stopped (Broken Conflict at) s
+      unfolding scanned
+      at-conflict c = rw (chain-step first body at inside, ne-eqb first 0 more, e, c)
+
+      pub at-payload : conflicts s content ≡ false
+          → scanned s (chainAt body first at) ≡ scanned (contentNoted s content (at + 8)) (chainAt body (getD body at 0) (at + n))
+      unfolding scanned
+      at-payload c = rw (chain-step first body at inside, ne-eqb first 0 more, e, c)

@@ -1,0 +1,133 @@
+// A reading in the form in which the two programs are compared: every field, unused ones included.
+use crate::reader::Reading;
+use crate::summary::{Address, AddressPair, Part, MAX_KEPT};
+
+/// The place of a part as told, and the octets there; all zero and empty if absent.
+#[derive(Debug, Clone, Copy, Default, PartialEq, Eq)]
+pub struct Place<'a> {
+    pub offset: usize,
+    pub length: usize,
+    /// Empty where the place passes the end of the body.
+    pub octets: &'a [u8],
+}
+
+#[derive(Debug, Clone, Default, PartialEq, Eq)]
+pub struct Outcome<'a> {
+    pub number: u8,
+    pub offset: usize,
+    pub payloads: usize,
+    pub unknown_payloads: usize,
+    pub unknown_notifies: usize,
+    pub errors: usize,
+    pub first_error: u16,
+    pub update: u8,
+    pub no_additional: u8,
+    pub nat_source: Place<'a>,
+    pub nat_destination: Place<'a>,
+    pub cookie: Place<'a>,
+    pub no_nats: Place<'a>,
+    /// All zero if NO_NATS_ALLOWED is absent.
+    pub no_nats_pair: AddressPair,
+    pub addresses: usize,
+    pub address_offsets: [usize; MAX_KEPT],
+    pub address_families: [u8; MAX_KEPT],
+    pub address_list: [Address; MAX_KEPT],
+}
+
+impl<'a> Outcome<'a> {
+    pub fn of(reading: &Reading<'a>) -> Self {
+        let summary = &reading.summary;
+        let mut outcome = Outcome {
+            number: reading.answer.number(),
+            offset: reading.answer.offset(),
+            payloads: summary.payloads,
+            unknown_payloads: summary.unknown_payloads,
+            unknown_notifies: summary.unknown_notifies,
+            errors: summary.errors.len(),
+            first_error: summary.errors.first().map_or(0, |first| first.0),
+            update: u8::from(summary.update),
+            no_additional: u8::from(summary.no_additional),
+            nat_source: Place::of(summary.nat_source),
+            nat_destination: Place::of(summary.nat_destination),
+            cookie: Place::of(summary.cookie),
+            no_nats: Place::of(summary.no_nats.map(|no_nats| no_nats.part)),
+            no_nats_pair: summary.no_nats.map(|no_nats| no_nats.pair).unwrap_or_default(),
+            addresses: summary.addresses,
+            ..Outcome::default()
+        };
+        for (place, kept) in summary.kept.iter().enumerate() {
+            outcome.address_offsets[place] = kept.data_offset;
+            outcome.address_families[place] = kept.address.family;
+            outcome.address_list[place] = kept.address;
+        }
+        outcome
+    }
+
+    /// Every field by name, to be shown.
+    pub fn fields(&self) -> Vec<(String, String)> {
+        let numbers = [
+            ("number", usize::from(self.number)),
+            ("offset", self.offset),
+            ("payloads", self.payloads),
+            ("unknown payloads", self.unknown_payloads),
+            ("unknown notifies", self.unknown_notifies),
+            ("errors", self.errors),
+            ("first error", usize::from(self.first_error)),
+            ("update", usize::from(self.update)),
+            ("no additional addresses", usize::from(self.no_additional)),
+            ("additional addresses", self.addresses),
+        ];
+        let places = [
+            ("NAT source", self.nat_source),
+            ("NAT destination", self.nat_destination),
+            ("cookie", self.cookie),
+            ("no NATs allowed", self.no_nats),
+        ];
+        let mut fields = Vec::new();
+        fields.extend(numbers.map(|(name, value)| (name.to_string(), value.to_string())));
+        fields.extend(places.map(|(name, place)| (name.to_string(), place.show())));
+        fields.push(("no NATs allowed, pair".to_string(), show_pair(&self.no_nats_pair)));
+        for place in 0..MAX_KEPT {
+            let (offset, family) = (self.address_offsets[place], self.address_families[place]);
+            let told = format!("family {family} at {offset}");
+            fields.push((format!("additional address {place}"), told));
+            fields.push((format!("address list {place}"), show_address(&self.address_list[place])));
+        }
+        fields
+    }
+}
+
+impl<'a> Place<'a> {
+    fn of(part: Option<Part<'a>>) -> Self {
+        part.map_or_else(Place::default, |Part { offset, octets }| Place {
+            offset,
+            length: octets.len(),
+            octets,
+        })
+    }
+
+    /// The place that was told of a part of `body`.
+    pub fn in_body(body: &'a [u8], offset: usize, length: usize) -> Self {
+        let octets = body.get(offset..offset + length).unwrap_or_default();
+        Place { offset, length, octets }
+    }
+
+    fn show(&self) -> String {
+        format!("{} octets at {}: {}", self.length, self.offset, hex(self.octets))
+    }
+}
+
+fn show_pair(pair: &AddressPair) -> String {
+    let (source, destination) = (hex(&pair.source), hex(&pair.destination));
+    let (from, to) = (pair.source_port, pair.destination_port);
+    format!("family {}, {source} port {from}, {destination} port {to}", pair.family)
+}
+
+fn show_address(address: &Address) -> String {
+    format!("family {}, {}", address.family, hex(&address.octets))
+}
+
+pub fn hex(octets: &[u8]) -> String {
+    let digit = |value: u8| char::from(b"0123456789abcdef"[usize::from(value)]);
+    octets.iter().flat_map(|octet| [digit(octet >> 4), digit(octet & 15)]).collect()
+}
