@@ -1,4 +1,5 @@
 // Deliberate faults of this program, to show that the comparison would find such ones.
+use crate::kind::Kind;
 
 /// See FAULTS.md for what each breaks.
 #[derive(Debug, Clone, Copy, PartialEq, Eq)]
@@ -25,36 +26,114 @@ pub enum Fault {
     Types49Known,
     FifteenAddresses,
     PortsSwapped,
+
+    SourceTailOnly,
+    Spi32Bits,
+    HighestTwin,
+    HighestFreePlace,
+    OpenLeavesList,
+    FullFirst,
+    OwnerLast,
+    Owner0Unknown,
+    SpiAcrossTables,
+    IpsecPairZero,
+    CloseLeavesTally,
+    CloseLeavesList,
+    TwinsClosed,
+    FreeOwnerWiped,
+    OwnedTwinsStay,
+    CloseByPair,
+    CountLast,
+    LengthsFirst,
+    RuleByRule,
+    JunkChecked,
+    JunkKept,
+    PrefixMasked,
+    CountOver16None,
+    Family5Matches,
+    Ipv4Length33,
+    WholeOctets,
+    Length0Nothing,
+    HalvesAddUp,
+    PrefixesSwapped,
 }
 
-impl Fault {
-    pub const ALL: [(Fault, &'static str); 22] = [
-        (Fault::LastFlaw, "last-flaw"),
-        (Fault::CriticalSkipped, "critical-skipped"),
-        (Fault::CriticalKnown, "critical-known"),
-        (Fault::CriticalReserved, "critical-reserved"),
-        (Fault::CriticalFirst, "critical-first"),
-        (Fault::CookieRepeated, "cookie-repeated"),
-        (Fault::NatSourceOnce, "nat-source-once"),
-        (Fault::NatSourceLast, "nat-source-last"),
-        (Fault::SpiUnbounded, "spi-unbounded"),
-        (Fault::MobikeSpi, "mobike-spi"),
-        (Fault::Cookie65, "cookie-65"),
-        (Fault::LeftoverIgnored, "leftover-ignored"),
-        (Fault::MissingAtAnnouncer, "missing-at-announcer"),
-        (Fault::ContradictionEarlier, "contradiction-earlier"),
-        (Fault::ContradictionOneWay, "contradiction-one-way"),
-        (Fault::LongBody, "long-body"),
-        (Fault::CountNotifies, "count-notifies"),
-        (Fault::CountOctet, "count-octet"),
-        (Fault::ErrorsUntallied, "errors-untallied"),
-        (Fault::Types49Known, "types-49-known"),
-        (Fault::FifteenAddresses, "fifteen-addresses"),
-        (Fault::PortsSwapped, "ports-swapped"),
-    ];
+const OF_READER: [(Fault, &str); 22] = [
+    (Fault::LastFlaw, "last-flaw"),
+    (Fault::CriticalSkipped, "critical-skipped"),
+    (Fault::CriticalKnown, "critical-known"),
+    (Fault::CriticalReserved, "critical-reserved"),
+    (Fault::CriticalFirst, "critical-first"),
+    (Fault::CookieRepeated, "cookie-repeated"),
+    (Fault::NatSourceOnce, "nat-source-once"),
+    (Fault::NatSourceLast, "nat-source-last"),
+    (Fault::SpiUnbounded, "spi-unbounded"),
+    (Fault::MobikeSpi, "mobike-spi"),
+    (Fault::Cookie65, "cookie-65"),
+    (Fault::LeftoverIgnored, "leftover-ignored"),
+    (Fault::MissingAtAnnouncer, "missing-at-announcer"),
+    (Fault::ContradictionEarlier, "contradiction-earlier"),
+    (Fault::ContradictionOneWay, "contradiction-one-way"),
+    (Fault::LongBody, "long-body"),
+    (Fault::CountNotifies, "count-notifies"),
+    (Fault::CountOctet, "count-octet"),
+    (Fault::ErrorsUntallied, "errors-untallied"),
+    (Fault::Types49Known, "types-49-known"),
+    (Fault::FifteenAddresses, "fifteen-addresses"),
+    (Fault::PortsSwapped, "ports-swapped"),
+];
 
-    pub fn named(name: &str) -> Option<Fault> {
-        Self::ALL.iter().find(|entry| entry.1 == name).map(|entry| entry.0)
+const OF_TABLES: [(Fault, &str); 29] = [
+    (Fault::SourceTailOnly, "source-tail-only"),
+    (Fault::Spi32Bits, "spi-32-bits"),
+    (Fault::HighestTwin, "highest-twin"),
+    (Fault::HighestFreePlace, "highest-free-place"),
+    (Fault::OpenLeavesList, "open-leaves-list"),
+    (Fault::FullFirst, "full-first"),
+    (Fault::OwnerLast, "owner-last"),
+    (Fault::Owner0Unknown, "owner-0-unknown"),
+    (Fault::SpiAcrossTables, "spi-across-tables"),
+    (Fault::IpsecPairZero, "ipsec-pair-zero"),
+    (Fault::CloseLeavesTally, "close-leaves-tally"),
+    (Fault::CloseLeavesList, "close-leaves-list"),
+    (Fault::TwinsClosed, "twins-closed"),
+    (Fault::FreeOwnerWiped, "free-owner-wiped"),
+    (Fault::OwnedTwinsStay, "owned-twins-stay"),
+    (Fault::CloseByPair, "close-by-pair"),
+    (Fault::CountLast, "count-last"),
+    (Fault::LengthsFirst, "lengths-first"),
+    (Fault::RuleByRule, "rule-by-rule"),
+    (Fault::JunkChecked, "junk-checked"),
+    (Fault::JunkKept, "junk-kept"),
+    (Fault::PrefixMasked, "prefix-masked"),
+    (Fault::CountOver16None, "count-over-16-none"),
+    (Fault::Family5Matches, "family-5-matches"),
+    (Fault::Ipv4Length33, "ipv4-length-33"),
+    (Fault::WholeOctets, "whole-octets"),
+    (Fault::Length0Nothing, "length-0-nothing"),
+    (Fault::HalvesAddUp, "halves-add-up"),
+    (Fault::PrefixesSwapped, "prefixes-swapped"),
+];
+
+/// A fault by its name, with the kind of cases that must find it.
+#[derive(Debug, Clone, Copy)]
+pub struct NamedFault {
+    pub fault: Fault,
+    pub name: &'static str,
+    pub kind: Kind,
+}
+
+impl NamedFault {
+    pub fn all() -> impl Iterator<Item = NamedFault> {
+        Kind::ALL.into_iter().flat_map(Self::of_kind)
+    }
+
+    fn of_kind(kind: Kind) -> impl Iterator<Item = NamedFault> {
+        let faults: &[(Fault, &str)] = match kind {
+            Kind::Reader => &OF_READER,
+            Kind::Tables => &OF_TABLES,
+        };
+        faults.iter().map(move |&(fault, name)| NamedFault { fault, name, kind })
     }
 }
 
@@ -77,19 +156,35 @@ impl Faults {
 #[cfg(test)]
 mod tests {
     use super::*;
-    use crate::cases::ReaderCases;
+    use crate::cases::reader::ReaderCases;
+    use crate::cases::tables::TablesCases;
     use crate::outcome::Outcome;
     use crate::reader::read;
 
+    fn shows_in_reader(cases: &ReaderCases, number: u64, fault: Fault) -> bool {
+        let case = cases.case(number);
+        let sound = read(case.first, &case.body, Faults::NONE);
+        let faulty = read(case.first, &case.body, Faults::only(fault));
+        Outcome::of(&sound) != Outcome::of(&faulty)
+    }
+
+    fn shows_in_tables(cases: &TablesCases, number: u64, fault: Fault) -> bool {
+        let case = cases.case(number);
+        let (mut sound, mut faulty) = (case.tables.clone(), case.tables);
+        case.calls.iter().any(|call| {
+            let sound_number = call.make(&mut sound, Faults::NONE);
+            let faulty_number = call.make(&mut faulty, Faults::only(fault));
+            sound_number != faulty_number || sound != faulty
+        })
+    }
+
     #[test]
     fn every_fault_changes_some_outcome() {
-        let cases = ReaderCases::new(1);
-        for (fault, name) in Fault::ALL {
-            let found = (0..20_000).any(|number| {
-                let case = cases.case(number);
-                let sound = read(case.first, &case.body, Faults::NONE);
-                let faulty = read(case.first, &case.body, Faults::only(fault));
-                Outcome::of(&sound) != Outcome::of(&faulty)
+        let (reader, tables) = (ReaderCases::new(1), TablesCases::new(1));
+        for NamedFault { fault, name, kind } in NamedFault::all() {
+            let found = (0..20_000).any(|number| match kind {
+                Kind::Reader => shows_in_reader(&reader, number, fault),
+                Kind::Tables => shows_in_tables(&tables, number, fault),
             });
             assert!(found, "{name} shows in no case");
         }
@@ -101,7 +196,7 @@ mod tests {
             .lines()
             .filter_map(|line| line.strip_prefix("| `")?.split('`').next())
             .collect();
-        let names: Vec<&str> = Fault::ALL.iter().map(|entry| entry.1).collect();
+        let names: Vec<&str> = NamedFault::all().map(|named| named.name).collect();
         assert_eq!(listed, names);
     }
 }

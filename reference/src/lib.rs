@@ -1,10 +1,19 @@
-// The second program: MOBIKE's payload chain modelled from the papers alone, and cases to run.
+// The second program: the gateway part modelled from the papers alone, and cases to run.
+pub mod address;
+pub mod calls;
 pub mod cases;
 pub mod chain;
+pub mod closing;
 pub mod faults;
 pub mod flaws;
+pub mod kind;
 pub mod notify;
+pub mod opening;
 pub mod outcome;
+pub mod policy;
 pub mod reader;
 pub mod rng;
+pub mod show;
 pub mod summary;
+pub mod table_fields;
+pub mod tables;

@@ -1,6 +1,8 @@
 // A reading in the form in which the two programs are compared: every field, unused ones included.
+use crate::address::{Address, AddressPair};
 use crate::reader::Reading;
-use crate::summary::{Address, AddressPair, Part, MAX_KEPT};
+use crate::show;
+use crate::summary::{Part, MAX_KEPT};
 
 /// The place of a part as told, and the octets there; all zero and empty if absent.
 #[derive(Debug, Clone, Copy, Default, PartialEq, Eq)]
@@ -86,12 +88,13 @@ impl<'a> Outcome<'a> {
         let mut fields = Vec::new();
         fields.extend(numbers.map(|(name, value)| (name.to_string(), value.to_string())));
         fields.extend(places.map(|(name, place)| (name.to_string(), place.show())));
-        fields.push(("no NATs allowed, pair".to_string(), show_pair(&self.no_nats_pair)));
+        fields.push(("no NATs allowed, pair".to_string(), show::pair(&self.no_nats_pair)));
         for place in 0..MAX_KEPT {
             let (offset, family) = (self.address_offsets[place], self.address_families[place]);
             let told = format!("family {family} at {offset}");
             fields.push((format!("additional address {place}"), told));
-            fields.push((format!("address list {place}"), show_address(&self.address_list[place])));
+            fields
+                .push((format!("address list {place}"), show::address(&self.address_list[place])));
         }
         fields
     }
@@ -113,21 +116,6 @@ impl<'a> Place<'a> {
     }
 
     fn show(&self) -> String {
-        format!("{} octets at {}: {}", self.length, self.offset, hex(self.octets))
+        format!("{} octets at {}: {}", self.length, self.offset, show::hex(self.octets))
     }
-}
-
-fn show_pair(pair: &AddressPair) -> String {
-    let (source, destination) = (hex(&pair.source), hex(&pair.destination));
-    let (from, to) = (pair.source_port, pair.destination_port);
-    format!("family {}, {source} port {from}, {destination} port {to}", pair.family)
-}
-
-fn show_address(address: &Address) -> String {
-    format!("family {}, {}", address.family, hex(&address.octets))
-}
-
-pub fn hex(octets: &[u8]) -> String {
-    let digit = |value: u8| char::from(b"0123456789abcdef"[usize::from(value)]);
-    octets.iter().flat_map(|octet| [digit(octet >> 4), digit(octet & 15)]).collect()
 }

@@ -1,4 +1,5 @@
 // What a chain without flaws says: its counts, and the notifications that the gateway acts on.
+use crate::address::{Address, AddressOctets, AddressPair};
 use crate::chain::{Chain, Class, NOTIFY};
 use crate::faults::{Fault, Faults};
 use crate::notify::{Notify, NotifyType};
@@ -6,29 +7,11 @@ use crate::notify::{Notify, NotifyType};
 /// So many additional addresses are kept.
 pub const MAX_KEPT: usize = 16;
 
-/// Addresses are held in 16 octets, IPv4 in the first four with zeros after.
-pub type AddressOctets = [u8; 16];
-
 /// A part of the body.
 #[derive(Debug, Clone, Copy, PartialEq, Eq)]
 pub struct Part<'a> {
     pub offset: usize,
     pub octets: &'a [u8],
-}
-
-#[derive(Debug, Clone, Copy, Default, PartialEq, Eq)]
-pub struct Address {
-    pub family: u8,
-    pub octets: AddressOctets,
-}
-
-#[derive(Debug, Clone, Copy, Default, PartialEq, Eq)]
-pub struct AddressPair {
-    pub family: u8,
-    pub source: AddressOctets,
-    pub destination: AddressOctets,
-    pub source_port: u16,
-    pub destination_port: u16,
 }
 
 #[derive(Debug, Clone, Copy, PartialEq, Eq)]

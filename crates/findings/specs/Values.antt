@@ -4,7 +4,8 @@ use mathlib.Core.List.{List, [], zipWith}
 use mathlib.Core.Bool.{cond}
 use lib.Dec.{eqb, leb}
 use lib.ListN.{length, take, drop, replicate}
-use Rattle.octets.specs.Octets.{be16, padded, widthOf}
+use Rattle.octets.specs.Octets.{be16, padded}
+use Rattle.address.specs.Address.{widthOf}
 use Rattle.findings.specs.declared.seen.Seen.{Seen}
 use Rattle.findings.specs.declared.values.NoNats.{NoNats}
 

@@ -1,7 +1,7 @@
 // The values that a reading hands out: parts of the lent body, and the addresses in it.
 use crate::seen::Places;
 use crate::seen::Seen;
-use octets::address::width_of;
+use address::address::width_of;
 use octets::be16_at;
 use octets::padded_to_16;
 ghost use mathlib.Core.Path.{_≡_};

@@ -1,3 +1,8 @@
 -- Laws that belong to no one function.
 pub mod Pad
 pub mod Zip
+pub mod Tests
+pub mod Mapped
+pub mod Places
+pub mod Each
+pub mod Below

@@ -20,19 +20,19 @@ module _ {A : Type 0} (z : A) where
         next : n - i ≡ suc (n - (i + 1))
         next = omega arith
 
-    one-taken : take (i + 1) p ≡ take i p ++ (getD p i z ∷ [])
-    one-taken = rw add-one (take-suc p i z fits)
+    one-taken : (d : A) → take (i + 1) p ≡ take i p ++ (getD p i d ∷ [])
+    one-taken d = rw add-one (take-suc p i d fits)
 
     -- storing the next element copies one more
-    pub stored : set (copied p n i) i (getD p i z) ≡ copied p n (i + 1)
-    stored =
-        rw (one-more, one-taken)
-        (set-at (take i p) z (replicate (n - (i + 1)) z) (getD p i z) i (length-take-le i p (omega arith))
-        ∙ sym (append-assoc (take i p) (getD p i z ∷ []) (replicate (n - (i + 1)) z)))
+    pub stored : (d : A) → set (copied p n i) i (getD p i d) ≡ copied p n (i + 1)
+    stored d =
+        rw (one-more, one-taken d)
+        (set-at (take i p) z (replicate (n - (i + 1)) z) (getD p i d) i (length-take-le i p (omega arith))
+        ∙ sym (append-assoc (take i p) (getD p i d ∷ []) (replicate (n - (i + 1)) z)))
 
     -- where the next element is z it stands there already
     pub passed : getD p i z ≡ z → copied p n i ≡ copied p n (i + 1)
-    passed e = rw (one-more, one-taken, e) (sym (append-assoc (take i p) (z ∷ []) (replicate (n - (i + 1)) z)))
+    passed e = rw (one-more, one-taken z, e) (sym (append-assoc (take i p) (z ∷ []) (replicate (n - (i + 1)) z)))
 
   pub copied-all : (p : List A) (n i : ℕ) → i ≡ n → copied p n i ≡ take n p
   copied-all p n i e = rw (e, sub-self n) (append-nil (take n p))
@@ -48,7 +48,7 @@ module _ {A : Type 0} (z : A) where
     inside = simp (length-append, length-replicate) (omega arith)
 
     pub turn-in : i < length s → set out i (getD s i z) ≡ copied (s ++ replicate n z) n (i + 1)
-    turn-in h = rw (have, ← List·getD-append s (replicate n z) z i h) (stored (s ++ replicate n z) n i inside more)
+    turn-in h = rw (have, ← List·getD-append s (replicate n z) z i h) (stored (s ++ replicate n z) n i inside more z)
 
     pub turn-past : length s ≤ i → out ≡ copied (s ++ replicate n z) n (i + 1)
     turn-past h = have ∙ passed (s ++ replicate n z) n i inside more (past-is-z ∙ getD-same n (i - length s))

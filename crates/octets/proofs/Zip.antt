@@ -35,7 +35,7 @@ module _ {A B C : Type 0} (f : A → B → C) where
           → set out i (f (getD xs i a) (getD ys i b)) ≡ joined (i + 1)
       joins-one out i a b h e =
           rw (e, ← getD-zip xs ys i a b z (omega arith) (omega arith))
-          (stored z (zipWith f xs ys) n i (omega (arith, long)) h)
+          (stored z (zipWith f xs ys) n i (omega (arith, long)) h z)
 
       pub joins-all : (out : List C) (i : ℕ) → i ≡ n → out ≡ joined i → out ≡ zipWith f xs ys
       joins-all out i h e = e ∙ copied-all z (zipWith f xs ys) n i h ∙ take-all n (zipWith f xs ys) (omega (arith, long))

@@ -1,5 +1,4 @@
 // Octets and big-endian numbers: what every layer above reads and writes with.
-pub mod address;
 
 ghost use mathlib.Core.Path.{_≡_};
 ghost use Prim.Native.Nat.{_+_, _≤_};

@@ -36,7 +36,7 @@ unfoldable pub sized : ℕ → List ℕ → ℕ → ℕ → Found
 sized first body at size =
     cond (eqb first 41) (notifyAt body at size)
     (cond (leb 33 first && leb first 48) (Payload size Skipped)
-    (cond (leb 128 (getD body (at + 1) 0)) (Faulty Critical) (Payload size Unknown)))
+    (cond (leb 128 (getD body (at + 1) 0)) (Faulty (Critical first)) (Payload size Unknown)))
 
 -- 01: "Each payload has next type (1 octet), flags (1, top bit is critical), length (2, header counted).";
 -- "under 4 octets left; length under 4 or past the end".

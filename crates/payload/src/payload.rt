@@ -20,8 +20,8 @@ pub enum Fault {
     Conflict,
     // Octets after the end of the chain.
     Leftover,
-    // A payload type that is not known, marked critical.
-    Critical,
+    // A payload of this type, which is not known, marked critical.
+    Critical(u8),
 }
 
 // What a payload is to the reader.
@@ -105,7 +105,7 @@ pub fn payload_at(first: u8, body: &[u8], at: usize) -> Found
         }
     }
     if 128 <= body[at + 1] {
-        Found::Faulty(Fault::Critical)
+        Found::Faulty(Fault::Critical(first))
     } else {
         Found::Payload(size, Content::Unknown)
     }

@@ -39,7 +39,7 @@ faults-told NotifyShape e = omega arith
 faults-told DataSize e = omega arith
 faults-told Conflict e = omega arith
 faults-told Leftover e = omega arith
-faults-told Critical e = omega arith
+faults-told (Critical t) e = omega arith
 
 told-whole : (o : Outcome) (s : Seen) → answer o s .number ≡ 0 → (o ≡ Whole) × (answer o s .seen ≡ s)
 told-whole Whole s e = (refl, refl)
@@ -52,8 +52,8 @@ counts first body = go (ltb 4096 (length body))
     found : Scan
     found = scanned nothingSeen (chainAt body first 0)
 
-    go : (b : Bool) → cond b (refused 3 0) (answered found) .number ≡ 0
-        → cond b (refused 3 0) (answered found) .seen .tally .payloads ≡ count (chainAt body first 0)
+    go : (b : Bool) → cond b (refused 3 0 0) (answered found) .number ≡ 0
+        → cond b (refused 3 0 0) (answered found) .seen .tally .payloads ≡ count (chainAt body first 0)
     go true e = absurd (omega arith)
     go false e =
         let w = told-whole (found .outcome) (found .seen) e in

@@ -2,3 +2,4 @@
 pub mod Chain
 pub mod Scan
 pub mod Count
+pub mod Cookie

@@ -71,15 +71,24 @@ numberOf NotifyShape = 6
 numberOf DataSize = 6
 numberOf Conflict = 6
 numberOf Leftover = 6
-numberOf Critical = 7
+numberOf (Critical t) = 7
+
+-- 01: "UNSUPPORTED_CRITICAL_PAYLOAD (1), data: its type": the type that a refusal with 7 tells, 0 with 6.
+abbrev pub typeOf : Fault → ℕ
+typeOf ChainLength = 0
+typeOf NotifyShape = 0
+typeOf DataSize = 0
+typeOf Conflict = 0
+typeOf Leftover = 0
+typeOf (Critical t) = t
 
 -- A refused reading holds nothing: 01: "[the count] is 0 with answers 1 to 7", and the cookie is "empty ... with answers 1 to 7".
-abbrev pub refused : ℕ → ℕ → Reading
-refused number offset = record { number = number; offset = offset; seen = nothingSeen }
+abbrev pub refused : ℕ → ℕ → ℕ → Reading
+refused number critical offset = record { number = number; critical = critical; offset = offset; seen = nothingSeen }
 
 abbrev pub answer : Outcome → Seen → Reading
-answer Whole s = record { number = 0; offset = 0; seen = s }
-answer (Broken f at) s = refused (numberOf f) at
+answer Whole s = record { number = 0; critical = 0; offset = 0; seen = s }
+answer (Broken f at) s = refused (numberOf f) (typeOf f) at
 
 abbrev pub answered : Scan → Reading
 answered x = answer (x .outcome) (x .seen)
@@ -87,7 +96,7 @@ answered x = answer (x .outcome) (x .seen)
 -- What the reader gives for any first type and any octets. 01: "a body of 0 to 4,096 octets"; "3: body over 4,096".
 unfoldable pub reading : ℕ → List ℕ → Reading
 unfolding chainAt scanned
-reading first body = cond (ltb 4096 (length body)) (refused 3 0) (answered (scanned nothingSeen (chainAt body first 0)))
+reading first body = cond (ltb 4096 (length body)) (refused 3 0 0) (answered (scanned nothingSeen (chainAt body first 0)))
 
 -- What the reader promises: the reading as defined, and 01's "The answer counts the payloads read, and that count equals the
 -- number of payloads in the chain".

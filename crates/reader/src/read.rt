@@ -7,7 +7,7 @@ use payload::payload::Fault;
 use payload::payload::Found;
 use payload::payload::payload_at;
 ghost use mathlib.Core.Path.{_≡_};
-ghost use Rattle.reader.specs.Chain.{chainAt, scanned, numberOf, refused, ReadAs, Scanning};
+ghost use Rattle.reader.specs.Chain.{chainAt, scanned, numberOf, typeOf, refused, ReadAs, Scanning};
 
 // How scanning a chain ends: at its end, or at a fault and its offset.
 pub enum Outcome {
@@ -25,6 +25,8 @@ pub struct Scan {
 #[repr(C)]
 pub struct Reading {
     pub number: u8,
+    // The type of a payload that gives 7.
+    pub critical: u8,
     pub offset: u16,
     pub seen: Seen,
 }
@@ -76,16 +78,31 @@ pub fn fault_number(f: Fault) -> u8
         Fault::DataSize => 6,
         Fault::Conflict => 6,
         Fault::Leftover => 6,
-        Fault::Critical => 7,
+        Fault::Critical(_) => 7,
     }
 }
 
-pub fn refuse(number: u8, offset: u16) -> Reading
-    ensures { λ r. ⌜ r ≡ refused number offset ⌝ }
+// The payload type that a fault tells: of a critical payload its own, else 0.
+pub fn fault_type(f: Fault) -> u8
+    ensures { λ r. ⌜ r ≡ typeOf f ⌝ }
+{
+    match f {
+        Fault::ChainLength => 0,
+        Fault::NotifyShape => 0,
+        Fault::DataSize => 0,
+        Fault::Conflict => 0,
+        Fault::Leftover => 0,
+        Fault::Critical(t) => t,
+    }
+}
+
+pub fn refuse(number: u8, critical: u8, offset: u16) -> Reading
+    ensures { λ r. ⌜ r ≡ refused number critical offset ⌝ }
 {
     let seen = nothing_seen();
     Reading {
         number,
+        critical,
         offset,
         seen,
     }
@@ -96,7 +113,7 @@ pub fn read(first: u8, body: &[u8]) -> Reading
     ensures { λ r. ⌜ ReadAs first (now (body .entry)) r ⌝ }
 {
     if 4096 < body.len() {
-        return refuse(3, 0);
+        return refuse(3, 0, 0);
     }
     let start = nothing_seen();
     let found = scan_from(first, body, 0, start);
@@ -105,9 +122,10 @@ pub fn read(first: u8, body: &[u8]) -> Reading
     match outcome {
         Outcome::Whole => Reading {
             number: 0,
+            critical: 0,
             offset: 0,
             seen,
         },
-        Outcome::Broken(f, at) => refuse(fault_number(f), at),
+        Outcome::Broken(f, at) => refuse(fault_number(f), fault_type(f), at),
     }
 }

@@ -43,7 +43,10 @@ fn main() {
     let mut input = [0u8; 8192];
     let n = io::read_full(0, &mut input);
     if n == 0 {
-        io::write_all(1, b"no input: give the first payload's type and then the body\n");
+        io::write_all(
+            1,
+            b"no input: give the first payload's type and then the body\n",
+        );
         return;
     }
     let first = input[0];

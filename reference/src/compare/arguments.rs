@@ -1,6 +1,7 @@
 // The command line of the comparison.
-use crate::kinds::Kind;
-use reference::faults::Fault;
+use crate::kinds;
+use reference::faults::NamedFault;
+use reference::kind::Kind;
 use std::str::FromStr;
 
 pub const USAGE: &str = "usage: ./compare [--seed S] [--cases N] [--only KIND] [--fault NAME]
@@ -23,7 +24,7 @@ pub struct Arguments {
     pub seed: u64,
     pub cases: u64,
     pub only: Option<Kind>,
-    pub fault: Option<(Fault, String)>,
+    pub fault: Option<NamedFault>,
     pub mode: Mode,
 }
 
@@ -53,12 +54,12 @@ impl Arguments {
             "--cases" => self.cases = u64::from(number::<u32>(value)?),
             "--case" => self.mode = Mode::OneCase(u64::from(number::<u32>(value)?)),
             "--only" => {
-                let kind = Kind::named(value).ok_or_else(|| format!("no kind {value}"))?;
+                let kind = kinds::named(value).ok_or_else(|| format!("no kind {value}"))?;
                 self.only = Some(kind);
             }
             "--fault" => {
-                let fault = Fault::named(value).ok_or_else(|| format!("no fault {value}"))?;
-                self.fault = Some((fault, value.to_string()));
+                let named = kinds::faults().find(|named| named.name == value);
+                self.fault = Some(named.ok_or_else(|| format!("no fault {value}"))?);
             }
             _ => return Err(format!("no option {option}")),
         }

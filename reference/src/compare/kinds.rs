@@ -1,28 +1,27 @@
-// The kinds of cases, and how one case of each is run by both programs.
-use crate::ours;
-use crate::report::{self, Detail};
-use reference::cases::ReaderCases;
-use reference::faults::Faults;
-use reference::outcome::{hex, Outcome};
-use reference::reader;
+// The kinds that this program runs, and the cases of each.
+use crate::reader;
+use crate::report::Detail;
+#[cfg(feature = "tables")]
+use crate::tables;
+use reference::cases::reader::ReaderCases;
+#[cfg(feature = "tables")]
+use reference::cases::tables::TablesCases;
+use reference::faults::{Faults, NamedFault};
+use reference::kind::Kind;
 
-#[derive(Debug, Clone, Copy, PartialEq, Eq)]
-pub enum Kind {
-    Reader,
+/// The kinds whose calls the library has.
+#[cfg(feature = "tables")]
+pub const LINKED: &[Kind] = &Kind::ALL;
+#[cfg(not(feature = "tables"))]
+pub const LINKED: &[Kind] = &[Kind::Reader];
+
+pub fn named(name: &str) -> Option<Kind> {
+    LINKED.iter().copied().find(|kind| kind.name() == name)
 }
 
-impl Kind {
-    pub const ALL: [Kind; 1] = [Kind::Reader];
-
-    pub fn name(self) -> &'static str {
-        match self {
-            Kind::Reader => "reader",
-        }
-    }
-
-    pub fn named(name: &str) -> Option<Kind> {
-        Self::ALL.into_iter().find(|kind| kind.name() == name)
-    }
+/// The deliberate faults of these kinds.
+pub fn faults() -> impl Iterator<Item = NamedFault> {
+    NamedFault::all().filter(|named| LINKED.contains(&named.kind))
 }
 
 /// What came of one case.
@@ -35,33 +34,26 @@ pub struct Verdict {
 /// The cases of one seed, of every kind.
 pub struct Cases {
     reader: ReaderCases,
+    #[cfg(feature = "tables")]
+    tables: TablesCases,
 }
 
 impl Cases {
     pub fn new(seed: u64) -> Self {
-        Cases { reader: ReaderCases::new(seed) }
+        Cases {
+            reader: ReaderCases::new(seed),
+            #[cfg(feature = "tables")]
+            tables: TablesCases::new(seed),
+        }
     }
 
     pub fn run(&self, kind: Kind, number: u64, faults: Faults, detail: Detail) -> Verdict {
         match kind {
-            Kind::Reader => run_reader(&self.reader, number, faults, detail),
+            Kind::Reader => reader::run(self.reader.case(number), faults, detail),
+            #[cfg(feature = "tables")]
+            Kind::Tables => tables::run(self.tables.case(number), faults, detail),
+            #[cfg(not(feature = "tables"))]
+            Kind::Tables => unreachable!("not linked"),
         }
     }
-}
-
-fn run_reader(cases: &ReaderCases, number: u64, faults: Faults, detail: Detail) -> Verdict {
-    let case = cases.case(number);
-    let ours = ours::read(case.first, &case.body);
-    let reference = Outcome::of(&reader::read(case.first, &case.body, faults));
-    let agrees = ours == reference;
-    if !detail.shows(agrees) {
-        return Verdict { agrees, shown: String::new() };
-    }
-    let input = [
-        ("first type", case.first.to_string()),
-        ("body length", case.body.len().to_string()),
-        ("body", hex(&case.body)),
-    ];
-    let shown = report::show(&input, &ours.fields(), &reference.fields(), detail);
-    Verdict { agrees, shown }
 }

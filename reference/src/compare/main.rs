@@ -2,11 +2,15 @@
 mod arguments;
 mod kinds;
 mod ours;
+mod reader;
 mod report;
+#[cfg(feature = "tables")]
+mod tables;
 
 use arguments::{Arguments, Mode, USAGE};
-use kinds::{Cases, Kind};
-use reference::faults::{Fault, Faults};
+use kinds::Cases;
+use reference::faults::{Faults, NamedFault};
+use reference::kind::Kind;
 use report::Detail;
 use std::env;
 use std::io::{self, BufWriter, Write};
@@ -46,7 +50,8 @@ struct Run<'a> {
 
 impl<'a> Run<'a> {
     fn new(arguments: &'a Arguments) -> Self {
-        let kinds = arguments.only.map_or(Kind::ALL.to_vec(), |kind| vec![kind]);
+        let only = arguments.only.or(arguments.fault.map(|named| named.kind));
+        let kinds = only.map_or(kinds::LINKED.to_vec(), |kind| vec![kind]);
         Run { arguments, cases: Cases::new(arguments.seed), kinds }
     }
 
@@ -63,9 +68,9 @@ impl<'a> Run<'a> {
         detail: Detail,
         out: &mut impl Write,
     ) -> io::Result<bool> {
-        let fault = self.arguments.fault.as_ref();
-        let faults = fault.map_or(Faults::NONE, |(fault, _)| Faults::only(*fault));
-        let fault_option = fault.map_or(String::new(), |(_, name)| format!(" --fault {name}"));
+        let fault = self.arguments.fault;
+        let faults = fault.map_or(Faults::NONE, |named| Faults::only(named.fault));
+        let fault_option = fault.map_or(String::new(), |named| format!(" --fault {}", named.name));
         let compared = places.end - places.start;
         let mut differences = 0;
         for place in places {
@@ -88,30 +93,30 @@ impl<'a> Run<'a> {
         Ok(differences == 0)
     }
 
-    /// Compares once with each deliberate fault; true if each makes a difference.
+    /// Compares with each deliberate fault of these kinds; true if each makes a difference.
     fn each_fault(&self, out: &mut impl Write) -> io::Result<bool> {
-        let mut found = 0;
-        for (fault, name) in Fault::ALL {
-            let differing = self.differing_cases(Faults::only(fault));
-            match differing.first() {
-                Some(first) => {
+        let (mut tried, mut found) = (0, 0);
+        for named in kinds::faults().filter(|named| self.kinds.contains(&named.kind)) {
+            let (name, kind) = (named.name, named.kind.name());
+            tried += 1;
+            match self.first_difference(named) {
+                Some(number) => {
                     found += 1;
-                    writeln!(out, "{name}: found in {} cases, first {first}", differing.len())?;
+                    writeln!(out, "{name}: found in {kind} case {number}")?;
                 }
                 None => writeln!(out, "{name}: not found")?,
             }
             out.flush()?;
         }
-        let faults = Fault::ALL.len();
-        writeln!(out, "{faults} faults, {found} found")?;
-        Ok(found == faults)
+        writeln!(out, "{tried} faults, {found} found")?;
+        Ok(found == tried)
     }
 
-    fn differing_cases(&self, faults: Faults) -> Vec<u64> {
-        let differs = |&place: &u64| {
-            let (kind, number) = self.kind_and_number(place);
-            !self.cases.run(kind, number, faults, Detail::Nothing).agrees
-        };
-        (0..self.arguments.cases).filter(differs).collect()
+    /// The number of the first case of the fault's kind in which it makes a difference.
+    fn first_difference(&self, NamedFault { fault, kind, .. }: NamedFault) -> Option<u64> {
+        let places = (0..self.arguments.cases).map(|place| self.kind_and_number(place));
+        let mut numbers = places.filter(|place| place.0 == kind).map(|place| place.1);
+        let faults = Faults::only(fault);
+        numbers.find(|&number| !self.cases.run(kind, number, faults, Detail::Nothing).agrees)
     }
 }

@@ -1,4 +1,4 @@
-// How a case is shown: its input, and the two programs' fields side by side.
+// How a case is shown: how much of it, and the two programs' fields side by side.
 
 #[derive(Debug, Clone, Copy, PartialEq, Eq)]
 pub enum Detail {
@@ -18,15 +18,12 @@ impl Detail {
     }
 }
 
-/// The lines of one case; a star marks the fields that differ.
-pub fn show(
-    input: &[(&str, String)],
-    ours: &[(String, String)],
-    reference: &[(String, String)],
-    detail: Detail,
-) -> String {
-    let mut lines: Vec<String> =
-        input.iter().map(|(name, value)| format!("  {name}: {value}")).collect();
+/// Names and values.
+type Fields = [(String, String)];
+
+/// A line for each field that is to be shown; a star marks those that differ.
+pub fn compared(ours: &Fields, reference: &Fields, detail: Detail) -> Vec<String> {
+    let mut lines = Vec::new();
     for ((name, our_value), (_, reference_value)) in ours.iter().zip(reference) {
         let differs = our_value != reference_value;
         if differs || detail == Detail::AllFields {
@@ -34,5 +31,5 @@ pub fn show(
             lines.push(format!("{mark} {name}: ours {our_value} | reference {reference_value}"));
         }
     }
-    lines.join("\n")
+    lines
 }

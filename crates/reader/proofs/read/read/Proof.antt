@@ -36,9 +36,10 @@ read-spec =
     (λ c. search needs)
     (λ c κs. search needs)
     (λ c κs. search needs)
+    (λ c κs. search needs)
     (λ c. promised _ _ _ (sym (scanned-short (c .before .before .before) ∙ rw (c .enum-told .given .1))))
     (λ c.
     promised _ _ _
     (c .refuse2 .ensures
-    ∙ (rw (c .before .fault-number .ensures)
-    (sym (scanned-short (c .before .before .before .before .before .before) ∙ rw (c .before .before .before .outcome .given .1)))))))
+    ∙ (rw (c .before .before .fault-number .ensures, c .before .fault-type .ensures)
+    (sym (scanned-short (c .before .before .before .before .before .before .before) ∙ rw (c .before .before .before .before .outcome .given .1)))))))

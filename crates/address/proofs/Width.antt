@@ -1,0 +1,14 @@
+-- How many octets a family has.
+use Prim.Native.Nat.{ℕ, _≤_}
+use mathlib.Core.Bool.{Bool, true, false, cond}
+use native.Mathlib.Omega.{arith}
+use lib.Dec.{eqb}
+use Rattle.address.specs.Address.{widthOf}
+
+pub width-small : (family : ℕ) → widthOf family ≤ 16
+width-small family = go (eqb family 4) (eqb family 6)
+  where
+    go : (a b : Bool) → cond a 4 (cond b 16 0) ≤ 16
+    go true b = omega arith
+    go false true = omega arith
+    go false false = omega arith

@@ -1,0 +1,45 @@
+-- `address::address::addresses_of` meets its contract. The loop's invariant: the first i addresses are those of the joined list.
+-- Assumes nothing.
+use Prim.Native.Nat.{_≤_, _-_}
+use mathlib.Core.Path.{_≡_, refl}
+use mathlib.Core.List.{[]}
+use borrow.Author.Needs.{needs}
+use native.Mathlib.Omega.{arith}
+use lib.ListN.{replicate}
+use Rattle.address.specs.Address.{addressOf}
+use Rattle.address.specs.declared.address.Address.{Address}
+use Rattle.octets.proofs.Zip.{joined, joins-one, joins-all}
+use Rattle.address.proofs.address.addresses_of.Statement.{statement}
+use Rattle.address.proofs.address.addresses_of.Tie as tie
+
+abbrev none : Address
+none = addressOf 0 (replicate 16 0)
+
+abbrev Inv-loop : tie.InvT-loop
+Inv-loop families octets out₀ i₀ out i = (i ≤ 16) × (out ≡ joined addressOf none families octets 16 i)
+
+abbrev μ-loop : tie.MeasureT-loop
+μ-loop families octets out₀ i₀ out i = 16 - i
+
+pub addresses-of-spec : {M : Type 1} → statement M
+addresses-of-spec =
+    tie.close
+    (tie.spec
+    Inv-loop
+    μ-loop
+    (λ c. (search needs, refl))
+    (λ c. search needs)
+    (λ c. search needs)
+    (λ c. search needs)
+    (λ c. search needs)
+    (λ c. search needs)
+    (λ c. search needs)
+    (λ c. search needs)
+    (λ c.
+    let a = c .before .before .before .args in
+    let l = c .before .before .loop in
+    (omega arith, joins-one addressOf none (a .t1) (a .t2) 16 (search needs) (search needs) (l .out) (l .i) 0 [] (omega arith) (l .inv .1)))
+    (λ c.
+    let a = c .before .before .args in
+    let l = c .before .loop in
+    joins-all addressOf none (a .t1) (a .t2) 16 (search needs) (search needs) (l .out) (l .i) (omega arith) (l .inv .1)))

@@ -1,0 +1,37 @@
+-- Addresses: families, widths, and which sixteen octets are an address of a family.
+use Prim.Native.Nat.{ℕ}
+use mathlib.Core.List.{List, zipWith}
+use mathlib.Core.Bool.{Bool, cond, _&&_, not}
+use lib.Dec.{eqb}
+use lib.ListN.{drop, replicate}
+use Rattle.octets.specs.Lists.{all}
+use Rattle.address.specs.declared.address.Address.{Address}
+use Rattle.address.specs.declared.pair.Pair.{Pair}
+
+-- The two families have addresses of 4 and of 16 octets.
+abbrev pub widthOf : ℕ → ℕ
+widthOf family = cond (eqb family 4) 4 (cond (eqb family 6) 16 0)
+
+abbrev pub addressOf : ℕ → List ℕ → Address
+addressOf family octets = record { family = family; octets = octets }
+
+-- 01: "an additional address is family and octets".
+abbrev pub addressesOf : List ℕ → List (List ℕ) → List Address
+addressesOf families octets = zipWith addressOf families octets
+
+abbrev pub isZero : ℕ → Bool
+isZero x = eqb x 0
+
+-- 01: "1: family not 4 or 6, IPv4 tail not zero". The tail is what follows the octets that the family has.
+abbrev pub addressFits : ℕ → List ℕ → Bool
+addressFits family octets = not (eqb (widthOf family) 0) && all isZero (drop (widthOf family) octets)
+
+abbrev pub pairFits : Pair → Bool
+pairFits p = addressFits (p .family) (p .source) && addressFits (p .family) (p .destination)
+
+-- a place that is closed or was never used
+abbrev pub noPair : Pair
+noPair = record { family = 0; source = replicate 16 0; destination = replicate 16 0; «source_port» = 0; «destination_port» = 0 }
+
+abbrev pub noAddress : Address
+noAddress = addressOf 0 (replicate 16 0)

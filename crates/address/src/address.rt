@@ -1,0 +1,86 @@
+// Addresses: a family and sixteen octets.
+ghost use mathlib.Core.Path.{_≡_};
+ghost use Prim.Native.Nat.{_≤_};
+ghost use lib.ListN.{drop};
+ghost use Rattle.octets.specs.Lists.{all, sameOctets};
+ghost use Rattle.address.specs.Address.{widthOf, addressesOf, isZero, addressFits};
+
+#[repr(C)]
+pub struct Address {
+    pub family: u8,
+    pub octets: [u8; 16],
+}
+
+// How many octets an address of this family has; a family that is not known has none.
+pub fn width_of(family: u8) -> u16
+    ensures { λ r. ⌜ r ≡ widthOf family ⌝ }
+{
+    if family == 4 {
+        return 4;
+    }
+    if family == 6 {
+        return 16;
+    }
+    0
+}
+
+// The list as it is stored: each address with its family.
+pub fn addresses_of(families: [u8; 16], octets: [[u8; 16]; 16]) -> [Address; 16]
+    ensures { λ r. ⌜ r ≡ addressesOf families octets ⌝ }
+{
+    let none = Address {
+        family: 0,
+        octets: [0u8; 16],
+    };
+    let mut out = [none; 16];
+    let mut i = 0;
+    while i < 16 {
+        let o = octets[i];
+        out[i] = Address {
+            family: families[i],
+            octets: o,
+        };
+        i += 1;
+    }
+    out
+}
+
+// Whether the octets from `from` on are all zero.
+pub fn zero_from(octets: [u8; 16], from: usize) -> bool
+    requires { ⌜ from ≤ 16 ⌝ }
+    ensures { λ r. ⌜ r ≡ all isZero (drop from octets) ⌝ }
+{
+    let mut i = from;
+    while i < 16 {
+        if octets[i] != 0 {
+            return false;
+        }
+        i += 1;
+    }
+    true
+}
+
+// Whether sixteen octets are an address of a family.
+pub fn address_fits(family: u8, octets: [u8; 16]) -> bool
+    ensures { λ r. ⌜ r ≡ addressFits family octets ⌝ }
+{
+    let width = width_of(family) as usize;
+    if width == 0 {
+        return false;
+    }
+    zero_from(octets, width)
+}
+
+// Whether two addresses have the same octets.
+pub fn same_address(a: [u8; 16], b: [u8; 16]) -> bool
+    ensures { λ r. ⌜ r ≡ sameOctets 16 a b ⌝ }
+{
+    let mut i = 0;
+    while i < 16 {
+        if a[i] != b[i] {
+            return false;
+        }
+        i += 1;
+    }
+    true
+}

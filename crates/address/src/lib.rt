@@ -1,0 +1,3 @@
+// Addresses and address pairs: families, sixteen octets each, ports.
+pub mod address;
+pub mod pair;

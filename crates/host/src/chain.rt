@@ -1,0 +1,44 @@
+// The reader's calls.
+use address::address::Address;
+use address::address::addresses_of;
+use findings::seen::Seen;
+use findings::values::NoNats;
+use findings::values::additional;
+use reader::read::Reading;
+ghost use mathlib.Core.Path.{_≡_};
+ghost use Rattle.address.specs.Address.{addressesOf};
+ghost use Rattle.reader.specs.Chain.{ReadAs};
+ghost use Rattle.findings.specs.Values.{noNatsSeen, additionalOf};
+
+#[repr(C)]
+pub struct AddressList {
+    pub list: [Address; 16],
+}
+
+// Reads any octets as a payload chain that begins with a payload of type `first`.
+#[no_mangle]
+pub extern "C" fn unmavreth_read(first: u8, body: &[u8]) -> Reading
+    ensures { λ r. ⌜ ReadAs first (now (body .entry)) r ⌝ }
+{
+    reader::read::read(first, body)
+}
+
+// What NO_NATS_ALLOWED held, from the body that was read and what was seen in it.
+#[no_mangle]
+pub extern "C" fn unmavreth_no_nats(body: &[u8], seen: Seen) -> NoNats
+    ensures { λ r. ⌜ r ≡ noNatsSeen (now (body .entry)) seen ⌝ }
+{
+    findings::values::no_nats(body, seen)
+}
+
+// The first sixteen additional addresses, from the body that was read and what was seen in it.
+#[no_mangle]
+pub extern "C" fn unmavreth_addresses(body: &[u8], seen: Seen) -> AddressList
+    ensures { λ r. ⌜ r .list ≡ addressesOf (seen .list .families) (additionalOf (now (body .entry)) (seen .list .places) (seen .list .families)) ⌝ }
+{
+    let l = seen.list;
+    let octets = additional(body, l);
+    let families = l.families;
+    let list = addresses_of(families, octets);
+    AddressList { list }
+}

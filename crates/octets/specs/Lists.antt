@@ -1,0 +1,35 @@
+-- Tests over the elements of a list, and the place of an element.
+use Prim.Native.Nat.{ℕ, zero, suc}
+use mathlib.Core.List.{List, [], _∷_}
+use mathlib.Core.Bool.{Bool, true, false, cond, _&&_, _||_}
+use lib.Dec.{eqb}
+use lib.ListN.{getD}
+
+module _ {A : Type 0} (f : A → Bool) where
+  -- every element passes
+  abbrev pub all : List A → Bool
+  all [] = true
+  all (x ∷ xs) = f x && all xs
+
+  -- some element passes
+  abbrev pub any : List A → Bool
+  any [] = false
+  any (x ∷ xs) = f x || any xs
+
+-- the lowest place whose key is k; the list's length where there is none
+module _ {A : Type 0} (key : A → ℕ) (k : ℕ) where
+  abbrev pub placeOf : List A → ℕ
+  placeOf [] = 0
+  placeOf (x ∷ xs) = cond (eqb (key x) k) 0 (suc (placeOf xs))
+
+-- f holds of every number below n
+abbrev pub allBelow : (ℕ → Bool) → ℕ → Bool
+allBelow f zero = true
+allBelow f (suc n) = f n && allBelow f n
+
+-- the first n octets of two lists are the same
+abbrev pub sameAt : List ℕ → List ℕ → ℕ → Bool
+sameAt a b i = eqb (getD a i 0) (getD b i 0)
+
+abbrev pub sameOctets : ℕ → List ℕ → List ℕ → Bool
+sameOctets n a b = allBelow (sameAt a b) n

@@ -1,0 +1,1 @@
+// Lists of requests in another order: definitions and theorems, no code.

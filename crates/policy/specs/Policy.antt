@@ -1,0 +1,56 @@
+-- The policy: which rules may be set, and which pairs they accept.
+use Prim.Native.Nat.{ℕ, _-_, _*_}
+use mathlib.Core.List.{List, _++_}
+use mathlib.Core.Bool.{Bool, cond, _&&_, not}
+use lib.Dec.{eqb, leb, ltb}
+use lib.ListN.{take, replicate}
+use Rattle.octets.specs.Lists.{all, any}
+use Rattle.address.specs.Address.{widthOf, addressFits}
+use Rattle.address.specs.declared.pair.Pair.{Pair}
+use Rattle.policy.specs.Prefix.{prefixMatches}
+use Rattle.policy.specs.declared.rules.Rule.{Rule}
+use Rattle.policy.specs.declared.rules.Policy.{Policy}
+use Rattle.policy.specs.declared.rules.PolicyAnswer.{PolicyAnswer}
+
+-- 01: "1: family not 4 or 6, IPv4 tail not zero", of a rule.
+abbrev pub ruleFits : Rule → Bool
+ruleFits r = addressFits (r .family) (r .source) && addressFits (r .family) (r .destination)
+
+-- 01: "two prefix lengths (at most 32 or 128)".
+abbrev pub lengthsFit : Rule → Bool
+lengthsFit r = leb (r .«source_len») (widthOf (r .family) * 8) && leb (r .«destination_len») (widthOf (r .family) * 8)
+
+-- 01: "some rule has its family, its first prefix matches the source and its second the destination"; "a rule with a family or
+-- length not allowed matches nothing".
+unfoldable pub ruleMatches : Rule → Pair → Bool
+ruleMatches r p =
+    eqb (r .family) (p .family)
+    && (not (eqb (widthOf (r .family)) 0)
+    && (lengthsFit r
+    && (prefixMatches (r .source) (r .«source_len») (p .source)
+    && prefixMatches (r .destination) (r .«destination_len») (p .destination))))
+
+-- 01: "A pair is acceptable exactly if some rule ..."; "No rules, nothing acceptable."; "a policy count over 16 reads as 16":
+-- there are sixteen places.
+unfoldable pub acceptable : Policy → Pair → Bool
+acceptable policy p = any (λ (r : Rule). ruleMatches r p) (take (policy .count) (policy .rules))
+
+-- a place of the list that holds no rule
+abbrev pub noRule : Rule
+noRule = record { family = 0; source = replicate 16 0; destination = replicate 16 0; «source_len» = 0; «destination_len» = 0 }
+
+-- 01: "Places past a list's count ... aren't looked at; in a list newly kept or given they are 0".
+abbrev pub kept : List Rule → ℕ → List Rule
+kept rules n = take n rules ++ replicate (16 - n) noRule
+
+abbrev pub policyAnswer : ℕ → Policy → PolicyAnswer
+policyAnswer number policy = record { number = number; policy = policy }
+
+-- 01: "Setting replaces the whole list"; "Setting a policy checks the count (12), then 1, then the lengths (12)", each over
+-- the whole list.
+unfoldable pub setPolicy : Policy → ℕ → List Rule → PolicyAnswer
+setPolicy policy n rules =
+    cond (ltb 16 n) (policyAnswer 12 policy)
+    (cond (all ruleFits (take n rules))
+    (cond (all lengthsFit (take n rules)) (policyAnswer 0 (record { count = n; rules = kept rules n })) (policyAnswer 12 policy))
+    (policyAnswer 1 policy))

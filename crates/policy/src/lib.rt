@@ -1,0 +1,3 @@
+// The address policy: which address pairs an update may move a record to.
+pub mod prefix;
+pub mod rules;

@@ -1,0 +1,30 @@
+// Prefixes of addresses, bit by bit.
+ghost use mathlib.Core.Path.{_≡_};
+ghost use Prim.Native.Nat.{_<_, _≤_};
+ghost use Rattle.policy.specs.Prefix.{bitAt, prefixMatches};
+
+// Bit i of sixteen octets, the first octet's top bit first.
+pub fn bit_at(octets: [u8; 16], i: u8) -> u8
+    requires { ⌜ i < 128 ⌝ }
+    ensures { λ r. ⌜ r ≡ bitAt octets i ⌝ }
+{
+    let place = (i / 8) as usize;
+    let octet = octets[place];
+    let shift = 7 - i % 8;
+    (octet >> shift) % 2
+}
+
+// Whether the first n bits are those of the prefix.
+pub fn prefix_matches(prefix: [u8; 16], n: u8, octets: [u8; 16]) -> bool
+    requires { ⌜ n ≤ 128 ⌝ }
+    ensures { λ r. ⌜ r ≡ prefixMatches prefix n octets ⌝ }
+{
+    let mut i = 0;
+    while i < n {
+        if bit_at(prefix, i) != bit_at(octets, i) {
+            return false;
+        }
+        i += 1;
+    }
+    true
+}

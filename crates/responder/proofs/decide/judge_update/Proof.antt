@@ -1,0 +1,18 @@
+-- `responder::decide::judge_update` meets its contract.
+-- Assumes nothing.
+use borrow.Author.Needs.{needs}
+use mathlib.Core.Path.{sym, _∙_}
+use Rattle.responder.specs.Decide.{verdict}
+use Rattle.responder.proofs.decide.judge_update.Statement.{statement}
+use Rattle.responder.proofs.decide.judge_update.Tie as tie
+
+pub judge-update-spec : {M : Type 1} → statement M
+unfolding verdict
+judge-update-spec =
+    tie.close
+    (tie.spec
+    (λ c κs. search needs)
+    (λ c κs. search needs)
+    (λ c. rw (sym (c .before .before .before .is-unaltered .ensures) ∙ c .before .before .if1 .taken, sym (c .before .is-acceptable .ensures) ∙ c .if2 .taken))
+    (λ c. rw (sym (c .before .before .before .is-unaltered .ensures) ∙ c .before .before .if1 .taken, sym (c .before .is-acceptable .ensures) ∙ c .if2 .left))
+    (λ c. rw (sym (c .before .is-unaltered .ensures) ∙ c .if1 .left)))

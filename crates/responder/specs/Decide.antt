@@ -1,0 +1,128 @@
+-- One request on the record that it means: 01's "One request, step by step", steps 1 to 3.
+use Prim.Native.Nat.{ℕ, _+_, _-_, min}
+use mathlib.Core.List.{List}
+use mathlib.Core.Bool.{Bool, true, false, cond, _&&_, _||_, not}
+use lib.Dec.{eqb, leb}
+use Rattle.octets.specs.Lists.{sameOctets}
+use Rattle.address.specs.Address.{addressesOf}
+use Rattle.address.specs.declared.address.Address.{Address}
+use Rattle.address.specs.declared.pair.Pair.{Pair}
+use Rattle.findings.specs.declared.seen.Seen.{Seen}
+use Rattle.findings.specs.declared.seen.Places.{Places}
+use Rattle.findings.specs.declared.values.NoNats.{NoNats}
+use Rattle.policy.specs.Policy.{acceptable}
+use Rattle.policy.specs.declared.rules.Policy.{Policy}
+use Rattle.tables.specs.declared.ike.IkeRecord.{IkeRecord}
+use Rattle.responder.specs.declared.decide.Decision.{Decision}
+
+-- 01: "an unknown tally that stays at 4,294,967,295 once there".
+abbrev pub tallied : ℕ → ℕ → ℕ
+tallied old n = min (old + n) 4294967295
+
+-- 01: "NO_NATS_ALLOWED, if present, must equal the packet's addresses and ports, else 8; a wrong length for the family is unequal."
+unfoldable pub unaltered : NoNats → Pair → Bool
+unaltered n p =
+    eqb (n .family) 0
+    || (eqb (n .family) (p .family)
+    && (eqb (n .«source_port») (p .«source_port»)
+    && (eqb (n .«destination_port») (p .«destination_port»)
+    && (sameOctets 16 (n .source) (p .source)
+    && sameOctets 16 (n .destination) (p .destination)))))
+
+-- 01: "Then NO_NATS_ALLOWED ..., else 8 ... Then the pair must be acceptable, else 9."
+unfoldable pub verdict : Policy → NoNats → Pair → ℕ
+verdict policy n p = cond (unaltered n p) (cond (acceptable policy p) 0 9) 8
+
+-- 01: "Unknown payloads and unknown notifications are added to that record's tally, one each."
+abbrev pub counted : ℕ → IkeRecord → IkeRecord
+counted n r =
+    record {
+      spi = r .spi;
+      mobike = r .mobike;
+      pair = r .pair;
+      «update_mark» = r .«update_mark»;
+      «list_mark» = r .«list_mark»;
+      count = r .count;
+      addresses = r .addresses;
+      unknown = tallied (r .unknown) n;
+    }
+
+-- 01: "Otherwise the mark becomes the ID": the least ID that exceeds it is the next.
+abbrev pub marked : ℕ → IkeRecord → IkeRecord
+marked id r =
+    record {
+      spi = r .spi;
+      mobike = r .mobike;
+      pair = r .pair;
+      «update_mark» = id + 1;
+      «list_mark» = r .«list_mark»;
+      count = r .count;
+      addresses = r .addresses;
+      unknown = r .unknown;
+    }
+
+-- 01: "the IKE record ... take[s] the packet's pair".
+abbrev pub moved : Pair → IkeRecord → IkeRecord
+moved p r =
+    record {
+      spi = r .spi;
+      mobike = r .mobike;
+      pair = p;
+      «update_mark» = r .«update_mark»;
+      «list_mark» = r .«list_mark»;
+      count = r .count;
+      addresses = r .addresses;
+      unknown = r .unknown;
+    }
+
+-- 01: "an ID above the list mark replaces list and list mark ... The first 16 are kept".
+abbrev pub relisted : ℕ → ℕ → List Address → IkeRecord → IkeRecord
+relisted id n addresses r =
+    record {
+      spi = r .spi;
+      mobike = r .mobike;
+      pair = r .pair;
+      «update_mark» = r .«update_mark»;
+      «list_mark» = id + 1;
+      count = min n 16;
+      addresses = addresses;
+      unknown = r .unknown;
+    }
+
+abbrev pub decision : ℕ → ℕ → ℕ → ℕ → IkeRecord → Decision
+decision number update list off r = record { number = number; update = update; list = list; «left_off» = off; entry = r }
+
+-- 01: "the answer tells how many were left off".
+abbrev pub leftOff : ℕ → ℕ
+leftOff n = n - 16
+
+-- 01: "with any ADDITIONAL address or NO_ADDITIONAL_ADDRESSES".
+abbrev pub hasList : Seen → Bool
+hasList s = s .«no_additional» || not (eqb (s .list .count) 0)
+
+-- Step 3: the list by its own mark. The update came to `update` before (0 none, 1 applied, 2 stale).
+unfoldable pub listDecided : Seen → List Address → ℕ → ℕ → IkeRecord → Decision
+listDecided s addresses id update r =
+    cond (hasList s)
+    (cond (leb (r .«list_mark») id)
+    (decision 0 update 1 (leftOff (s .list .count)) (relisted id (s .list .count) addresses r))
+    (decision 0 update 2 0 r))
+    (decision 0 update 0 0 r)
+
+-- Step 2, on the record with its tally: "if the ID doesn't exceed the update mark, the update is stale and has no effect";
+-- "Unless 8 or 9" step 3 follows.
+unfoldable pub updateDecided : ℕ → Seen → List Address → Pair → ℕ → IkeRecord → Decision
+updateDecided number s addresses p id r =
+    cond (s .update)
+    (cond (leb (r .«update_mark») id)
+    (cond (eqb number 0)
+    (listDecided s addresses id 1 (moved p (marked id r)))
+    (decision number 0 0 0 (marked id r)))
+    (listDecided s addresses id 2 r))
+    (listDecided s addresses id 0 r)
+
+-- Steps 1 to 3.
+unfoldable pub decided : Policy → NoNats → Seen → List Address → Pair → ℕ → IkeRecord → Decision
+decided policy n s addresses p id r =
+    updateDecided (verdict policy n p) s addresses p id
+    (counted (s .tally .«unknown_payloads» + s .tally .«unknown_notifies») r)

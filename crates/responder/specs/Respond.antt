@@ -1,0 +1,26 @@
+-- The response payloads: 01's "One request, step by step", step 4, and the column "Response" of its table of numbers.
+use Prim.Native.Nat.{ℕ}
+use mathlib.Core.List.{List, [], _++_}
+use mathlib.Core.Bool.{Bool, cond}
+use lib.Dec.{eqb}
+use lib.ListN.{length}
+use Rattle.writing.specs.Notify.{notifyOctets}
+
+abbrev pub nextFor : List ℕ → ℕ
+nextFor cookie = cond (eqb (length cookie) 0) 0 41
+
+-- "then COOKIE2 unchanged": its data under a header of its own, since next type and flags are written anew.
+unfoldable pub cookieNotify : List ℕ → List ℕ
+cookieNotify cookie = cond (eqb (length cookie) 0) [] (notifyOctets 0 16401 cookie)
+
+-- "for 8 and 9 the error, then COOKIE2 if the request had it"; "Answers 6 and 7 copy no COOKIE2."
+unfoldable pub errorResponse : ℕ → List ℕ → List ℕ → List ℕ
+errorResponse number octets cookie = notifyOctets (nextFor cookie) number octets ++ cookieNotify cookie
+
+-- "Otherwise, for a request with UPDATE_SA_ADDRESSES (stale ones too) and both NAT detection kinds, the two lent values, source
+-- first; then COOKIE2 unchanged."
+unfoldable pub doneResponse : Bool → List ℕ → List ℕ → List ℕ → List ℕ
+doneResponse wanted source destination cookie =
+    cond wanted
+    (notifyOctets 41 16388 source ++ (notifyOctets (nextFor cookie) 16389 destination ++ cookieNotify cookie))
+    (cookieNotify cookie)

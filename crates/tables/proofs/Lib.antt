@@ -1,0 +1,5 @@
+-- Laws that belong to no one function.
+pub mod Once
+pub mod Cases
+pub mod Reached
+pub mod Lookup

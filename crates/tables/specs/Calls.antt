@@ -1,0 +1,67 @@
+-- The table calls of 01: their numbers, in the order of its checks, and the tables after them.
+use Prim.Native.Nat.{ℕ}
+use mathlib.Core.List.{List, map}
+use mathlib.Core.Bool.{Bool, cond, _||_, not}
+use lib.Dec.{eqb, ltb}
+use lib.ListN.{length, getD, set}
+use Rattle.octets.specs.Lists.{placeOf}
+use Rattle.address.specs.Address.{pairFits}
+use Rattle.address.specs.declared.pair.Pair.{Pair}
+use Rattle.tables.specs.Records.{ikeSpi, ipsecSpi, newIke, noIke, newIpsec, noIpsec, released}
+use Rattle.tables.specs.declared.ike.IkeRecord.{IkeRecord}
+use Rattle.tables.specs.declared.ipsec.IpsecRecord.{IpsecRecord}
+use Rattle.tables.specs.declared.calls.IkeAnswer.{IkeAnswer}
+use Rattle.tables.specs.declared.calls.IpsecAnswer.{IpsecAnswer}
+use Rattle.tables.specs.declared.calls.CloseAnswer.{CloseAnswer}
+
+abbrev pub ikeAnswer : ℕ → List IkeRecord → IkeAnswer
+ikeAnswer number ike = record { number = number; ike = ike }
+
+abbrev pub ipsecAnswer : ℕ → List IpsecRecord → IpsecAnswer
+ipsecAnswer number ipsec = record { number = number; ipsec = ipsec }
+
+abbrev pub closeAnswer : ℕ → List IkeRecord → List IpsecRecord → CloseAnswer
+closeAnswer number ike ipsec = record { number = number; ike = ike; ipsec = ipsec }
+
+-- 01: "the lowest place in use with the SPI is meant"; an SPI that is looked up is not 0, so the place is in use.
+abbrev pub hasIke : ℕ → List IkeRecord → Bool
+hasIke spi ike = ltb (placeOf ikeSpi spi ike) (length ike)
+
+abbrev pub hasIpsec : ℕ → List IpsecRecord → Bool
+hasIpsec spi ipsec = ltb (placeOf ipsecSpi spi ipsec) (length ipsec)
+
+-- 01: "an IPsec list not of 128 records" is answer 1.
+abbrev pub listFits : List IpsecRecord → Bool
+listFits ipsec = eqb (length ipsec) 128
+
+-- 01: "Opening checks 1, 4 (the owner of an IPsec record), 11, 10."; "Opening takes the lowest free place".
+unfoldable pub openIke : List IkeRecord → ℕ → Bool → Pair → IkeAnswer
+openIke ike spi mobike pair =
+    cond (eqb spi 0 || not (pairFits pair)) (ikeAnswer 1 ike)
+    (cond (hasIke spi ike) (ikeAnswer 11 ike)
+    (cond (hasIke 0 ike) (ikeAnswer 0 (set ike (placeOf ikeSpi 0 ike) (newIke spi mobike pair)))
+    (ikeAnswer 10 ike)))
+
+-- 01: "A new one takes the pair of its IKE record (000, 3.3)."
+unfoldable pub openIpsec : List IkeRecord → List IpsecRecord → ℕ → ℕ → IpsecAnswer
+openIpsec ike ipsec spi owner =
+    cond (not (listFits ipsec) || (eqb spi 0 || eqb owner 0)) (ipsecAnswer 1 ipsec)
+    (cond (not (hasIke owner ike)) (ipsecAnswer 4 ipsec)
+    (cond (hasIpsec spi ipsec) (ipsecAnswer 11 ipsec)
+    (cond (hasIpsec 0 ipsec)
+    (ipsecAnswer 0 (set ipsec (placeOf ipsecSpi 0 ipsec) (newIpsec spi owner (getD ike (placeOf ikeSpi owner ike) noIke .pair))))
+    (ipsecAnswer 10 ipsec))))
+
+-- 01: "Closing an IKE or IPsec record checks 1, 4."; "closing sets all its fields to 0 or none"; "Closing an IKE record closes
+-- the IPsec records it owns."
+unfoldable pub closeIke : List IkeRecord → List IpsecRecord → ℕ → CloseAnswer
+closeIke ike ipsec spi =
+    cond (not (listFits ipsec) || eqb spi 0) (closeAnswer 1 ike ipsec)
+    (cond (hasIke spi ike) (closeAnswer 0 (set ike (placeOf ikeSpi spi ike) noIke) (map (released spi) ipsec))
+    (closeAnswer 4 ike ipsec))
+
+unfoldable pub closeIpsec : List IpsecRecord → ℕ → IpsecAnswer
+closeIpsec ipsec spi =
+    cond (not (listFits ipsec) || eqb spi 0) (ipsecAnswer 1 ipsec)
+    (cond (hasIpsec spi ipsec) (ipsecAnswer 0 (set ipsec (placeOf ipsecSpi spi ipsec) noIpsec))
+    (ipsecAnswer 4 ipsec))

@@ -1,0 +1,43 @@
+-- IKE and IPsec records: their keys, new ones, closed ones.
+use Prim.Native.Nat.{ℕ}
+use mathlib.Core.Bool.{Bool, false, cond, _||_, not}
+use lib.Dec.{eqb}
+use lib.ListN.{replicate}
+use Rattle.address.specs.Address.{noPair, noAddress}
+use Rattle.address.specs.declared.pair.Pair.{Pair}
+use Rattle.tables.specs.declared.ike.IkeRecord.{IkeRecord}
+use Rattle.tables.specs.declared.ipsec.IpsecRecord.{IpsecRecord}
+
+abbrev pub ikeSpi : IkeRecord → ℕ
+ikeSpi r = r .spi
+
+abbrev pub ipsecSpi : IpsecRecord → ℕ
+ipsecSpi r = r .spi
+
+-- 01: "A new IKE record has no marks, an empty list, tally 0."
+abbrev pub newIke : ℕ → Bool → Pair → IkeRecord
+newIke spi mobike pair =
+    record {
+      spi = spi;
+      mobike = mobike;
+      pair = pair;
+      «update_mark» = 0;
+      «list_mark» = 0;
+      count = 0;
+      addresses = replicate 16 noAddress;
+      unknown = 0;
+    }
+
+-- 01: "A place is free when its SPI is 0; closing sets all its fields to 0 or none."
+abbrev pub noIke : IkeRecord
+noIke = newIke 0 false noPair
+
+abbrev pub newIpsec : ℕ → ℕ → Pair → IpsecRecord
+newIpsec spi owner pair = record { spi = spi; owner = owner; pair = pair }
+
+abbrev pub noIpsec : IpsecRecord
+noIpsec = newIpsec 0 0 noPair
+
+-- 01: "Closing an IKE record closes the IPsec records it owns." A free place is no record, whatever owner it still names.
+abbrev pub released : ℕ → IpsecRecord → IpsecRecord
+released owner r = cond (eqb (r .spi) 0) r (cond (eqb (r .owner) owner) noIpsec r)

@@ -1,0 +1,4 @@
+// The IKE and IPsec records: opening, closing and looking them up.
+pub mod calls;
+pub mod ike;
+pub mod ipsec;

@@ -1,0 +1,46 @@
+// Writing payloads: octets copied to a place of a buffer, and a Notify payload laid out there.
+
+ghost use mathlib.Core.Path.{_≡_};
+ghost use Prim.Native.Nat.{_+_, _≤_};
+ghost use lib.ListN.{length};
+ghost use Rattle.writing.specs.Notify.{placed, notifyOctets};
+
+// Copies `octets` into `out` from `at` on. The rest of `out` stays as it is, so that a chain can be written payload by
+// payload into one buffer.
+pub fn copy_octets(out: &mut [u8], at: usize, octets: &[u8])
+    requires { ⌜ at + length (now octets) ≤ length (now out) ⌝ }
+    ensures { λ _. ⌜ now (out .exit) ≡ placed (now (out .entry)) at (now (octets .entry)) ⌝ }
+{
+    let mut i = 0;
+    while i < octets.len() {
+        out[at + i] = octets[i];
+        i += 1;
+    }
+}
+
+// Writes a Notify payload with no SPI at `at`, and returns the place after it, where the next payload goes. `next` is
+// that payload's type, 0 where there is none. The longest data, a COOKIE2's, is 64 octets, so the length fits its field.
+pub fn put_notify(out: &mut [u8], at: usize, next: u8, number: u16, octets: &[u8]) -> usize
+    requires { ⌜ at + 8 + length (now octets) ≤ length (now out) ⌝ }
+    requires { ⌜ length (now octets) ≤ 64 ⌝ }
+    ensures { λ r. ⌜ r ≡ at + 8 + length (now (octets .entry)) ⌝ }
+    ensures { λ _. ⌜ now (out .exit) ≡ placed (now (out .entry)) at (notifyOctets next number (now (octets .entry))) ⌝ }
+{
+    let size = 8 + octets.len();
+    let flags = 0;
+    let protocol = 0;
+    let spi_size = 0;
+    let header = [
+        next,
+        flags,
+        (size / 256) as u8,
+        (size % 256) as u8,
+        protocol,
+        spi_size,
+        (number / 256) as u8,
+        (number % 256) as u8,
+    ];
+    copy_octets(out, at, &header);
+    copy_octets(out, at + 8, octets);
+    at + size
+}

@@ -1,0 +1,60 @@
+// Addresses and address pairs as they travel: sixteen octets each, told apart by their family.
+//
+// These structs, and those of tables.rs and policy.rs, are laid out as in the library's C interface
+// and so are handed over as they are.
+use crate::faults::{Fault, Faults};
+
+/// Addresses are held in 16 octets, IPv4 in the first four with zeros after.
+pub type AddressOctets = [u8; 16];
+
+#[repr(C)]
+#[derive(Debug, Clone, Copy, Default, PartialEq, Eq)]
+pub struct Address {
+    pub family: u8,
+    pub octets: AddressOctets,
+}
+
+#[repr(C)]
+#[derive(Debug, Clone, Copy, Default, PartialEq, Eq)]
+pub struct AddressPair {
+    pub family: u8,
+    pub source: AddressOctets,
+    pub destination: AddressOctets,
+    pub source_port: u16,
+    pub destination_port: u16,
+}
+
+impl Address {
+    pub const ZERO: Self = Address { family: 0, octets: [0; 16] };
+}
+
+impl AddressPair {
+    pub const ZERO: Self = AddressPair {
+        family: 0,
+        source: [0; 16],
+        destination: [0; 16],
+        source_port: 0,
+        destination_port: 0,
+    };
+
+    /// Whether the family is allowed and neither address passes its family's octets.
+    pub fn is_sound(&self, faults: Faults) -> bool {
+        are_sound(self.family, [&self.source, &self.destination], faults)
+    }
+}
+
+/// How many octets an address of this family has; none if the family isn't allowed.
+pub fn octet_count(family: u8) -> Option<usize> {
+    match family {
+        4 => Some(4),
+        6 => Some(16),
+        _ => None,
+    }
+}
+
+/// Whether the family is allowed and both addresses, or prefixes, are zero past its octets.
+pub fn are_sound(family: u8, both: [&AddressOctets; 2], faults: Faults) -> bool {
+    let Some(count) = octet_count(family) else { return false };
+    let looked_at = if faults.on(Fault::SourceTailOnly) { &both[..1] } else { &both[..] };
+    looked_at.iter().all(|octets| octets[count..].iter().all(|&octet| octet == 0))
+}

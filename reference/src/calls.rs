@@ -1,0 +1,50 @@
+// The table calls: what each is given, and the number it gives back.
+use crate::address::AddressPair;
+use crate::closing::{close_ike, close_ipsec};
+use crate::faults::Faults;
+use crate::opening::{open_ike, open_ipsec};
+use crate::policy::RuleList;
+use crate::tables::Tables;
+
+#[derive(Debug, Clone)]
+pub enum Call {
+    OpenIke { spi: u64, mobike: bool, pair: AddressPair },
+    OpenIpsec { spi: u32, owner: u64 },
+    CloseIke { spi: u64 },
+    CloseIpsec { spi: u32 },
+    SetPolicy { count: u16, rules: Box<RuleList> },
+    Acceptable { pair: AddressPair },
+}
+
+/// Why a table call changes nothing, with its number.
+#[derive(Debug, Clone, Copy, PartialEq, Eq)]
+pub enum Refusal {
+    Argument = 1,
+    NoSuchRecord = 4,
+    AllInUse = 10,
+    SpiInUse = 11,
+    Policy = 12,
+}
+
+pub fn refuse_if(refused: bool, refusal: Refusal) -> Result<(), Refusal> {
+    if refused {
+        Err(refusal)
+    } else {
+        Ok(())
+    }
+}
+
+impl Call {
+    /// Makes the call on the tables; its number, or for `Acceptable` 1 if the pair is, else 0.
+    pub fn make(&self, tables: &mut Tables, faults: Faults) -> u8 {
+        let result = match self {
+            Call::OpenIke { spi, mobike, pair } => open_ike(tables, *spi, *mobike, *pair, faults),
+            Call::OpenIpsec { spi, owner } => open_ipsec(tables, *spi, *owner, faults),
+            Call::CloseIke { spi } => close_ike(tables, *spi, faults),
+            Call::CloseIpsec { spi } => close_ipsec(tables, *spi, faults),
+            Call::SetPolicy { count, rules } => tables.policy.set(*count, rules, faults),
+            Call::Acceptable { pair } => return u8::from(tables.policy.accepts(pair, faults)),
+        };
+        result.map_or_else(|refusal| refusal as u8, |()| 0)
+    }
+}

@@ -1,0 +1,88 @@
+// The reader's cases: payload chains, first the listed ones, then random ones.
+mod atoms;
+mod damage;
+mod draft;
+mod listed;
+mod mutation;
+mod noise;
+mod well_formed;
+
+use crate::rng::Rng;
+use damage::Damage;
+
+/// A payload chain as it is given to the reader.
+#[derive(Debug, Clone, PartialEq, Eq)]
+pub struct Case {
+    pub first: u8,
+    pub body: Vec<u8>,
+}
+
+/// How a case past the listed ones is made.
+#[derive(Debug, Clone, Copy)]
+enum Making {
+    WellFormed,
+    FullBody,
+    OneFlaw,
+    SeveralFlaws,
+    Mutation,
+    Tokens,
+    Noise,
+}
+
+const WEIGHTS: [(usize, Making); 7] = [
+    (20, Making::WellFormed),
+    (2, Making::FullBody),
+    (26, Making::OneFlaw),
+    (12, Making::SeveralFlaws),
+    (24, Making::Mutation),
+    (10, Making::Tokens),
+    (6, Making::Noise),
+];
+
+/// The reader's cases of one seed: first the listed ones, then random ones without end.
+#[derive(Debug)]
+pub struct ReaderCases {
+    seed: u64,
+    listed: Vec<Case>,
+}
+
+impl ReaderCases {
+    pub fn new(seed: u64) -> Self {
+        ReaderCases { seed, listed: listed::all() }
+    }
+
+    pub fn case(&self, number: u64) -> Case {
+        match usize::try_from(number).ok().and_then(|place| self.listed.get(place)) {
+            Some(case) => case.clone(),
+            None => random(&mut Rng::from_words(&[self.seed, number])),
+        }
+    }
+}
+
+fn random(rng: &mut Rng) -> Case {
+    match rng.pick_weighted(&WEIGHTS) {
+        Making::WellFormed => well_formed::chain(rng).assemble(),
+        Making::FullBody => well_formed::full_body(rng),
+        Making::OneFlaw => damaged(rng, 1),
+        Making::SeveralFlaws => {
+            let count = rng.between(2, 4);
+            damaged(rng, count)
+        }
+        Making::Mutation => {
+            let mut case = well_formed::chain(rng).assemble();
+            mutation::mutate(rng, &mut case);
+            case
+        }
+        Making::Tokens => noise::tokens(rng),
+        Making::Noise => noise::octets(rng),
+    }
+}
+
+fn damaged(rng: &mut Rng, flaws: usize) -> Case {
+    let mut chain = well_formed::chain(rng);
+    let kinds = Damage::all();
+    for _ in 0..flaws {
+        rng.pick(&kinds).apply(rng, &mut chain);
+    }
+    chain.assemble()
+}

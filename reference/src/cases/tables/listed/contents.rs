@@ -1,0 +1,83 @@
+// Tables for the listed cases: in every place no field is 0 but the SPI of a free one.
+use super::super::spis;
+use crate::address::{Address, AddressPair};
+use crate::policy::{Policy, Rule};
+use crate::tables::{IkeRecord, IkeTable, IpsecRecord, IpsecTable, Tables, IKE_PLACES};
+use std::array;
+use std::rc::Rc;
+
+/// Sixteen octets that differ from place to place.
+fn octets(place: usize) -> [u8; 16] {
+    array::from_fn(|octet| (3 * place + octet + 1) as u8 | 1)
+}
+
+pub fn pair(place: usize) -> AddressPair {
+    AddressPair {
+        family: 6,
+        source: octets(place),
+        destination: octets(place + 1),
+        source_port: 500 + place as u16,
+        destination_port: 4500 + place as u16,
+    }
+}
+
+pub fn ike_record(place: usize, spi: u64) -> IkeRecord {
+    let address = |number| Address { family: 6, octets: octets(place + number) };
+    IkeRecord {
+        spi,
+        mobike: 1,
+        pair: pair(place),
+        update_mark: u64::MAX - place as u64,
+        list_mark: 1 + place as u64,
+        count: 1 + place as u16,
+        addresses: array::from_fn(address),
+        unknown: u32::MAX - place as u32,
+    }
+}
+
+pub fn ipsec_record(place: usize, spi: u32, owner: u64) -> IpsecRecord {
+    IpsecRecord { spi, owner, pair: pair(place) }
+}
+
+/// Rules that are sound but for some lengths, and a count that no list can be set with.
+fn policy() -> Policy {
+    let rule = |place| Rule {
+        family: 6,
+        source: octets(place),
+        destination: octets(place + 1),
+        source_length: 120 + place as u8,
+        destination_length: 121 + place as u8,
+    };
+    Policy { count: 20, rules: array::from_fn(rule) }
+}
+
+/// The tables whose places have these SPIs; the IPsec records' owners are the IKE SPIs in turn.
+fn tables(ike_spi: impl Fn(usize) -> u64, ipsec_spi: impl Fn(usize) -> u32) -> Tables {
+    let ike = |place| ike_record(place, ike_spi(place));
+    let ipsec = |place| ipsec_record(place, ipsec_spi(place), spis::ike(place % IKE_PLACES));
+    Tables {
+        ike: Rc::new(IkeTable { records: array::from_fn(ike) }),
+        ipsec: Rc::new(IpsecTable { records: array::from_fn(ipsec) }),
+        policy: policy(),
+    }
+}
+
+/// All places in use, no SPI twice; those of a place are `spis::ike(place)`, `spis::ipsec(place)`.
+pub fn full() -> Tables {
+    tables(spis::ike, spis::ipsec)
+}
+
+/// All places free, and none of them cleared.
+pub fn leftovers() -> Tables {
+    tables(|_| 0, |_| 0)
+}
+
+/// Full but for these places of the IKE table, which are not cleared.
+pub fn with_free_ike(places: &[usize]) -> Tables {
+    tables(|place| if places.contains(&place) { 0 } else { spis::ike(place) }, spis::ipsec)
+}
+
+/// Full but for these places of the IPsec table, which are not cleared.
+pub fn with_free_ipsec(places: &[usize]) -> Tables {
+    tables(spis::ike, |place| if places.contains(&place) { 0 } else { spis::ipsec(place) })
+}

@@ -1,0 +1,12 @@
+// The cases every run begins with: each check and order of checks, each place, length and bit.
+mod closings;
+mod contents;
+mod openings;
+mod policies;
+mod prefixes;
+
+use super::Case;
+
+pub fn all() -> Vec<Case> {
+    [openings::all(), closings::all(), policies::all(), prefixes::all()].concat()
+}

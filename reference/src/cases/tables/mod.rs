@@ -1,0 +1,127 @@
+// The tables' cases: tables as they may stand, and calls, each made on what the one before left.
+mod listed;
+mod pairs;
+mod rules;
+mod scripts;
+mod shapes;
+mod spis;
+
+use crate::calls::Call;
+use crate::rng::Rng;
+use crate::tables::Tables;
+use shapes::Shape;
+
+#[derive(Debug, Clone)]
+pub struct Case {
+    pub tables: Tables,
+    pub calls: Vec<Call>,
+}
+
+/// How often the tables of a random case are of each shape.
+const WEIGHTS: [(usize, Shape); 5] = [
+    (1, Shape::Empty),
+    (3, Shape::Reached),
+    (2, Shape::Full),
+    (4, Shape::Dense),
+    (4, Shape::Hostile),
+];
+
+/// Tells the random cases of this kind from those of others.
+const KIND_WORD: u64 = 2;
+
+/// The tables' cases of one seed: first the listed ones, then random ones without end.
+#[derive(Debug)]
+pub struct TablesCases {
+    seed: u64,
+    listed: Vec<Case>,
+}
+
+impl TablesCases {
+    pub fn new(seed: u64) -> Self {
+        TablesCases { seed, listed: listed::all() }
+    }
+
+    pub fn case(&self, number: u64) -> Case {
+        match usize::try_from(number).ok().and_then(|place| self.listed.get(place)) {
+            Some(case) => case.clone(),
+            None => random(&mut Rng::from_words(&[self.seed, number, KIND_WORD])),
+        }
+    }
+}
+
+fn random(rng: &mut Rng) -> Case {
+    let shape = rng.pick_weighted(&WEIGHTS);
+    let tables = shape.tables(rng);
+    let calls = scripts::calls(rng, &tables);
+    Case { tables, calls }
+}
+
+#[cfg(test)]
+mod tests {
+    use super::*;
+    use crate::faults::Faults;
+    use crate::tables::{find, IkeRecord, IpsecRecord, Record};
+    use std::collections::BTreeSet;
+
+    /// What a call does, and which numbers it may give back.
+    fn numbers(call: &Call) -> (&'static str, &'static [u8]) {
+        match call {
+            Call::OpenIke { .. } => ("open IKE", &[0, 1, 10, 11]),
+            Call::OpenIpsec { .. } => ("open IPsec", &[0, 1, 4, 10, 11]),
+            Call::CloseIke { .. } => ("close IKE", &[0, 1, 4]),
+            Call::CloseIpsec { .. } => ("close IPsec", &[0, 1, 4]),
+            Call::SetPolicy { .. } => ("set policy", &[0, 1, 12]),
+            Call::Acceptable { .. } => ("acceptable", &[0, 1]),
+        }
+    }
+
+    #[test]
+    fn random_cases_meet_every_number_of_every_call() {
+        let mut met = BTreeSet::new();
+        for number in 0..2_000 {
+            let Case { mut tables, calls } = random(&mut Rng::from_words(&[number]));
+            for call in &calls {
+                let given_back = call.make(&mut tables, Faults::NONE);
+                let (name, allowed) = numbers(call);
+                assert!(allowed.contains(&given_back), "{name} gives back {given_back}");
+                met.insert((name, given_back));
+            }
+        }
+        assert_eq!(met.len(), 4 + 5 + 3 + 3 + 3 + 2);
+    }
+
+    /// No SPI twice, nothing left in free places, no orphan.
+    fn assert_reached(tables: &Tables) {
+        let (ike, ipsec) = (&tables.ike.records, &tables.ipsec.records);
+        for (place, record) in ike.iter().enumerate() {
+            if record.is_in_use() {
+                assert_eq!(find(ike, record.spi, Faults::NONE), Some(place));
+            } else {
+                assert_eq!(*record, IkeRecord::FREE);
+            }
+        }
+        for (place, record) in ipsec.iter().enumerate() {
+            if record.is_in_use() {
+                assert_eq!(find(ipsec, record.spi(), Faults::NONE), Some(place));
+                let owner = find(ike, record.owner, Faults::NONE).expect("no orphan");
+                assert_eq!(ike[owner].pair, record.pair);
+            } else {
+                assert_eq!(*record, IpsecRecord::FREE);
+            }
+        }
+    }
+
+    #[test]
+    fn calls_leave_reached_tables_reached() {
+        for number in 0..1_000 {
+            let mut rng = Rng::from_words(&[number]);
+            let shape = rng.pick(&[Shape::Empty, Shape::Reached, Shape::Full]);
+            let mut tables = shape.tables(&mut rng);
+            assert_reached(&tables);
+            for call in scripts::calls(&mut rng, &tables) {
+                call.make(&mut tables, Faults::NONE);
+                assert_reached(&tables);
+            }
+        }
+    }
+}

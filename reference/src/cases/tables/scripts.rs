@@ -1,0 +1,81 @@
+// Random calls: up to twelve in a row, each drawn to suit the tables that the one before left.
+use super::{pairs, rules, spis};
+use crate::calls::Call;
+use crate::faults::Faults;
+use crate::rng::Rng;
+use crate::tables::{Record, Tables, IKE_PLACES, IPSEC_PLACES};
+
+#[derive(Debug, Clone, Copy)]
+enum Making {
+    OpenIke,
+    OpenIpsec,
+    CloseIke,
+    CloseIpsec,
+    SetPolicy,
+    Acceptable,
+}
+
+const WEIGHTS: [(usize, Making); 6] = [
+    (4, Making::OpenIke),
+    (5, Making::OpenIpsec),
+    (3, Making::CloseIke),
+    (3, Making::CloseIpsec),
+    (2, Making::SetPolicy),
+    (4, Making::Acceptable),
+];
+
+const MOST_CALLS: usize = 12;
+
+pub fn calls(rng: &mut Rng, tables: &Tables) -> Vec<Call> {
+    let count = if rng.one_in(2) { 1 } else { rng.between(2, MOST_CALLS) };
+    let mut tables = tables.clone();
+    let mut calls = Vec::with_capacity(count);
+    for _ in 0..count {
+        let call = call(rng, &tables);
+        call.make(&mut tables, Faults::NONE);
+        calls.push(call);
+    }
+    calls
+}
+
+fn call(rng: &mut Rng, tables: &Tables) -> Call {
+    match rng.pick_weighted(&WEIGHTS) {
+        Making::OpenIke => {
+            let (spi, mobike) = (ike_spi(rng, tables, 1), rng.one_in(2));
+            Call::OpenIke { spi, mobike, pair: pairs::any_pair(rng) }
+        }
+        Making::OpenIpsec => {
+            Call::OpenIpsec { spi: ipsec_spi(rng, tables, 1), owner: ike_spi(rng, tables, 8) }
+        }
+        Making::CloseIke => Call::CloseIke { spi: ike_spi(rng, tables, 8) },
+        Making::CloseIpsec => Call::CloseIpsec { spi: ipsec_spi(rng, tables, 8) },
+        Making::SetPolicy => {
+            let (count, rules) = rules::list_to_set(rng);
+            Call::SetPolicy { count, rules: Box::new(rules) }
+        }
+        Making::Acceptable => Call::Acceptable { pair: rules::pair_near(rng, &tables.policy) },
+    }
+}
+
+/// That of a record as often as `in_use` says, else one of few, one that is hardly in use, or 0.
+fn ike_spi(rng: &mut Rng, tables: &Tables, in_use: usize) -> u64 {
+    let few = rng.pick(&spis::FEW_IKE);
+    let other = spis::ike(IKE_PLACES + rng.below(4));
+    let there = spi_in_use(rng, &tables.ike.records).unwrap_or(few);
+    rng.pick_weighted(&[(in_use, there), (2, few), (3, other), (1, 0)])
+}
+
+/// As `ike_spi`, of the other table.
+fn ipsec_spi(rng: &mut Rng, tables: &Tables, in_use: usize) -> u32 {
+    let few = rng.pick(&spis::FEW_IPSEC);
+    let other = spis::ipsec(IPSEC_PLACES + rng.below(4));
+    let there = spi_in_use(rng, &tables.ipsec.records).map_or(few, |spi| spi as u32);
+    rng.pick_weighted(&[(in_use, there), (2, few), (3, other), (1, 0)])
+}
+
+/// The SPI of some record.
+fn spi_in_use<R: Record>(rng: &mut Rng, records: &[R]) -> Option<u64> {
+    let start = rng.below(records.len());
+    let mut turned = records[start..].iter().chain(&records[..start]);
+    turned.find(|record| record.is_in_use()).map(Record::spi)
+}

@@ -1,0 +1,9 @@
+// The verified library: its C interface, and its answers in the form in which they are compared.
+pub mod reader;
+#[cfg(feature = "tables")]
+pub mod tables;
+
+const _: &str = env!(
+    "UNMAVRETH_LIBRARY_DIRECTORY",
+    "the directory of libhost.a must be set: build this program by running ./compare"
+);

@@ -1,0 +1,108 @@
+// The library's reader: its C interface, and its readings in the form in which they are compared.
+use reference::address::{Address, AddressPair};
+use reference::outcome::{Outcome, Place};
+use std::mem::{offset_of, size_of};
+
+const NAT_DETECTION_LENGTH: usize = 20;
+
+/// The two flags are octets here, so that any value the library leaves there may be looked at.
+#[repr(C)]
+#[derive(Clone, Copy)]
+struct CSeen {
+    payloads: u16,
+    unknown_payloads: u16,
+    unknown_notifies: u16,
+    errors: u16,
+    first_error: u16,
+    update: u8,
+    no_additional: u8,
+    nat_source: u16,
+    nat_destination: u16,
+    no_nats: u16,
+    no_nats_len: u16,
+    cookie: u16,
+    cookie_len: u16,
+    addresses: u16,
+    places: [u16; 16],
+    families: [u8; 16],
+}
+
+#[repr(C)]
+struct CReading {
+    number: u8,
+    offset: u16,
+    seen: CSeen,
+}
+
+#[repr(C)]
+struct CAddressList {
+    list: [Address; 16],
+}
+
+const _: () = assert!(size_of::<CSeen>() == 74);
+const _: () = assert!(offset_of!(CSeen, update) == 10 && offset_of!(CSeen, nat_source) == 12);
+const _: () = assert!(offset_of!(CSeen, addresses) == 24);
+const _: () = assert!(offset_of!(CSeen, places) == 26 && offset_of!(CSeen, families) == 58);
+const _: () = assert!(size_of::<CReading>() == 78);
+const _: () = assert!(offset_of!(CReading, offset) == 2 && offset_of!(CReading, seen) == 4);
+const _: () = assert!(size_of::<AddressPair>() == 38);
+const _: () = assert!(offset_of!(AddressPair, source_port) == 34);
+const _: () = assert!(size_of::<CAddressList>() == 272 && size_of::<Address>() == 17);
+
+#[link(name = "host", kind = "static")]
+extern "C" {
+    fn unmavreth_read(first: u8, body: *const u8, len: usize) -> CReading;
+    fn unmavreth_no_nats(body: *const u8, len: usize, seen: CSeen) -> AddressPair;
+    fn unmavreth_addresses(body: *const u8, len: usize, seen: CSeen) -> CAddressList;
+}
+
+/// Reads a chain by the library.
+pub fn read(first: u8, body: &[u8]) -> Outcome<'_> {
+    let (start, length) = (body.as_ptr(), body.len());
+    // SAFETY: start and length are those of a slice that outlives each call.
+    let (reading, no_nats_pair, addresses) = unsafe {
+        let reading = unmavreth_read(first, start, length);
+        let no_nats_pair = unmavreth_no_nats(start, length, reading.seen);
+        let addresses = unmavreth_addresses(start, length, reading.seen);
+        (reading, no_nats_pair, addresses)
+    };
+    outcome(body, reading, no_nats_pair, addresses)
+}
+
+fn outcome<'a>(
+    body: &'a [u8],
+    reading: CReading,
+    no_nats_pair: AddressPair,
+    addresses: CAddressList,
+) -> Outcome<'a> {
+    let seen = reading.seen;
+    let place = |offset, length| Place::in_body(body, usize::from(offset), usize::from(length));
+    Outcome {
+        number: reading.number,
+        offset: usize::from(reading.offset),
+        payloads: usize::from(seen.payloads),
+        unknown_payloads: usize::from(seen.unknown_payloads),
+        unknown_notifies: usize::from(seen.unknown_notifies),
+        errors: usize::from(seen.errors),
+        first_error: seen.first_error,
+        update: seen.update,
+        no_additional: seen.no_additional,
+        nat_source: nat_detection(body, seen.nat_source),
+        nat_destination: nat_detection(body, seen.nat_destination),
+        cookie: place(seen.cookie, seen.cookie_len),
+        no_nats: place(seen.no_nats, seen.no_nats_len),
+        no_nats_pair,
+        addresses: usize::from(seen.addresses),
+        address_offsets: seen.places.map(usize::from),
+        address_families: seen.families,
+        address_list: addresses.list,
+    }
+}
+
+/// The library tells only where a NAT detection value begins, and 0 if there is none.
+fn nat_detection(body: &[u8], offset: u16) -> Place<'_> {
+    match offset {
+        0 => Place::default(),
+        _ => Place::in_body(body, usize::from(offset), NAT_DETECTION_LENGTH),
+    }
+}

@@ -1,0 +1,131 @@
+// Opening records: the checks in their order, the place that is taken, and what a new record holds.
+use crate::address::AddressPair;
+use crate::calls::{refuse_if, Refusal};
+use crate::faults::{Fault, Faults};
+use crate::tables::{find, free_place, IkeRecord, IpsecRecord, Record, Tables};
+
+/// Checks 1, 11, 10.
+pub fn open_ike(
+    tables: &mut Tables,
+    spi: u64,
+    mobike: bool,
+    pair: AddressPair,
+    faults: Faults,
+) -> Result<(), Refusal> {
+    refuse_if(spi == 0 || !pair.is_sound(faults), Refusal::Argument)?;
+    let place = place_for(&tables.ike.records, spi, faults)?;
+    let mut record = IkeRecord { spi, mobike: u8::from(mobike), pair, ..IkeRecord::FREE };
+    if faults.on(Fault::OpenLeavesList) {
+        record.addresses = tables.ike.records[place].addresses;
+    }
+    tables.ike_mut()[place] = record;
+    Ok(())
+}
+
+/// Checks 1, 4 (the owner), 11, 10; the new record takes the pair of its IKE record.
+pub fn open_ipsec(
+    tables: &mut Tables,
+    spi: u32,
+    owner: u64,
+    faults: Faults,
+) -> Result<(), Refusal> {
+    let no_owner = owner == 0 && !faults.on(Fault::Owner0Unknown);
+    refuse_if(spi == 0 || no_owner, Refusal::Argument)?;
+    let ike_place = find(&tables.ike.records, owner, faults).ok_or(Refusal::NoSuchRecord);
+    if !faults.on(Fault::OwnerLast) {
+        ike_place?;
+    }
+    let elsewhere = find(&tables.ike.records, u64::from(spi), faults).is_some();
+    refuse_if(elsewhere && faults.on(Fault::SpiAcrossTables), Refusal::SpiInUse)?;
+    let place = place_for(&tables.ipsec.records, u64::from(spi), faults)?;
+    let mut pair = tables.ike.records[ike_place?].pair;
+    if faults.on(Fault::IpsecPairZero) {
+        pair = AddressPair::ZERO;
+    }
+    tables.ipsec_mut()[place] = IpsecRecord { spi, owner, pair };
+    Ok(())
+}
+
+/// The lowest free place, unless the SPI is in use in that table (11) or all places are (10).
+fn place_for<R: Record>(records: &[R], spi: u64, faults: Faults) -> Result<usize, Refusal> {
+    let place = free_place(records, faults).ok_or(Refusal::AllInUse);
+    if faults.on(Fault::FullFirst) {
+        place?;
+    }
+    refuse_if(find(records, spi, faults).is_some(), Refusal::SpiInUse)?;
+    place
+}
+
+#[cfg(test)]
+mod tests {
+    use super::*;
+
+    const IPV4: AddressPair = AddressPair { family: 4, ..AddressPair::ZERO };
+    const IPV6: AddressPair = AddressPair { family: 6, source: [9; 16], ..AddressPair::ZERO };
+
+    fn ike(tables: &mut Tables, spi: u64, pair: AddressPair) -> Result<(), Refusal> {
+        open_ike(tables, spi, true, pair, Faults::NONE)
+    }
+
+    fn ipsec(tables: &mut Tables, spi: u32, owner: u64) -> Result<(), Refusal> {
+        open_ipsec(tables, spi, owner, Faults::NONE)
+    }
+
+    #[test]
+    fn a_new_record_overwrites_what_was_left() {
+        let mut tables = Tables::empty();
+        let left = &mut tables.ike_mut()[0];
+        (left.update_mark, left.list_mark, left.count, left.unknown) = (1, 2, 3, 4);
+        left.addresses[15].family = 6;
+        assert_eq!(ike(&mut tables, 7, IPV6), Ok(()));
+        let new = IkeRecord { spi: 7, mobike: 1, pair: IPV6, ..IkeRecord::FREE };
+        assert_eq!(tables.ike.records[0], new);
+    }
+
+    #[test]
+    fn arguments_are_checked_first() {
+        let mut tables = Tables::empty();
+        assert_eq!(ike(&mut tables, 0, IPV4), Err(Refusal::Argument));
+        assert_eq!(ike(&mut tables, 7, AddressPair::ZERO), Err(Refusal::Argument));
+        let tail = AddressPair { family: 4, ..IPV6 };
+        assert_eq!(ike(&mut tables, 7, tail), Err(Refusal::Argument));
+        assert_eq!(ipsec(&mut tables, 0, 7), Err(Refusal::Argument));
+        assert_eq!(ipsec(&mut tables, 7, 0), Err(Refusal::Argument));
+        assert_eq!(tables, Tables::empty());
+    }
+
+    #[test]
+    fn the_owner_comes_before_the_spi_and_the_spi_before_the_room() {
+        let mut tables = Tables::empty();
+        for spi in 1..=32 {
+            assert_eq!(ike(&mut tables, spi, IPV4), Ok(()));
+        }
+        assert_eq!(ike(&mut tables, 5, IPV4), Err(Refusal::SpiInUse));
+        assert_eq!(ike(&mut tables, 33, IPV4), Err(Refusal::AllInUse));
+        for spi in 1..=128 {
+            assert_eq!(ipsec(&mut tables, spi, 1), Ok(()));
+        }
+        assert_eq!(ipsec(&mut tables, 5, 33), Err(Refusal::NoSuchRecord));
+        assert_eq!(ipsec(&mut tables, 5, 1), Err(Refusal::SpiInUse));
+        assert_eq!(ipsec(&mut tables, 129, 1), Err(Refusal::AllInUse));
+    }
+
+    #[test]
+    fn an_ipsec_record_takes_the_pair_of_the_lowest_twin_whatever_it_is() {
+        let mut tables = Tables::empty();
+        let pair = AddressPair { family: 5, source_port: 1, ..IPV6 };
+        tables.ike_mut()[3] = IkeRecord { spi: 7, pair, ..IkeRecord::FREE };
+        tables.ike_mut()[4] = IkeRecord { spi: 7, mobike: 1, pair: IPV4, ..IkeRecord::FREE };
+        assert_eq!(ipsec(&mut tables, 9, 7), Ok(()));
+        assert_eq!(tables.ipsec.records[0], IpsecRecord { spi: 9, owner: 7, pair });
+    }
+
+    #[test]
+    fn spis_have_64_bits() {
+        let mut tables = Tables::empty();
+        assert_eq!(ike(&mut tables, 7, IPV4), Ok(()));
+        assert_eq!(ipsec(&mut tables, 9, (1 << 32) + 7), Err(Refusal::NoSuchRecord));
+        assert_eq!(ike(&mut tables, (1 << 32) + 7, IPV4), Ok(()));
+        assert_eq!(ike(&mut tables, 1 << 32, IPV4), Ok(()));
+    }
+}

@@ -1,0 +1,76 @@
+// Tables and calls as they are shown: the fields of a place by name, a call in a line.
+use crate::calls::Call;
+use crate::policy::{Policy, Rule};
+use crate::show;
+use crate::tables::{IkeRecord, IpsecRecord, Tables, IKE_PLACES, IPSEC_PLACES};
+
+type Fields = Vec<(String, String)>;
+
+/// Every field of each place in which the two differ, of the one and of the other.
+pub fn of_differing_places(one: &Tables, other: &Tables) -> [Fields; 2] {
+    let ike = (0..IKE_PLACES).filter(|&at| one.ike.records[at] != other.ike.records[at]);
+    let ipsec = (0..IPSEC_PLACES).filter(|&at| one.ipsec.records[at] != other.ipsec.records[at]);
+    [one, other].map(|tables| {
+        let ike = ike.clone().flat_map(|place| ike_fields(place, &tables.ike.records[place]));
+        let ipsec = ipsec.clone().flat_map(|at| ipsec_fields(at, &tables.ipsec.records[at]));
+        ike.chain(ipsec).chain(policy_fields(&tables.policy)).collect()
+    })
+}
+
+fn ike_fields(place: usize, record: &IkeRecord) -> Fields {
+    let own = [
+        ("SPI", record.spi.to_string()),
+        ("MOBIKE", record.mobike.to_string()),
+        ("pair", show::pair(&record.pair)),
+        ("update mark", record.update_mark.to_string()),
+        ("list mark", record.list_mark.to_string()),
+        ("list count", record.count.to_string()),
+        ("tally", record.unknown.to_string()),
+    ];
+    let mut fields =
+        own.map(|(name, value)| (format!("IKE place {place}, {name}"), value)).to_vec();
+    for (address_place, address) in record.addresses.iter().enumerate() {
+        let name = format!("IKE place {place}, address {address_place}");
+        fields.push((name, show::address(address)));
+    }
+    fields
+}
+
+fn ipsec_fields(place: usize, record: &IpsecRecord) -> Fields {
+    let own = [
+        ("SPI", record.spi.to_string()),
+        ("owner", record.owner.to_string()),
+        ("pair", show::pair(&record.pair)),
+    ];
+    own.map(|(name, value)| (format!("IPsec place {place}, {name}"), value)).to_vec()
+}
+
+fn policy_fields(policy: &Policy) -> Fields {
+    let mut fields = vec![("policy count".to_string(), policy.count.to_string())];
+    for (place, rule) in policy.rules.iter().enumerate() {
+        fields.push((format!("policy rule {place}"), show_rule(rule)));
+    }
+    fields
+}
+
+fn show_rule(rule: &Rule) -> String {
+    let (source, destination) = (show::hex(&rule.source), show::hex(&rule.destination));
+    let (first, second) = (rule.source_length, rule.destination_length);
+    format!("family {}, {source}/{first}, {destination}/{second}", rule.family)
+}
+
+pub fn call_line(call: &Call) -> String {
+    match call {
+        Call::OpenIke { spi, mobike, pair } => {
+            format!("open IKE {spi}, MOBIKE {mobike}, {}", show::pair(pair))
+        }
+        Call::OpenIpsec { spi, owner } => format!("open IPsec {spi}, owner {owner}"),
+        Call::CloseIke { spi } => format!("close IKE {spi}"),
+        Call::CloseIpsec { spi } => format!("close IPsec {spi}"),
+        Call::SetPolicy { count, rules } => {
+            let rules: Vec<String> = rules.rules.iter().map(show_rule).collect();
+            format!("set policy, count {count}: {}", rules.join("; "))
+        }
+        Call::Acceptable { pair } => format!("acceptable: {}", show::pair(pair)),
+    }
+}

@@ -1,0 +1,136 @@
+// The tables: IKE records and IPsec records in their places, and which place an SPI means.
+use crate::address::{Address, AddressPair};
+use crate::faults::{Fault, Faults};
+use crate::policy::Policy;
+use crate::summary::MAX_KEPT;
+use std::rc::Rc;
+
+pub const IKE_PLACES: usize = 32;
+pub const IPSEC_PLACES: usize = 128;
+
+/// A record of either table, in its place.
+pub trait Record {
+    /// What a free place holds once it was closed.
+    const FREE: Self;
+
+    fn spi(&self) -> u64;
+
+    fn is_in_use(&self) -> bool {
+        self.spi() != 0
+    }
+}
+
+#[repr(C)]
+#[derive(Debug, Clone, Copy, PartialEq, Eq)]
+pub struct IkeRecord {
+    pub spi: u64,
+    /// 0 or 1; an octet, so that any value the library leaves there may be looked at.
+    pub mobike: u8,
+    pub pair: AddressPair,
+    /// 0 for none; a message ID is kept as the number after it.
+    pub update_mark: u64,
+    pub list_mark: u64,
+    pub count: u16,
+    pub addresses: [Address; MAX_KEPT],
+    /// The unknown tally.
+    pub unknown: u32,
+}
+
+#[repr(C)]
+#[derive(Debug, Clone, Copy, PartialEq, Eq)]
+pub struct IpsecRecord {
+    pub spi: u32,
+    pub owner: u64,
+    pub pair: AddressPair,
+}
+
+#[repr(C)]
+#[derive(Debug, Clone, Copy, PartialEq, Eq)]
+pub struct IkeTable {
+    pub records: [IkeRecord; IKE_PLACES],
+}
+
+#[repr(C)]
+#[derive(Debug, Clone, Copy, PartialEq, Eq)]
+pub struct IpsecTable {
+    pub records: [IpsecRecord; IPSEC_PLACES],
+}
+
+/// All that the calls change; a table is copied only where it is changed.
+#[derive(Debug, Clone, PartialEq, Eq)]
+pub struct Tables {
+    pub ike: Rc<IkeTable>,
+    pub ipsec: Rc<IpsecTable>,
+    pub policy: Policy,
+}
+
+impl Record for IkeRecord {
+    const FREE: Self = IkeRecord {
+        spi: 0,
+        mobike: 0,
+        pair: AddressPair::ZERO,
+        update_mark: 0,
+        list_mark: 0,
+        count: 0,
+        addresses: [Address::ZERO; MAX_KEPT],
+        unknown: 0,
+    };
+
+    fn spi(&self) -> u64 {
+        self.spi
+    }
+}
+
+impl Record for IpsecRecord {
+    const FREE: Self = IpsecRecord { spi: 0, owner: 0, pair: AddressPair::ZERO };
+
+    fn spi(&self) -> u64 {
+        u64::from(self.spi)
+    }
+}
+
+impl Tables {
+    pub fn empty() -> Self {
+        Tables {
+            ike: Rc::new(IkeTable { records: [IkeRecord::FREE; IKE_PLACES] }),
+            ipsec: Rc::new(IpsecTable { records: [IpsecRecord::FREE; IPSEC_PLACES] }),
+            policy: Policy::EMPTY,
+        }
+    }
+
+    pub fn ike_mut(&mut self) -> &mut [IkeRecord; IKE_PLACES] {
+        &mut Rc::make_mut(&mut self.ike).records
+    }
+
+    pub fn ipsec_mut(&mut self) -> &mut [IpsecRecord; IPSEC_PLACES] {
+        &mut Rc::make_mut(&mut self.ipsec).records
+    }
+}
+
+/// The lowest place in use with the SPI.
+pub fn find<R: Record>(records: &[R], spi: u64, faults: Faults) -> Option<usize> {
+    let meant = |record: &R| record.is_in_use() && same_spi(record.spi(), spi, faults);
+    if faults.on(Fault::HighestTwin) {
+        records.iter().rposition(meant)
+    } else {
+        records.iter().position(meant)
+    }
+}
+
+/// The lowest free place.
+pub fn free_place<R: Record>(records: &[R], faults: Faults) -> Option<usize> {
+    if faults.on(Fault::HighestFreePlace) {
+        records.iter().rposition(|record| !record.is_in_use())
+    } else {
+        records.iter().position(|record| !record.is_in_use())
+    }
+}
+
+pub fn same_spi(one: u64, other: u64, faults: Faults) -> bool {
+    let differing = one ^ other;
+    if faults.on(Fault::Spi32Bits) {
+        differing as u32 == 0
+    } else {
+        differing == 0
+    }
+}
