@@ -7,7 +7,7 @@ const LIBRARY_DIRECTORY: &str = "UNMAVRETH_LIBRARY_DIRECTORY";
 fn main() {
     println!("cargo:rerun-if-env-changed={LIBRARY_DIRECTORY}");
     println!("cargo:rerun-if-changed=build.rs");
-    // Unset is an error only in the program that links it: see src/compare/ours.rs.
+    // Unset is an error only in the program that links it: see src/compare/ours.
     if let Ok(directory) = env::var(LIBRARY_DIRECTORY) {
         println!("cargo:rerun-if-changed={directory}/libhost.a");
         println!("cargo:rustc-link-search=native={directory}");

@@ -16,11 +16,14 @@ pub enum Call {
     Acceptable { pair: AddressPair },
 }
 
-/// Why a table call changes nothing, with its number.
+/// Why a call changes nothing and writes nothing, with its number.
 #[derive(Debug, Clone, Copy, PartialEq, Eq)]
 pub enum Refusal {
     Argument = 1,
+    OutputTooShort = 2,
+    BodyTooLong = 3,
     NoSuchRecord = 4,
+    MobikeNotAgreed = 5,
     AllInUse = 10,
     SpiInUse = 11,
     Policy = 12,

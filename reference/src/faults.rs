@@ -56,6 +56,55 @@ pub enum Fault {
     Length0Nothing,
     HalvesAddUp,
     PrefixesSwapped,
+
+    MarkWhenApplied,
+    OneMark,
+    ListAppended,
+    NoNatsOldPair,
+    MovedByPair,
+    OutputFirst,
+    NatSourceLengthOnly,
+    BodyLast,
+    AgreedTwin,
+    AgreementLast,
+    TallyWraps,
+    TallyOnce,
+    UnfitUntallied,
+    EqualIdNew,
+    NoneIsId0,
+    StaleRefused,
+    PolicyFirst,
+    NoNatsAlone,
+    NoNatsFamily,
+    NoNatsPorts,
+    TwinsMove,
+    FreeOwnedMoved,
+    UnfitList,
+    ListWithUpdate,
+    ListLeftovers,
+    StaleLeftOff,
+    UnfitCount,
+    UnfitCookie,
+    FlawedCookie,
+    CriticalUntold,
+    CookieBeforeError,
+    UnfitNatValues,
+    NatValuesAlways,
+    StaleNatValues,
+    OneNatKind,
+    NatValuesEchoed,
+    NatDestinationFirst,
+    CookieHeader,
+    RestCleared,
+
+    AnySequence,
+    DoneIsSound,
+    UnsoundFreed,
+    EqualIdsFreed,
+    UpdateIdsOnly,
+    FreedAnswers,
+    LastUpdateWins,
+    FirstMarkIgnored,
 }
 
 const OF_READER: [(Fault, &str); 22] = [
@@ -115,6 +164,59 @@ const OF_TABLES: [(Fault, &str); 29] = [
     (Fault::PrefixesSwapped, "prefixes-swapped"),
 ];
 
+const OF_REQUESTS: [(Fault, &str); 39] = [
+    (Fault::MarkWhenApplied, "mark-when-applied"),
+    (Fault::OneMark, "one-mark"),
+    (Fault::ListAppended, "list-appended"),
+    (Fault::NoNatsOldPair, "no-nats-old-pair"),
+    (Fault::MovedByPair, "moved-by-pair"),
+    (Fault::OutputFirst, "output-first"),
+    (Fault::NatSourceLengthOnly, "nat-source-length-only"),
+    (Fault::BodyLast, "body-last"),
+    (Fault::AgreedTwin, "agreed-twin"),
+    (Fault::AgreementLast, "agreement-last"),
+    (Fault::TallyWraps, "tally-wraps"),
+    (Fault::TallyOnce, "tally-once"),
+    (Fault::UnfitUntallied, "unfit-untallied"),
+    (Fault::EqualIdNew, "equal-id-new"),
+    (Fault::NoneIsId0, "none-is-id-0"),
+    (Fault::StaleRefused, "stale-refused"),
+    (Fault::PolicyFirst, "policy-first"),
+    (Fault::NoNatsAlone, "no-nats-alone"),
+    (Fault::NoNatsFamily, "no-nats-family"),
+    (Fault::NoNatsPorts, "no-nats-ports"),
+    (Fault::TwinsMove, "twins-move"),
+    (Fault::FreeOwnedMoved, "free-owned-moved"),
+    (Fault::UnfitList, "unfit-list"),
+    (Fault::ListWithUpdate, "list-with-update"),
+    (Fault::ListLeftovers, "list-leftovers"),
+    (Fault::StaleLeftOff, "stale-left-off"),
+    (Fault::UnfitCount, "unfit-count"),
+    (Fault::UnfitCookie, "unfit-cookie"),
+    (Fault::FlawedCookie, "flawed-cookie"),
+    (Fault::CriticalUntold, "critical-untold"),
+    (Fault::CookieBeforeError, "cookie-before-error"),
+    (Fault::UnfitNatValues, "unfit-nat-values"),
+    (Fault::NatValuesAlways, "nat-values-always"),
+    (Fault::StaleNatValues, "stale-nat-values"),
+    (Fault::OneNatKind, "one-nat-kind"),
+    (Fault::NatValuesEchoed, "nat-values-echoed"),
+    (Fault::NatDestinationFirst, "nat-destination-first"),
+    (Fault::CookieHeader, "cookie-header"),
+    (Fault::RestCleared, "rest-cleared"),
+];
+
+const OF_ORDERS: [(Fault, &str); 8] = [
+    (Fault::AnySequence, "any-sequence"),
+    (Fault::DoneIsSound, "done-is-sound"),
+    (Fault::UnsoundFreed, "unsound-freed"),
+    (Fault::EqualIdsFreed, "equal-ids-freed"),
+    (Fault::UpdateIdsOnly, "update-ids-only"),
+    (Fault::FreedAnswers, "freed-answers"),
+    (Fault::LastUpdateWins, "last-update-wins"),
+    (Fault::FirstMarkIgnored, "first-mark-ignored"),
+];
+
 /// A fault by its name, with the kind of cases that must find it.
 #[derive(Debug, Clone, Copy)]
 pub struct NamedFault {
@@ -132,6 +234,8 @@ impl NamedFault {
         let faults: &[(Fault, &str)] = match kind {
             Kind::Reader => &OF_READER,
             Kind::Tables => &OF_TABLES,
+            Kind::Requests => &OF_REQUESTS,
+            Kind::Orders => &OF_ORDERS,
         };
         faults.iter().map(move |&(fault, name)| NamedFault { fault, name, kind })
     }
@@ -156,8 +260,12 @@ impl Faults {
 #[cfg(test)]
 mod tests {
     use super::*;
+    use crate::cases::orders::{self, OrdersCases};
     use crate::cases::reader::ReaderCases;
+    use crate::cases::requests::{self, RequestsCases};
     use crate::cases::tables::TablesCases;
+    use crate::handler::handle;
+    use crate::orders::broken;
     use crate::outcome::Outcome;
     use crate::reader::read;
 
@@ -178,13 +286,33 @@ mod tests {
         })
     }
 
+    fn shows_in_requests(cases: &RequestsCases, number: u64, fault: Fault) -> bool {
+        let requests::Case { tables: mut sound, request } = cases.case(number);
+        let mut faulty = sound.clone();
+        let sound_handled = handle(&request, &mut sound, Faults::NONE);
+        let faulty_handled = handle(&request, &mut faulty, Faults::only(fault));
+        sound_handled != faulty_handled || sound != faulty
+    }
+
+    fn shows_in_orders(cases: &OrdersCases, number: u64, fault: Fault) -> bool {
+        let orders::Case { tables, requests, chance } = cases.case(number);
+        let faults = Faults::only(fault);
+        let broken = broken(&tables, &requests, &chance, faults, |request, tables| {
+            handle(request, tables, Faults::NONE)
+        });
+        !broken.is_empty()
+    }
+
     #[test]
     fn every_fault_changes_some_outcome() {
         let (reader, tables) = (ReaderCases::new(1), TablesCases::new(1));
+        let (requests, orders) = (RequestsCases::new(1), OrdersCases::new(1));
         for NamedFault { fault, name, kind } in NamedFault::all() {
             let found = (0..20_000).any(|number| match kind {
                 Kind::Reader => shows_in_reader(&reader, number, fault),
                 Kind::Tables => shows_in_tables(&tables, number, fault),
+                Kind::Requests => shows_in_requests(&requests, number, fault),
+                Kind::Orders => shows_in_orders(&orders, number, fault),
             });
             assert!(found, "{name} shows in no case");
         }

@@ -11,16 +11,20 @@ pub enum Cause {
     DataSize,
     Repetition,
     Leftover,
-    UnknownCritical,
+    UnknownCritical { payload_type: u8 },
 }
 
 impl Cause {
     pub fn answer(self) -> u8 {
-        if self == Cause::UnknownCritical {
+        if self.is_unknown_critical() {
             7
         } else {
             6
         }
+    }
+
+    fn is_unknown_critical(self) -> bool {
+        matches!(self, Cause::UnknownCritical { .. })
     }
 }
 
@@ -37,7 +41,7 @@ pub fn told(chain: &Chain, faults: Faults) -> Option<Flaw> {
         return flaws.into_iter().max_by_key(|flaw| flaw.offset);
     }
     flaws.into_iter().min_by_key(|flaw| {
-        let postponed = faults.on(Fault::CriticalFirst) && flaw.cause != Cause::UnknownCritical;
+        let postponed = faults.on(Fault::CriticalFirst) && !flaw.cause.is_unknown_critical();
         (flaw.offset, postponed, flaw.cause)
     })
 }
@@ -69,7 +73,7 @@ fn flaw_of_type(offset: usize, payload_type: u8, flags: u8, faults: Faults) -> O
         Class::Notify => false,
     };
     let critical = flags & critical_bits != 0;
-    (unknown && critical).then_some(Flaw { offset, cause: Cause::UnknownCritical })
+    (unknown && critical).then_some(Flaw { offset, cause: Cause::UnknownCritical { payload_type } })
 }
 
 /// An SPI or a data size that the notify type does not allow.

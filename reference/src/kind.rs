@@ -4,15 +4,19 @@
 pub enum Kind {
     Reader,
     Tables,
+    Requests,
+    Orders,
 }
 
 impl Kind {
-    pub const ALL: [Kind; 2] = [Kind::Reader, Kind::Tables];
+    pub const ALL: [Kind; 4] = [Kind::Reader, Kind::Tables, Kind::Requests, Kind::Orders];
 
     pub fn name(self) -> &'static str {
         match self {
             Kind::Reader => "reader",
             Kind::Tables => "tables",
+            Kind::Requests => "requests",
+            Kind::Orders => "orders",
         }
     }
 }

@@ -12,6 +12,11 @@ const FIRST_STATUS_TYPE: u16 = 16384;
 pub struct NotifyType(pub u16);
 
 impl NotifyType {
+    pub const UNSUPPORTED_CRITICAL_PAYLOAD: Self = NotifyType(1);
+    pub const INVALID_SYNTAX: Self = NotifyType(7);
+    pub const UNACCEPTABLE_ADDRESSES: Self = NotifyType(40);
+    pub const UNEXPECTED_NAT_DETECTED: Self = NotifyType(41);
+
     pub const NAT_DETECTION_SOURCE_IP: Self = NotifyType(16388);
     pub const NAT_DETECTION_DESTINATION_IP: Self = NotifyType(16389);
     pub const MOBIKE_SUPPORTED: Self = NotifyType(16396);

@@ -101,7 +101,7 @@ impl<'a> Outcome<'a> {
 }
 
 impl<'a> Place<'a> {
-    fn of(part: Option<Part<'a>>) -> Self {
+    pub fn of(part: Option<Part<'a>>) -> Self {
         part.map_or_else(Place::default, |Part { offset, octets }| Place {
             offset,
             length: octets.len(),
@@ -115,7 +115,7 @@ impl<'a> Place<'a> {
         Place { offset, length, octets }
     }
 
-    fn show(&self) -> String {
+    pub fn show(&self) -> String {
         format!("{} octets at {}: {}", self.length, self.offset, show::hex(self.octets))
     }
 }

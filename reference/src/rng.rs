@@ -49,6 +49,12 @@ impl Rng {
         choices[self.below(choices.len())]
     }
 
+    pub fn shuffle<T>(&mut self, list: &mut [T]) {
+        for place in 1..list.len() {
+            list.swap(place, self.between(0, place));
+        }
+    }
+
     /// One of the choices, each as often as its weight says.
     pub fn pick_weighted<T: Copy>(&mut self, choices: &[(usize, T)]) -> T {
         let total = choices.iter().map(|&(weight, _)| weight).sum();

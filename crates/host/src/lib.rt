@@ -1,3 +1,4 @@
 // The calls that a host links: each hands its arguments to a proved function and gives back what that says.
 pub mod chain;
 pub mod records;
+pub mod requests;

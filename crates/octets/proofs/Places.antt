@@ -86,3 +86,9 @@ module _ {A : Type 0} (key : A → ℕ) (k : ℕ) where
             → cond b 0 (suc (placeOf key k (set xs i y))) ≡ suc i
         go true l r = absurd (omega arith)
         go false l r = ap suc (r (omega arith) e)
+
+-- storing an element with the key that stood there changes no lookup
+pub store-same : {A : Type 0} (key : A → ℕ) (k : ℕ) (xs : List A) (i : ℕ) (y d : A) → key y ≡ key (getD xs i d) → placeOf key k (set xs i y) ≡ placeOf key k xs
+store-same key k [] i y d e = refl
+store-same key k (x ∷ xs) zero y d e = ap (λ (n : ℕ). cond (eqb n k) 0 (suc (placeOf key k xs))) e
+store-same key k (x ∷ xs) (suc i) y d e = ap (λ (n : ℕ). cond (eqb (key x) k) 0 (suc n)) (store-same key k xs i y d e)

@@ -1,14 +1,18 @@
 -- How long the parts of a response are.
 use Prim.Native.Nat.{ℕ, _+_, _≤_}
 use mathlib.Core.Path.{_≡_, refl, sym, _∙_}
-use mathlib.Core.List.{List, []}
+use mathlib.Core.List.{List, [], _++_}
 use mathlib.Core.Bool.{Bool, true, false, cond}
 use native.Mathlib.Omega.{arith}
-use lib.Dec.{eqb}
-use lib.ListN.{length}
+use lib.Dec.{eqb, leb}
+use lib.ListN.{length, take, drop, length-append, length-take}
 use Rattle.writing.specs.Notify.{notifyOctets}
 use Rattle.writing.proofs.Placed.{length-notify}
-use Rattle.responder.specs.Respond.{cookieNotify}
+use Rattle.findings.specs.declared.seen.Seen.{Seen}
+use Rattle.reader.specs.Chain.{reading}
+use Rattle.reader.proofs.Cookie.{cookie-short}
+use Rattle.responder.specs.Core.{cookieIn, decidedOctets}
+use Rattle.responder.specs.Respond.{nextFor, cookieNotify, errorResponse, doneResponse}
 
 pub cookie-length : (cookie : List ℕ) → length (cookieNotify cookie) ≤ 8 + length cookie
 unfolding cookieNotify
@@ -17,3 +21,39 @@ cookie-length cookie = go (eqb (length cookie) 0)
     go : (b : Bool) → length (cond b [] (notifyOctets 0 16401 cookie)) ≤ 8 + length cookie
     go true = omega arith
     go false = omega (arith, length-notify 0 16401 cookie)
+
+pub error-length : (number : ℕ) (octets cookie : List ℕ) → length (errorResponse number octets cookie) ≤ 16 + length octets + length cookie
+unfolding errorResponse
+error-length number octets cookie =
+    rw (length-append (notifyOctets (nextFor cookie) number octets) (cookieNotify cookie))
+    (omega (arith, length-notify (nextFor cookie) number octets, cookie-length cookie))
+
+pub done-length : (wanted : Bool) (source destination cookie : List ℕ)
+    → length (doneResponse wanted source destination cookie) ≤ 24 + length source + length destination + length cookie
+unfolding doneResponse
+done-length true source destination cookie =
+    let first = notifyOctets 41 16388 source in
+    let second = notifyOctets (nextFor cookie) 16389 destination in
+    rw (length-append first (second ++ cookieNotify cookie), length-append second (cookieNotify cookie))
+    (omega (arith, length-notify 41 16388 source, length-notify (nextFor cookie) 16389 destination, cookie-length cookie))
+done-length false source destination cookie = omega (arith, cookie-length cookie)
+
+-- the cookie of a chain that was read has at most 64 octets
+pub cookie-part : (first : ℕ) (body : List ℕ) (s : Seen) → s ≡ reading first body .seen → length (cookieIn body s) ≤ 64
+cookie-part first body s e = go (leb (s .cookie + s .«cookie_len») (length body))
+  where
+    short : s .«cookie_len» ≤ 64
+    short = rw e (cookie-short first body)
+
+    go : (b : Bool) → length (cond b (take (s .«cookie_len») (drop (s .cookie) body)) []) ≤ 64
+    go true = rw (length-take (s .«cookie_len») (drop (s .cookie) body)) (omega (arith, short))
+    go false = omega arith
+
+pub octets-length : (number : ℕ) (wanted : Bool) (source destination cookie : List ℕ) → length source ≡ 20 → length destination ≡ 20 → length cookie ≤ 64
+    → length (decidedOctets number wanted source destination cookie) ≤ 128
+unfolding decidedOctets
+octets-length number wanted source destination cookie s d c = go (eqb number 0)
+  where
+    go : (b : Bool) → length (cond b (doneResponse wanted source destination cookie) (errorResponse (cond (eqb number 8) 41 40) [] cookie)) ≤ 128
+    go true = omega (arith, done-length wanted source destination cookie)
+    go false = omega (arith, error-length (cond (eqb number 8) 41 40) [] cookie)

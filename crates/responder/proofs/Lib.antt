@@ -1,2 +1,5 @@
 -- Laws that belong to no one function.
 pub mod Lengths
+pub mod Ways
+pub mod Checks
+pub mod Rows

@@ -1,2 +1,5 @@
 pub mod Decide
 pub mod Respond
+pub mod Core
+pub mod Handle
+pub mod Rows

@@ -41,3 +41,7 @@ noIpsec = newIpsec 0 0 noPair
 -- 01: "Closing an IKE record closes the IPsec records it owns." A free place is no record, whatever owner it still names.
 abbrev pub released : ℕ → IpsecRecord → IpsecRecord
 released owner r = cond (eqb (r .spi) 0) r (cond (eqb (r .owner) owner) noIpsec r)
+
+-- 01: "the IKE record and all its IPsec records take the packet's pair, and no other record changes": those in use with this owner.
+abbrev pub follows : ℕ → Pair → IpsecRecord → IpsecRecord
+follows owner pair r = cond (eqb (r .spi) 0) r (cond (eqb (r .owner) owner) (newIpsec (r .spi) (r .owner) pair) r)

@@ -3,7 +3,7 @@ use address::pair::Pair;
 ghost use mathlib.Core.Path.{_≡_};
 ghost use mathlib.Core.List.{map};
 ghost use Rattle.octets.specs.Lists.{placeOf};
-ghost use Rattle.tables.specs.Records.{ipsecSpi, noIpsec, released};
+ghost use Rattle.tables.specs.Records.{ipsecSpi, noIpsec, released, follows};
 
 #[repr(C)]
 pub struct IpsecRecord {
@@ -67,6 +67,38 @@ pub fn release_all(records: [IpsecRecord; 128], owner: u64) -> [IpsecRecord; 128
         let r = out[i];
         let s = release(r, owner);
         out[i] = s;
+        i += 1;
+    }
+    out
+}
+
+// The record, moved to a pair if it is in use and has this owner.
+pub fn follow(held: IpsecRecord, owner: u64, pair: Pair) -> IpsecRecord
+    ensures { λ r. ⌜ r ≡ follows owner pair held ⌝ }
+{
+    if held.spi == 0 {
+        return held;
+    }
+    if held.owner == owner {
+        return IpsecRecord {
+            spi: held.spi,
+            owner: held.owner,
+            pair,
+        };
+    }
+    held
+}
+
+// Moves every record that is in use and has this owner.
+pub fn follow_all(records: [IpsecRecord; 128], owner: u64, pair: Pair) -> [IpsecRecord; 128]
+    ensures { λ r. ⌜ r ≡ map (follows owner pair) records ⌝ }
+{
+    let mut out = records;
+    let mut i = 0;
+    while i < 128 {
+        let h = out[i];
+        let moved = follow(h, owner, pair);
+        out[i] = moved;
         i += 1;
     }
     out

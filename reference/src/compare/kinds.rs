@@ -1,27 +1,35 @@
 // The kinds that this program runs, and the cases of each.
+use crate::orders;
 use crate::reader;
 use crate::report::Detail;
-#[cfg(feature = "tables")]
+use crate::requests;
 use crate::tables;
+use reference::cases::orders::OrdersCases;
 use reference::cases::reader::ReaderCases;
-#[cfg(feature = "tables")]
+use reference::cases::requests::RequestsCases;
 use reference::cases::tables::TablesCases;
 use reference::faults::{Faults, NamedFault};
 use reference::kind::Kind;
 
-/// The kinds whose calls the library has.
-#[cfg(feature = "tables")]
-pub const LINKED: &[Kind] = &Kind::ALL;
-#[cfg(not(feature = "tables"))]
-pub const LINKED: &[Kind] = &[Kind::Reader];
+/// The kinds whose calls the library has, in the order in which they take turns in a run of all.
+pub const TURNS: &[Kind] = &[
+    Kind::Reader,
+    Kind::Requests,
+    Kind::Tables,
+    Kind::Reader,
+    Kind::Requests,
+    Kind::Tables,
+    Kind::Requests,
+    Kind::Orders,
+];
 
 pub fn named(name: &str) -> Option<Kind> {
-    LINKED.iter().copied().find(|kind| kind.name() == name)
+    TURNS.iter().copied().find(|kind| kind.name() == name)
 }
 
 /// The deliberate faults of these kinds.
 pub fn faults() -> impl Iterator<Item = NamedFault> {
-    NamedFault::all().filter(|named| LINKED.contains(&named.kind))
+    NamedFault::all().filter(|named| TURNS.contains(&named.kind))
 }
 
 /// What came of one case.
@@ -34,26 +42,27 @@ pub struct Verdict {
 /// The cases of one seed, of every kind.
 pub struct Cases {
     reader: ReaderCases,
-    #[cfg(feature = "tables")]
     tables: TablesCases,
+    requests: RequestsCases,
+    orders: OrdersCases,
 }
 
 impl Cases {
     pub fn new(seed: u64) -> Self {
         Cases {
             reader: ReaderCases::new(seed),
-            #[cfg(feature = "tables")]
             tables: TablesCases::new(seed),
+            requests: RequestsCases::new(seed),
+            orders: OrdersCases::new(seed),
         }
     }
 
     pub fn run(&self, kind: Kind, number: u64, faults: Faults, detail: Detail) -> Verdict {
         match kind {
             Kind::Reader => reader::run(self.reader.case(number), faults, detail),
-            #[cfg(feature = "tables")]
             Kind::Tables => tables::run(self.tables.case(number), faults, detail),
-            #[cfg(not(feature = "tables"))]
-            Kind::Tables => unreachable!("not linked"),
+            Kind::Requests => requests::run(self.requests.case(number), faults, detail),
+            Kind::Orders => orders::run(self.orders.case(number), faults, detail),
         }
     }
 }

@@ -1,10 +1,11 @@
 // The comparison: runs both programs on the same cases and tells every difference.
 mod arguments;
 mod kinds;
+mod orders;
 mod ours;
 mod reader;
 mod report;
-#[cfg(feature = "tables")]
+mod requests;
 mod tables;
 
 use arguments::{Arguments, Mode, USAGE};
@@ -45,20 +46,24 @@ fn main() -> ExitCode {
 struct Run<'a> {
     arguments: &'a Arguments,
     cases: Cases,
-    kinds: Vec<Kind>,
+    /// The kinds in the order in which they take turns.
+    turns: Vec<Kind>,
 }
 
 impl<'a> Run<'a> {
     fn new(arguments: &'a Arguments) -> Self {
         let only = arguments.only.or(arguments.fault.map(|named| named.kind));
-        let kinds = only.map_or(kinds::LINKED.to_vec(), |kind| vec![kind]);
-        Run { arguments, cases: Cases::new(arguments.seed), kinds }
+        let turns = only.map_or(kinds::TURNS.to_vec(), |kind| vec![kind]);
+        Run { arguments, cases: Cases::new(arguments.seed), turns }
     }
 
-    /// The kinds take turns; the kind of a case of the run, and its number among those of its kind.
+    /// The kind of a case of the run, and its number among those of its kind.
     fn kind_and_number(&self, place: u64) -> (Kind, u64) {
-        let kinds = self.kinds.len() as u64;
-        (self.kinds[(place % kinds) as usize], place / kinds)
+        let turns = self.turns.len() as u64;
+        let (rounds, turn) = (place / turns, (place % turns) as usize);
+        let kind = self.turns[turn];
+        let of_kind = |turns: &[Kind]| turns.iter().filter(|&&it| it == kind).count() as u64;
+        (kind, rounds * of_kind(&self.turns) + of_kind(&self.turns[..turn]))
     }
 
     /// Runs these cases, prints each difference and the last line; true if there was none.
@@ -96,7 +101,7 @@ impl<'a> Run<'a> {
     /// Compares with each deliberate fault of these kinds; true if each makes a difference.
     fn each_fault(&self, out: &mut impl Write) -> io::Result<bool> {
         let (mut tried, mut found) = (0, 0);
-        for named in kinds::faults().filter(|named| self.kinds.contains(&named.kind)) {
+        for named in kinds::faults().filter(|named| self.turns.contains(&named.kind)) {
             let (name, kind) = (named.name, named.kind.name());
             tried += 1;
             match self.first_difference(named) {

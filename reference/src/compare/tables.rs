@@ -77,7 +77,7 @@ fn show(case: &Case, faults: Faults, detail: Detail) -> String {
 }
 
 /// A line for each field that is no longer what it was.
-fn changes(before: &Tables, after: &Tables) -> Vec<String> {
+pub fn changes(before: &Tables, after: &Tables) -> Vec<String> {
     let [before, after] = of_differing_places(before, after);
     let changed = before.iter().zip(&after).filter(|(before, after)| before != after);
     changed.map(|(_, (name, value))| format!("    {name}: {value}")).collect()

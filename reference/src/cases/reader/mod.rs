@@ -1,11 +1,11 @@
 // The reader's cases: payload chains, first the listed ones, then random ones.
-mod atoms;
-mod damage;
-mod draft;
-mod listed;
-mod mutation;
+pub(super) mod atoms;
+pub(super) mod damage;
+pub(super) mod draft;
+pub(super) mod listed;
+pub(super) mod mutation;
 mod noise;
-mod well_formed;
+pub(super) mod well_formed;
 
 use crate::rng::Rng;
 use damage::Damage;
@@ -59,7 +59,7 @@ impl ReaderCases {
     }
 }
 
-fn random(rng: &mut Rng) -> Case {
+pub(super) fn random(rng: &mut Rng) -> Case {
     match rng.pick_weighted(&WEIGHTS) {
         Making::WellFormed => well_formed::chain(rng).assemble(),
         Making::FullBody => well_formed::full_body(rng),

@@ -1,10 +1,10 @@
 // The tables' cases: tables as they may stand, and calls, each made on what the one before left.
-mod listed;
-mod pairs;
-mod rules;
-mod scripts;
-mod shapes;
-mod spis;
+pub(super) mod listed;
+pub(super) mod pairs;
+pub(super) mod rules;
+pub(super) mod scripts;
+pub(super) mod shapes;
+pub(super) mod spis;
 
 use crate::calls::Call;
 use crate::rng::Rng;

@@ -58,7 +58,7 @@ fn call(rng: &mut Rng, tables: &Tables) -> Call {
 }
 
 /// That of a record as often as `in_use` says, else one of few, one that is hardly in use, or 0.
-fn ike_spi(rng: &mut Rng, tables: &Tables, in_use: usize) -> u64 {
+pub fn ike_spi(rng: &mut Rng, tables: &Tables, in_use: usize) -> u64 {
     let few = rng.pick(&spis::FEW_IKE);
     let other = spis::ike(IKE_PLACES + rng.below(4));
     let there = spi_in_use(rng, &tables.ike.records).unwrap_or(few);

@@ -1,6 +1,6 @@
 // The verified library: its C interface, and its answers in the form in which they are compared.
 pub mod reader;
-#[cfg(feature = "tables")]
+pub mod requests;
 pub mod tables;
 
 const _: &str = env!(

@@ -1,6 +1,6 @@
 // The cases every run begins with: each check and order of checks, each place, length and bit.
 mod closings;
-mod contents;
+pub(in crate::cases) mod contents;
 mod openings;
 mod policies;
 mod prefixes;

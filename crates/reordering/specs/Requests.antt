@@ -1,0 +1,65 @@
+-- The handler's requests one after the other, which of them belong to one IKE SA, and which are sound.
+use Prim.Native.Nat.{ℕ}
+use mathlib.Core.Path.{_≡_}
+use mathlib.Core.Logic.{_⊎_}
+use mathlib.Core.List.{List, [], _∷_}
+use mathlib.Core.Bool.{Bool, true, false, cond, _&&_, _||_, not}
+use lib.Dec.{eqb}
+use Rattle.order.specs.Order.{Update, Held}
+use Rattle.address.specs.declared.pair.Pair.{Pair}
+use Rattle.findings.specs.Values.{partOf, noNatsSeen}
+use Rattle.findings.specs.declared.seen.Seen.{Seen}
+use Rattle.policy.specs.declared.rules.Policy.{Policy}
+use Rattle.reader.specs.Chain.{reading}
+use Rattle.tables.specs.Calls.{hasIke}
+use Rattle.tables.specs.Reached.{Tables, tables}
+use Rattle.responder.specs.Decide.{verdict}
+use Rattle.responder.specs.Handle.{Request, meant, earlyNumber, handled, handledResponse}
+use Rattle.responder.specs.declared.core.Reply.{Reply}
+
+-- 01: "each made on the tables that the one before it left": the tables after one request.
+unfoldable pub step : Policy → Request → Tables → Tables
+step policy q t = tables (handled policy (t .ike) (t .ipsec) q .ike) (handled policy (t .ike) (t .ipsec) q .ipsec)
+
+-- 01: "The same answer is all that the call gives back but the tables, the cookie by its octets; the same octets, those of its
+-- response". That the rest of the output stays as it was is the handler's own promise, at every call.
+pub record Answer : Type 0 where
+  pub reply : Reply
+  pub cookie : List ℕ
+  pub octets : List ℕ
+
+unfoldable pub answer : Policy → Request → Tables → Answer
+answer policy q t =
+    let r = handled policy (t .ike) (t .ipsec) q .reply in
+    record { reply = r; cookie = partOf (q .asks .body) (r .cookie) (r .«cookie_len»); octets = handledResponse policy (t .ike) (t .ipsec) q }
+
+-- An IKE SA of these tables has this SPI. 0 is no SPI, whatever place is free.
+abbrev pub inUse : ℕ → Tables → Bool
+inUse spi t = not (eqb spi 0) && hasIke spi (t .ike)
+
+-- Two requests that belong to no common IKE SA of the starting tables: they give different SPIs, or one that no record has.
+abbrev pub Apart : Tables → Request → Request → Type 0
+Apart t q r = (q .spi ≡ r .spi → ⊥) ⊎ (inUse (q .spi) t ≡ false)
+
+abbrev pub seenIn : Request → Seen
+seenIn q = reading (q .asks .first) (q .asks .body) .seen
+
+-- 01's term: "A request is sound if checks 1 to 7 pass and, where it carries an update, those of 8 and 9 would pass too, whatever
+-- the mark."
+abbrev pub sound : Policy → Tables → Request → Bool
+sound policy t q =
+    eqb (earlyNumber (t .ike) (t .ipsec) q) 0
+    && (eqb (reading (q .asks .first) (q .asks .body) .number) 0
+    && (not (seenIn q .update) || eqb (verdict policy (noNatsSeen (q .asks .body) (seenIn q)) (q .asks .pair)) 0))
+
+-- the updates that requests for an SPI carry, each with its ID and its packet's pair
+unfoldable pub updatesFor : ℕ → List Request → List (Update Pair)
+updatesFor spi [] = []
+updatesFor spi (q ∷ qs) =
+    cond (eqb (q .spi) spi && seenIn q .update)
+    (record { id = q .asks .id; value = q .asks .pair } ∷ updatesFor spi qs)
+    (updatesFor spi qs)
+
+-- the pair of an IKE SA and its update mark
+abbrev pub pairHeld : ℕ → Tables → Held Pair
+pairHeld spi t = record { mark = meant (t .ike) spi .«update_mark»; value = meant (t .ike) spi .pair }

@@ -1,0 +1,83 @@
+-- What has been shown where checks 1 to 5 pass, and the handler's ways out.
+use Prim.Native.Nat.{ℕ, _≤_, _<_}
+use mathlib.Core.Path.{_≡_, refl}
+use mathlib.Core.List.{List, [], map}
+use mathlib.Core.Bool.{Bool, true, false, cond, _&&_, not, false≢true}
+use native.Mathlib.Omega.{arith}
+use borrow.Author.Tests.{eq-eqb, ne-eqb, eqb-true, ltb-true, ltb-false}
+use lib.Dec.{eqb, ltb}
+use lib.ListN.{length, set}
+use Rattle.octets.specs.Lists.{placeOf}
+use Rattle.address.specs.Address.{pairFits}
+use Rattle.address.specs.declared.pair.Pair.{Pair}
+use Rattle.policy.specs.declared.rules.Policy.{Policy}
+use Rattle.tables.specs.Records.{ikeSpi, follows}
+use Rattle.tables.specs.Calls.{hasIke}
+use Rattle.tables.specs.declared.ike.IkeRecord.{IkeRecord}
+use Rattle.tables.specs.declared.ipsec.IpsecRecord.{IpsecRecord}
+use Rattle.responder.specs.Core.{refusalReply, coreResult, coreResponse}
+use Rattle.responder.specs.Handle.{Request, argumentsFit, meant, recordNumber, checkedNumber, earlyNumber, handled, handledResponse}
+use Rattle.responder.specs.declared.core.Reply.{Reply}
+use Rattle.responder.specs.declared.core.CoreResult.{CoreResult}
+use Rattle.responder.specs.declared.handle.Handled.{Handled}
+
+pub both : (a b : Bool) → a && b ≡ true → (a ≡ true) × (b ≡ true)
+both true b e = (refl, e)
+both false b e = absurd (false≢true e)
+
+pub record Passed (fit : Bool) (room octets number : ℕ) : Type 0 where
+  pub fits : fit ≡ true
+  pub room-enough : 128 ≤ room
+  pub short : octets ≤ 4096
+  pub there : number ≡ 0
+
+pub passed : (fit : Bool) (room octets number : ℕ) → checkedNumber fit room octets number ≡ 0 → Passed fit room octets number
+unfolding checkedNumber
+passed false room octets number e = absurd (omega arith)
+passed true room octets number e = go (ltb room 128) refl (ltb 4096 octets) refl e
+  where
+    go : (a : Bool) → ltb room 128 ≡ a → (b : Bool) → ltb 4096 octets ≡ b → cond a 2 (cond b 3 number) ≡ 0 → Passed true room octets number
+    go true f b g e = absurd (omega arith)
+    go false f true g e = absurd (omega arith)
+    go false f false g e = record { fits = refl; room-enough = ltb-false room 128 f; short = ltb-false 4096 octets g; there = e }
+
+pub record-there : (ike : List IkeRecord) (spi : ℕ) → recordNumber ike spi ≡ 0 → (placeOf ikeSpi spi ike < length ike) × (meant ike spi .mobike ≡ true)
+unfolding recordNumber
+record-there ike spi e = go (hasIke spi ike) refl (meant ike spi .mobike) refl e
+  where
+    go : (a : Bool) → hasIke spi ike ≡ a → (b : Bool) → meant ike spi .mobike ≡ b → _≡_ {A = ℕ} (cond a (cond b 0 5) 4) 0
+        → (placeOf ikeSpi spi ike < length ike) × (meant ike spi .mobike ≡ true)
+    go true f true g e = (ltb-true _ _ f, g)
+    go true f false g e = absurd (omega arith)
+    go false f b g e = absurd (omega arith)
+
+pub lent-fit : (spi : ℕ) (pair : Pair) (source destination : List ℕ) → argumentsFit spi pair source destination ≡ true
+    → (length source ≡ 20) × (length destination ≡ 20)
+lent-fit spi pair source destination e =
+    let rest = both (not (eqb spi 0)) (eqb (length source) 20 && (eqb (length destination) 20 && pairFits pair)) e .1 in
+    let s = both (eqb (length source) 20) (eqb (length destination) 20 && pairFits pair) rest in
+    (eqb-true (length source) 20 (s .0), eqb-true (length destination) 20 (both (eqb (length destination) 20) (pairFits pair) (s .1) .0))
+
+module _ (policy : Policy) (ike : List IkeRecord) (ipsec : List IpsecRecord) (q : Request) (n : ℕ) (e : n ≡ earlyNumber ike ipsec q) where
+  abbrev result : Reply → List IkeRecord → List IpsecRecord → Handled
+  result reply records owned = record { reply = reply; ike = records; ipsec = owned }
+
+  module _ (refused : n ≡ 0 → ⊥) where
+    pub refused-early : (reply : Reply) → reply ≡ refusalReply n 0 0 → result reply ike ipsec ≡ handled policy ike ipsec q
+    unfolding handled
+    refused-early reply r = rw (← e, ne-eqb n 0 refused, r)
+
+    pub silent-early : [] ≡ handledResponse policy ike ipsec q
+    unfolding handledResponse
+    silent-early = rw (← e, ne-eqb n 0 refused)
+
+  module _ (taken : n ≡ 0) where
+    pub handled-core : (c : CoreResult) (p : ℕ) (owned : List IpsecRecord) → c ≡ coreResult policy (q .asks) (meant ike (q .spi))
+        → p ≡ placeOf ikeSpi (q .spi) ike → owned ≡ cond (c .moves) (map (follows (q .spi) (q .asks .pair)) ipsec) ipsec
+        → result (c .reply) (set ike p (c .entry)) owned ≡ handled policy ike ipsec q
+    unfolding handled
+    handled-core c p owned ce pe oe = rw (← e, eq-eqb n 0 taken, oe, ce, pe)
+
+    pub handled-octets : coreResponse policy (q .asks) (meant ike (q .spi)) ≡ handledResponse policy ike ipsec q
+    unfolding handledResponse
+    handled-octets = rw (← e, eq-eqb n 0 taken)

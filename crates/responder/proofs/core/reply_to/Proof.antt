@@ -1,0 +1,12 @@
+-- `responder::core::reply_to` meets its contract.
+-- Assumes nothing.
+use borrow.Author.Needs.{needs}
+use Rattle.responder.proofs.core.reply_to.Statement.{statement}
+use Rattle.responder.proofs.core.reply_to.Tie as tie
+
+pub reply-to-spec : {M : Type 1} → statement M
+reply-to-spec =
+    tie.close
+    (tie.spec
+    (λ c κs. search needs)
+    (λ c. rw (c .first-of .ensures)))

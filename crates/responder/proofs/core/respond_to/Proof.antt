@@ -1,0 +1,66 @@
+-- `responder::core::respond_to` meets its contract: the reading says which way it goes.
+-- Assumes nothing.
+use borrow.Author.Needs.{needs}
+use mathlib.Core.Path.{_≡_, ap, _∙_}
+use native.Mathlib.Omega.{arith}
+use Prim.Native.Nat.{_≤_}
+use lib.ListN.{length}
+use Rattle.writing.specs.Notify.{placed}
+use Rattle.reader.specs.declared.read.Reading.{Reading}
+use Rattle.responder.specs.Core.{asked}
+use Rattle.responder.proofs.Lengths.{cookie-part, octets-length}
+use Rattle.responder.proofs.Ways.{done-response, done-result, refused-response, refused-result}
+use Rattle.responder.proofs.core.respond_to.Statement.{statement}
+use Rattle.responder.proofs.core.respond_to.Tie as tie
+
+cookie-fits : (c : tie.After-cookie) → length (c .cookie .result .now) ≤ 64
+cookie-fits c =
+    let a = c .before .before .before .before .before .before .before .before .before .before .before .args in
+    rw (c .cookie .ensures)
+    (cookie-part (a .first) (a .body .now) (c .before .before .before .before .before .before .read .result .seen) (ap (λ (r : Reading). r .seen) (c .before .before .before .before .before .before .read .ensures .is)))
+
+pub respond-to-spec : {M : Type 1} → statement M
+respond-to-spec =
+    tie.close
+    (tie.spec
+    (λ c κs. search needs)
+    (λ c κs. search needs)
+    (λ c κs. search needs)
+    (λ c κs. search needs)
+    (λ c κs.
+    let p = c .before .before .before .before .before .before .before .before .before .before .before .before .pre in
+    (p .0, p .1, p .2, cookie-fits (c .before)))
+    (λ c.
+    let a = c .before .before .before .before .before .before .before .before .before .before .before .before .before .before .before .args in
+    let p = c .before .before .before .before .before .before .before .before .before .before .before .before .before .before .before .pre in
+    let size =
+    octets-length (c .before .before .before .before .before .before .decide-seen .result .number) (c .before .before .before .before .before .wants-nats .result) (a .source .now) (a .destination .now) (c .before .before .before .before .cookie .result .now)
+    (p .1) (p .2) (cookie-fits (c .before .before .before .before)) in
+    omega (arith, c .before .before .respond-decided .ensures .0))
+    (λ c κs. search needs)
+    (λ c. search needs)
+    (λ c.
+    let a = c .before .before .before .before .before .before .before .before .before .before .before .before .before .before .before .before .before .before .args in
+    let q = (asked (a .id) (a .pair) (a .source .now) (a .destination .now) (a .first) (a .body .now)) in
+    let r = c .before .before .before .before .before .before .before .before .before .before .before .before .before .read .result in
+    let d = c .before .before .before .before .before .before .before .before .before .decide-seen in
+    let w = c .before .before .before .before .before .before .before .before .wants-nats in
+    let k = c .before .before .before .before .before .before .before .cookie in
+    let o = c .before .before .before .before .before .respond-decided in (
+      done-result (a .policy) q (a .entry) r (c .before .before .before .before .before .before .before .before .before .before .before .before .before .read .ensures .is) (c .before .before .before .before .before .before .before .before .before .before .if1 .taken) (d .result) (w .result) (k .result .now)
+          (d .ensures) (w .ensures) (k .ensures) (o .result) (c .before .before .reply-to .result) (o .ensures .0) (c .before .before .reply-to .ensures),
+      o .ensures .1
+          ∙ ap (placed (a .out .now) 0)
+          (done-response (a .policy) q (a .entry) r (c .before .before .before .before .before .before .before .before .before .before .before .before .before .read .ensures .is) (c .before .before .before .before .before .before .before .before .before .before .if1 .taken) (d .result) (w .result) (k .result .now)
+          (d .ensures) (w .ensures) (k .ensures)),
+    ))
+    (λ c κs. search needs)
+    (λ c. search needs)
+    (λ c.
+    let a = c .before .before .before .before .before .before .before .before .before .before .before .before .args in
+    let q = (asked (a .id) (a .pair) (a .source .now) (a .destination .now) (a .first) (a .body .now)) in
+    let r = c .before .before .before .before .before .before .before .read .result in
+    let e = c .before .before .refuse-chain in (
+      refused-result (a .policy) q (a .entry) r (c .before .before .before .before .before .before .before .read .ensures .is) (c .before .before .before .before .if1 .left) (e .result) (e .ensures .0),
+      e .ensures .1 ∙ ap (placed (a .out .now) 0) (refused-response (a .policy) q (a .entry) r (c .before .before .before .before .before .before .before .read .ensures .is) (c .before .before .before .before .if1 .left)),
+    )))

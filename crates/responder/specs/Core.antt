@@ -1,0 +1,121 @@
+-- One request on the record that it means, after checks 1 to 5: reading, steps 1 to 4, and all that is given back.
+use Prim.Native.Nat.{ℕ}
+use mathlib.Core.List.{List, [], _∷_}
+use mathlib.Core.Bool.{Bool, true, false, cond, _&&_, not}
+use lib.Dec.{eqb}
+use lib.ListN.{length}
+use Rattle.address.specs.Address.{addressesOf}
+use Rattle.address.specs.declared.address.Address.{Address}
+use Rattle.address.specs.declared.pair.Pair.{Pair}
+use Rattle.findings.specs.Values.{partOf, noNatsSeen, additionalOf}
+use Rattle.findings.specs.declared.seen.Seen.{Seen}
+use Rattle.policy.specs.declared.rules.Policy.{Policy}
+use Rattle.reader.specs.Chain.{reading}
+use Rattle.reader.specs.declared.read.Reading.{Reading}
+use Rattle.tables.specs.declared.ike.IkeRecord.{IkeRecord}
+use Rattle.responder.specs.Decide.{decided}
+use Rattle.responder.specs.Respond.{errorResponse, doneResponse}
+use Rattle.responder.specs.declared.decide.Decision.{Decision}
+use Rattle.responder.specs.declared.core.Reply.{Reply}
+use Rattle.responder.specs.declared.core.CoreResult.{CoreResult}
+
+-- What a request asks of the record that its SPI means.
+pub record Asked : Type 0 where
+  pub id : ℕ
+  pub pair : Pair
+  pub nat-source : List ℕ
+  pub nat-destination : List ℕ
+  pub first : ℕ
+  pub body : List ℕ
+
+-- what the core is asked: the SPI and the output's length were looked at before
+abbrev pub asked : ℕ → Pair → List ℕ → List ℕ → ℕ → List ℕ → Asked
+asked id pair source destination first body =
+    record { id = id; pair = pair; nat-source = source; nat-destination = destination; first = first; body = body }
+
+-- 01: "Its first type is 41, or 0 where nothing is written."
+abbrev pub firstOf : ℕ → ℕ
+firstOf n = cond (eqb n 0) 0 41
+
+-- 01, the numbers 6 and 7: "INVALID_SYNTAX (7)", "UNSUPPORTED_CRITICAL_PAYLOAD (1), data: its type".
+unfoldable pub chainError : Reading → List ℕ
+chainError r = cond (eqb (r .number) 7) (errorResponse 1 (r .critical ∷ []) []) (errorResponse 7 [] [])
+
+-- A refusal gives its number and its offset, and no more; the response is `n` octets long.
+abbrev pub refusalReply : ℕ → ℕ → ℕ → Reply
+refusalReply number offset n =
+    record {
+      number = number;
+      update = 0;
+      list = 0;
+      first = firstOf n;
+      «left_off» = 0;
+      payloads = 0;
+      offset = offset;
+      cookie = 0;
+      «cookie_len» = 0;
+      length = n;
+    }
+
+abbrev pub cookieIn : List ℕ → Seen → List ℕ
+cookieIn body s = partOf body (s .cookie) (s .«cookie_len»)
+
+-- 01: "for a request with UPDATE_SA_ADDRESSES (stale ones too) and both NAT detection kinds".
+abbrev pub wantsNats : Seen → Bool
+wantsNats s = s .update && (not (eqb (s .«nat_source») 0) && not (eqb (s .«nat_destination») 0))
+
+-- 01, step 4: "UNEXPECTED_NAT_DETECTED (41)" for 8, "UNACCEPTABLE_ADDRESSES (40)" for 9, each with the cookie; else the done response.
+unfoldable pub decidedOctets : ℕ → Bool → List ℕ → List ℕ → List ℕ → List ℕ
+decidedOctets number wanted source destination cookie =
+    cond (eqb number 0) (doneResponse wanted source destination cookie) (errorResponse (cond (eqb number 8) 41 40) [] cookie)
+
+abbrev pub decidedResponse : ℕ → Asked → Seen → List ℕ
+decidedResponse number q s = decidedOctets number (wantsNats s) (q .nat-source) (q .nat-destination) (cookieIn (q .body) s)
+
+abbrev pub decidedReply : Decision → Seen → ℕ → Reply
+decidedReply d s n =
+    record {
+      number = d .number;
+      update = d .update;
+      list = d .list;
+      first = firstOf n;
+      «left_off» = d .«left_off»;
+      payloads = s .tally .payloads;
+      offset = 0;
+      cookie = s .cookie;
+      «cookie_len» = s .«cookie_len»;
+      length = n;
+    }
+
+-- the additional addresses of a request, as they are kept
+abbrev pub listSeen : List ℕ → Seen → List Address
+listSeen body s = addressesOf (s .list .families) (additionalOf body (s .list .places) (s .list .families))
+
+-- steps 1 to 3 on what was read
+abbrev pub decisionOn : Policy → Asked → IkeRecord → Decision
+decisionOn policy q entry =
+    let s = reading (q .first) (q .body) .seen in
+    decided policy (noNatsSeen (q .body) s) s (listSeen (q .body) s) (q .pair) (q .id) entry
+
+-- The response to a request that passed checks 1 to 5, by its reading.
+unfoldable pub coreResponse : Policy → Asked → IkeRecord → List ℕ
+coreResponse policy q entry =
+    let r = reading (q .first) (q .body) in
+    cond (eqb (r .number) 0) (decidedResponse (decisionOn policy q entry .number) q (r .seen)) (chainError r)
+
+-- a chain that was read whole: IPsec records follow exactly where the update was applied
+abbrev pub wholeResult : Policy → Asked → IkeRecord → CoreResult
+wholeResult policy q entry =
+    let s = reading (q .first) (q .body) .seen in
+    let d = decisionOn policy q entry in
+    record { reply = decidedReply d s (length (decidedResponse (d .number) q s)); entry = d .entry; moves = eqb (d .update) 1 }
+
+-- a chain that was not: the record stays as it is
+abbrev pub brokenResult : Asked → IkeRecord → CoreResult
+brokenResult q entry =
+    let r = reading (q .first) (q .body) in
+    record { reply = refusalReply (r .number) (r .offset) (length (chainError r)); entry = entry; moves = false }
+
+-- The reply, the record after it, and whether its IPsec records follow.
+unfoldable pub coreResult : Policy → Asked → IkeRecord → CoreResult
+coreResult policy q entry = cond (eqb (reading (q .first) (q .body) .number) 0) (wholeResult policy q entry) (brokenResult q entry)

@@ -1,0 +1,64 @@
+-- One request on the tables: 01's checks 1 to 5, then the core on the record that the SPI means.
+use Prim.Native.Nat.{ℕ}
+use mathlib.Core.List.{List, [], map}
+use mathlib.Core.Bool.{Bool, cond, _&&_, not}
+use lib.Dec.{eqb, ltb}
+use lib.ListN.{length, getD, set}
+use Rattle.octets.specs.Lists.{placeOf}
+use Rattle.address.specs.Address.{pairFits}
+use Rattle.address.specs.declared.pair.Pair.{Pair}
+use Rattle.policy.specs.declared.rules.Policy.{Policy}
+use Rattle.tables.specs.Records.{ikeSpi, noIke, follows}
+use Rattle.tables.specs.Calls.{hasIke, listFits}
+use Rattle.tables.specs.declared.ike.IkeRecord.{IkeRecord}
+use Rattle.tables.specs.declared.ipsec.IpsecRecord.{IpsecRecord}
+use Rattle.responder.specs.Core.{Asked, refusalReply, coreResult, coreResponse}
+use Rattle.responder.specs.declared.handle.Handled.{Handled}
+
+-- 01: "A request is given as SPI, ID, packet's pair, the two NAT values, first type, body." Its output's length belongs to it too.
+pub record Request : Type 0 where
+  pub spi : ℕ
+  pub asks : Asked
+  pub room : ℕ
+
+abbrev pub request : ℕ → Asked → ℕ → Request
+request spi asks room = record { spi = spi; asks = asks; room = room }
+
+-- 01: "1: family not 4 or 6, IPv4 tail not zero, an SPI of 0, an IPsec list not of 128 records, a lent NAT value not of 20 octets".
+abbrev pub argumentsFit : ℕ → Pair → List ℕ → List ℕ → Bool
+argumentsFit spi pair source destination =
+    not (eqb spi 0) && (eqb (length source) 20 && (eqb (length destination) 20 && pairFits pair))
+
+-- the record that an SPI means
+abbrev pub meant : List IkeRecord → ℕ → IkeRecord
+meant ike spi = getD ike (placeOf ikeSpi spi ike) noIke
+
+-- 01: "4: no such record", "5: MOBIKE not agreed".
+unfoldable pub recordNumber : List IkeRecord → ℕ → ℕ
+recordNumber ike spi = cond (hasIke spi ike) (cond (meant ike spi .mobike) 0 5) 4
+
+-- 01: "checks 1 to 7 in number order", the first five: whether the arguments fit, the output's and the body's length, the record.
+unfoldable pub checkedNumber : Bool → ℕ → ℕ → ℕ → ℕ
+checkedNumber fit room octets number = cond fit (cond (ltb room 128) 2 (cond (ltb 4096 octets) 3 number)) 1
+
+abbrev pub earlyNumber : List IkeRecord → List IpsecRecord → Request → ℕ
+earlyNumber ike ipsec q =
+    checkedNumber (listFits ipsec && argumentsFit (q .spi) (q .asks .pair) (q .asks .nat-source) (q .asks .nat-destination))
+    (q .room) (length (q .asks .body)) (recordNumber ike (q .spi))
+
+-- The tables after a request, and all else that it gives back: "the IKE record and all its IPsec records take the packet's pair,
+-- and no other record changes".
+unfoldable pub handled : Policy → List IkeRecord → List IpsecRecord → Request → Handled
+handled policy ike ipsec q =
+    let c = coreResult policy (q .asks) (meant ike (q .spi)) in
+    cond (eqb (earlyNumber ike ipsec q) 0)
+    (record {
+      reply = c .reply;
+      ike = set ike (placeOf ikeSpi (q .spi) ike) (c .entry);
+      ipsec = cond (c .moves) (map (follows (q .spi) (q .asks .pair)) ipsec) ipsec;
+    })
+    (record { reply = refusalReply (earlyNumber ike ipsec q) 0 0; ike = ike; ipsec = ipsec })
+
+-- The response's octets; "None" for 1 to 5.
+unfoldable pub handledResponse : Policy → List IkeRecord → List IpsecRecord → Request → List ℕ
+handledResponse policy ike ipsec q = cond (eqb (earlyNumber ike ipsec q) 0) (coreResponse policy (q .asks) (meant ike (q .spi))) []

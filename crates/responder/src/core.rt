@@ -1,0 +1,201 @@
+// One request on the one record that it means, by value: read, decide, respond.
+use crate::decide::DONE;
+use crate::decide::Decision;
+use crate::decide::decide;
+use crate::respond::put_done;
+use crate::respond::put_error;
+use address::address::addresses_of;
+use address::pair::Pair;
+use findings::seen::Seen;
+use findings::values::additional;
+use findings::values::cookie;
+use findings::values::no_nats;
+use policy::rules::Policy;
+use reader::read::Reading;
+use reader::read::read;
+use tables::ike::IkeRecord;
+ghost use mathlib.Core.Path.{_≡_};
+ghost use Prim.Native.Nat.{_≤_};
+ghost use lib.ListN.{length};
+ghost use Rattle.findings.specs.Values.{noNatsSeen};
+ghost use Rattle.responder.specs.Decide.{decided};
+ghost use Rattle.writing.specs.Notify.{placed};
+ghost use Rattle.responder.specs.Core.{asked, firstOf, refusalReply, chainError, wantsNats, decidedOctets, decidedReply, listSeen, coreResult, coreResponse};
+
+// All that a call gives back but the tables. The cookie is the part of the body at `cookie`.
+#[repr(C)]
+pub struct Reply {
+    pub number: u8,
+    pub update: u8,
+    pub list: u8,
+    pub first: u8,
+    pub left_off: u16,
+    pub payloads: u16,
+    pub offset: u16,
+    pub cookie: u16,
+    pub cookie_len: u16,
+    pub length: u16,
+}
+
+// The reply, the record after the request, and whether its IPsec records follow it.
+pub struct CoreResult {
+    pub reply: Reply,
+    pub entry: IkeRecord,
+    pub moves: bool,
+}
+
+// The type of a response's first payload.
+pub fn first_of(length: u16) -> u8
+    ensures { λ r. ⌜ r ≡ firstOf length ⌝ }
+{
+    if length == 0 { 0 } else { 41 }
+}
+
+// A reply that gives a number and an offset, and a response of so many octets.
+pub fn refusal(number: u8, offset: u16, length: u16) -> Reply
+    ensures { λ r. ⌜ r ≡ refusalReply number offset length ⌝ }
+{
+    Reply {
+        number,
+        update: 0,
+        list: 0,
+        first: first_of(length),
+        left_off: 0,
+        payloads: 0,
+        offset,
+        cookie: 0,
+        cookie_len: 0,
+        length,
+    }
+}
+
+// A malformed chain or an unknown critical payload: the error, and nothing else.
+pub fn refuse_chain(r: Reading, out: &mut [u8]) -> Reply
+    requires { ⌜ 128 ≤ length (now out) ⌝ }
+    ensures { λ p. ⌜ p ≡ refusalReply (r .number) (r .offset) (length (chainError r)) ⌝ }
+    ensures { λ _. ⌜ now (out .exit) ≡ placed (now (out .entry)) 0 (chainError r) ⌝ }
+{
+    let none = [0u8; 0];
+    let told = [r.critical];
+    if r.number == 7 {
+        let n = put_error(out, 1, &told, &none);
+        return refusal(r.number, r.offset, n as u16);
+    }
+    let n = put_error(out, 7, &none, &none);
+    refusal(r.number, r.offset, n as u16)
+}
+
+// Whether the response gives the two lent NAT detection values.
+pub fn wants_nats(seen: Seen) -> bool
+    ensures { λ r. ⌜ r ≡ wantsNats seen ⌝ }
+{
+    if seen.update {
+        if seen.nat_source == 0 {
+            false
+        } else {
+            seen.nat_destination != 0
+        }
+    } else {
+        false
+    }
+}
+
+// Step 4: the response to a request that was decided with `number`.
+pub fn respond_decided(
+    number: u8,
+    wanted: bool,
+    source: &[u8],
+    destination: &[u8],
+    cookie: &[u8],
+    out: &mut [u8],
+) -> usize
+    requires { ⌜ (128 ≤ length (now out)) × (length (now source) ≡ 20) × (length (now destination) ≡ 20) × (length (now cookie) ≤ 64) ⌝ }
+    ensures { λ r. ⌜ r ≡ length (decidedOctets number wanted (now (source .entry)) (now (destination .entry)) (now (cookie .entry))) ⌝ }
+    ensures { λ _. ⌜ now (out .exit) ≡ placed (now (out .entry)) 0 (decidedOctets number wanted (now (source .entry)) (now (destination .entry)) (now (cookie .entry))) ⌝ }
+{
+    if number == 0 {
+        return put_done(out, wanted, source, destination, cookie);
+    }
+    let none = [0u8; 0];
+    if number == 8 {
+        return put_error(out, 41, &none, cookie);
+    }
+    put_error(out, 40, &none, cookie)
+}
+
+// Steps 1 to 3 on what was read of a body.
+pub fn decide_seen(
+    policy: Policy,
+    seen: Seen,
+    body: &[u8],
+    pair: Pair,
+    id: u32,
+    entry: IkeRecord,
+) -> Decision
+    ensures { λ r. ⌜ r ≡ decided policy (noNatsSeen (now (body .entry)) seen) seen (listSeen (now (body .entry)) seen) pair id entry ⌝ }
+{
+    let n = no_nats(body, seen);
+    let l = seen.list;
+    let octets = additional(body, l);
+    let families = l.families;
+    let addresses = addresses_of(families, octets);
+    decide(policy, n, seen, addresses, pair, id, entry)
+}
+
+// All that is told of a decision but the tables, with a response of so many octets.
+pub fn reply_to(d: Decision, seen: Seen, length: u16) -> Reply
+    ensures { λ r. ⌜ r ≡ decidedReply d seen length ⌝ }
+{
+    let t = seen.tally;
+    Reply {
+        number: d.number,
+        update: d.update,
+        list: d.list,
+        first: first_of(length),
+        left_off: d.left_off,
+        payloads: t.payloads,
+        offset: 0,
+        cookie: seen.cookie,
+        cookie_len: seen.cookie_len,
+        length,
+    }
+}
+
+// One request that passed checks 1 to 5, on the record that it means.
+pub fn respond_to(
+    policy: Policy,
+    entry: IkeRecord,
+    id: u32,
+    pair: Pair,
+    source: &[u8],
+    destination: &[u8],
+    first: u8,
+    body: &[u8],
+    out: &mut [u8],
+) -> CoreResult
+    requires { ⌜ (128 ≤ length (now out)) × (length (now source) ≡ 20) × (length (now destination) ≡ 20) ⌝ }
+    ensures { λ r. ⌜ r ≡ coreResult policy (asked id pair (now (source .entry)) (now (destination .entry)) first (now (body .entry))) entry ⌝ }
+    ensures { λ _. ⌜ now (out .exit) ≡ placed (now (out .entry)) 0 (coreResponse policy (asked id pair (now (source .entry)) (now (destination .entry)) first (now (body .entry))) entry) ⌝ }
+{
+    let r = read(first, body);
+    let seen = r.seen;
+    if r.number == 0 {
+        let d = decide_seen(policy, seen, body, pair, id, entry);
+        let wanted = wants_nats(seen);
+        let k = cookie(body, seen);
+        let length = respond_decided(d.number, wanted, source, destination, k, out);
+        let reply = reply_to(d, seen, length as u16);
+        let new = d.entry;
+        return CoreResult {
+            reply,
+            entry: new,
+            moves: d.update == DONE,
+        };
+    }
+    let reply = refuse_chain(r, out);
+    CoreResult {
+        reply,
+        entry,
+        moves: false,
+    }
+}

@@ -1,0 +1,62 @@
+// The lists every run begins with: late and repeated updates and lists, in every order of three.
+use super::super::requests::listed::setting::{self, cookie, list, packet, request, update};
+use super::super::tables::spis;
+use super::Case;
+use crate::address::AddressPair;
+use crate::orders::Order;
+use crate::request::Request;
+use crate::tables::Tables;
+
+const ORDERS_OF_3: [[usize; 3]; 6] =
+    [[0, 1, 2], [0, 2, 1], [1, 0, 2], [1, 2, 0], [2, 0, 1], [2, 1, 0]];
+
+pub fn all() -> Vec<Case> {
+    let mut cases = Vec::new();
+    for requests in lists() {
+        for tables in tables() {
+            for chance in ORDERS_OF_3 {
+                let requests = requests.to_vec();
+                let chance: Order = chance.to_vec();
+                cases.push(Case { tables: tables.clone(), requests, chance });
+            }
+        }
+    }
+    cases
+}
+
+/// All acceptable, none, IPv6 alone, and a twin above the record that is meant.
+fn tables() -> Vec<Tables> {
+    let mut ipv6_only = setting::tables();
+    ipv6_only.policy.rules[0].family = 6;
+    let mut twin = setting::tables();
+    twin.ike_mut()[20].spi = setting::spi();
+    vec![setting::tables(), setting::closed_tables(), ipv6_only, twin]
+}
+
+fn lists() -> Vec<[Request; 3]> {
+    let numbered = |id: u32, of: Request| {
+        let pair = AddressPair { source_port: 1000 + id as u16, ..of.pair };
+        Request { id, pair, ..of }
+    };
+    let updating = |id| numbered(id, request(&[update(), cookie(8)]));
+    let refused = |id| Request { pair: packet(4), ..updating(id) };
+    let listing = |id, size| numbered(id, request(&list(size)));
+    let both = |id, size| numbered(id, request(&[&[update()], &list(size)[..]].concat()));
+    let of_other = |of: Request| Request { spi: spis::ike(2), ..of };
+    let of_none = |of: Request| Request { spi: 0, ..of };
+    vec![
+        [updating(6), updating(7), updating(8)],
+        [updating(3), updating(4), updating(5)],
+        [updating(6), updating(6), updating(7)],
+        [updating(6), refused(7), updating(8)],
+        [updating(6), refused(8), updating(7)],
+        [listing(6, 3), listing(7, 0), listing(8, 17)],
+        [updating(7), listing(6, 2), updating(8)],
+        [both(6, 1), both(8, 2), both(7, 20)],
+        [listing(7, 1), listing(7, 2), updating(7)],
+        [updating(8), Request { pair: packet(4), ..both(7, 1) }, updating(9)],
+        [updating(6), of_other(updating(7)), updating(8)],
+        [of_none(updating(6)), updating(7), of_none(updating(8))],
+        [updating(9), numbered(9, request(&[cookie(8)])), listing(10, 1)],
+    ]
+}

@@ -1,0 +1,115 @@
+// The cases of demand 3: tables, a list of requests made on them, and an order left to chance.
+mod listed;
+mod sequences;
+
+use super::requests::starts;
+use crate::orders::Order;
+use crate::request::Request;
+use crate::rng::Rng;
+use crate::tables::Tables;
+
+#[derive(Debug, Clone)]
+pub struct Case {
+    pub tables: Tables,
+    pub requests: Vec<Request>,
+    /// Of which the orders to compare are made.
+    pub chance: Order,
+}
+
+/// Tells the random cases of this kind from those of others.
+const KIND_WORD: u64 = 4;
+
+/// How often a policy is made to accept all pairs, so that requests are sound.
+const OPEN: [(usize, bool); 2] = [(2, true), (1, false)];
+
+/// The cases of one seed: first the listed ones, then random ones without end.
+#[derive(Debug)]
+pub struct OrdersCases {
+    seed: u64,
+    listed: Vec<Case>,
+}
+
+impl OrdersCases {
+    pub fn new(seed: u64) -> Self {
+        OrdersCases { seed, listed: listed::all() }
+    }
+
+    pub fn case(&self, number: u64) -> Case {
+        match usize::try_from(number).ok().and_then(|place| self.listed.get(place)) {
+            Some(case) => case.clone(),
+            None => random(&mut Rng::from_words(&[self.seed, number, KIND_WORD])),
+        }
+    }
+}
+
+fn random(rng: &mut Rng) -> Case {
+    let mut tables = starts::tables(rng);
+    if rng.pick_weighted(&OPEN) {
+        starts::open(&mut tables.policy);
+    }
+    let requests = sequences::requests(rng, &mut tables);
+    let mut chance: Order = (0..requests.len()).collect();
+    rng.shuffle(&mut chance);
+    Case { tables, requests, chance }
+}
+
+#[cfg(test)]
+mod tests {
+    use super::*;
+    use crate::faults::{Fault, Faults};
+    use crate::handler::handle;
+    use crate::orders::{self, Orders};
+
+    const CASES: u64 = 2_000;
+
+    fn cases() -> impl Iterator<Item = Case> {
+        let listed = listed::all().into_iter();
+        listed.chain((0..CASES).map(|number| random(&mut Rng::from_words(&[number]))))
+    }
+
+    /// What of demand 3 isn't so of a handler with this fault.
+    fn broken(Case { tables, requests, chance }: Case, of_handler: Faults) -> Vec<String> {
+        orders::broken(&tables, &requests, &chance, Faults::NONE, |request, tables| {
+            handle(request, tables, of_handler)
+        })
+    }
+
+    #[test]
+    fn demand_3_holds_of_the_model() {
+        for case in cases() {
+            assert_eq!(broken(case, Faults::NONE), Vec::<String>::new());
+        }
+    }
+
+    #[test]
+    fn demand_3_does_not_hold_of_faulty_handlers() {
+        let told = |fault, start: &str| {
+            let mut broken = cases().flat_map(|case| broken(case, Faults::only(fault)));
+            broken.any(|broken| broken.starts_with(start))
+        };
+        assert!(told(Fault::RestCleared, "kept order: request"));
+        assert!(told(Fault::MovedByPair, "kept order: the tables"));
+        assert!(told(Fault::ListAppended, "freed order: the tables"));
+        assert!(told(Fault::NoneIsId0, "freed order: SA"));
+    }
+
+    #[test]
+    fn orders_really_differ_and_sas_are_really_freed() {
+        let (mut kept_differ, mut freed_differ, mut moved_when_freed) = (0, 0, 0);
+        for Case { tables, requests, chance } in cases() {
+            let orders = Orders::new(&tables, &requests, &chance, Faults::NONE);
+            let sequence: Order = (0..requests.len()).collect();
+            kept_differ += u64::from(orders.kept != sequence);
+            let differ = orders.freed != orders.kept;
+            freed_differ += u64::from(differ);
+            let mut ended = tables.clone();
+            let applies = |it| handle(it, &mut ended, Faults::NONE).reply.update == 1;
+            let applied =
+                requests.iter().filter(|it| orders.freed_spis.contains(&it.spi)).map(applies);
+            moved_when_freed += u64::from(differ && applied.filter(|&it| it).count() >= 2);
+        }
+        assert!(kept_differ > CASES / 2, "{kept_differ}");
+        assert!(freed_differ > CASES / 3, "{freed_differ}");
+        assert!(moved_when_freed > CASES / 5, "{moved_when_freed}");
+    }
+}

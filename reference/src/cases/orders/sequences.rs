@@ -1,0 +1,96 @@
+// Random lists of requests over few SPIs, so drawn that an SA's requests are often all sound.
+use super::super::requests::{arguments, starts};
+use crate::faults::Faults;
+use crate::request::Request;
+use crate::rng::Rng;
+use crate::tables::{find, Tables};
+
+/// How the requests of one SPI are drawn.
+#[derive(Debug, Clone, Copy)]
+enum Drawing {
+    /// All sound, no two IDs the same.
+    Sound,
+    /// All sound, with few IDs.
+    EqualIds,
+    /// All but some sound, no two IDs the same.
+    SomeUnsound,
+    Any,
+}
+
+const WEIGHTS: [(usize, Drawing); 4] =
+    [(5, Drawing::Sound), (1, Drawing::EqualIds), (2, Drawing::SomeUnsound), (1, Drawing::Any)];
+
+const MOST_REQUESTS: usize = 10;
+const MOST_SPIS: usize = 3;
+
+/// So often is a request drawn that is to be sound, or not to be.
+const TRIES: usize = 6;
+
+struct Source {
+    spi: u64,
+    drawing: Drawing,
+    /// Those yet to be given, about the marks of the record.
+    ids: Vec<u32>,
+}
+
+pub fn requests(rng: &mut Rng, tables: &mut Tables) -> Vec<Request> {
+    let mut sources: Vec<Source> = Vec::new();
+    for _ in 0..rng.between(1, MOST_SPIS) {
+        let spi = arguments::spi(rng, tables);
+        if sources.iter().all(|source| source.spi != spi) {
+            sources.push(source(rng, tables, spi));
+        }
+    }
+    let count = rng.between(2, MOST_REQUESTS);
+    let mut requests = Vec::with_capacity(count);
+    for _ in 0..count {
+        let chosen = rng.below(sources.len());
+        requests.push(sources[chosen].request(rng, tables));
+    }
+    requests
+}
+
+fn source(rng: &mut Rng, tables: &mut Tables, spi: u64) -> Source {
+    if !rng.one_in(16) {
+        starts::agree(tables, spi);
+    }
+    let place = find(&tables.ike.records, spi, Faults::NONE);
+    let marks = place.map_or([0; 2], |place| {
+        let record = &tables.ike.records[place];
+        [record.update_mark, record.list_mark]
+    });
+    let greatest_start = u64::from(u32::MAX) + 1 - MOST_REQUESTS as u64;
+    let start = rng.pick(&marks).saturating_sub(4).min(greatest_start);
+    let mut ids: Vec<u32> = (start..).take(MOST_REQUESTS).map(|id| id as u32).collect();
+    rng.shuffle(&mut ids);
+    Source { spi, drawing: rng.pick_weighted(&WEIGHTS), ids }
+}
+
+impl Source {
+    fn request(&mut self, rng: &mut Rng, tables: &Tables) -> Request {
+        let new_id = self.ids.pop().expect("there is one for each request");
+        let another_id = self.ids.first().copied().unwrap_or(new_id);
+        let one_of_few = rng.pick(&[new_id, another_id]);
+        match self.drawing {
+            Drawing::Sound => self.drawn(rng, tables, new_id, true),
+            Drawing::EqualIds => self.drawn(rng, tables, one_of_few, true),
+            Drawing::SomeUnsound => {
+                let sound = !rng.one_in(3);
+                self.drawn(rng, tables, new_id, sound)
+            }
+            Drawing::Any => arguments::request(rng, tables, self.spi),
+        }
+    }
+
+    /// A request that is sound or isn't; where none comes up, one that asks for nothing.
+    fn drawn(&self, rng: &mut Rng, tables: &Tables, id: u32, sound: bool) -> Request {
+        for _ in 0..TRIES {
+            let request = Request { id, ..arguments::plain_request(rng, tables, self.spi) };
+            if request.is_sound(tables, Faults::NONE) == sound {
+                return request;
+            }
+        }
+        let plain = arguments::plain_request(rng, tables, self.spi);
+        Request { id, first: 0, body: vec![], ..plain }
+    }
+}

@@ -1,0 +1,26 @@
+// The requests every run begins with: the papers' rows, each check, mark, list and record.
+mod checks;
+mod lists;
+mod marks;
+mod no_nats;
+mod records;
+mod responses;
+mod rows;
+pub(in crate::cases) mod setting;
+mod tallies;
+
+use super::Case;
+
+pub fn all() -> Vec<Case> {
+    [
+        rows::all(),
+        checks::all(),
+        marks::all(),
+        no_nats::all(),
+        lists::all(),
+        tallies::all(),
+        responses::all(),
+        records::all(),
+    ]
+    .concat()
+}

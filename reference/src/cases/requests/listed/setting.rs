@@ -1,0 +1,115 @@
+// What the listed requests start from: tables in which no field is 0, and requests that pass.
+use super::super::super::reader::draft::{ChainDraft, Draft};
+use super::super::super::tables::listed::contents;
+use super::super::super::tables::spis;
+use super::super::{starts, Case};
+use crate::address::AddressPair;
+use crate::notify::NotifyType;
+use crate::policy::Policy;
+use crate::request::Request;
+use crate::tables::{IkeRecord, Tables};
+
+/// The place of the record that is meant; place 0 has an SPI with the same low 32 bits.
+pub const PLACE: usize = 1;
+
+/// The marks of that record tell this message ID.
+pub const MARKED_ID: u32 = 5;
+pub const NEW_ID: u32 = 6;
+
+pub fn spi() -> u64 {
+    spis::ike(PLACE)
+}
+
+thread_local! {
+    /// Made once, since the cases share what they don't change.
+    static TABLES: Tables = made_tables();
+}
+
+/// All places in use, and all pairs acceptable.
+pub fn tables() -> Tables {
+    TABLES.with(Tables::clone)
+}
+
+fn made_tables() -> Tables {
+    let mut tables = contents::full();
+    starts::open(&mut tables.policy);
+    let record = &mut tables.ike_mut()[PLACE];
+    record.unknown = 9;
+    (record.update_mark, record.list_mark) = (u64::from(MARKED_ID) + 1, u64::from(MARKED_ID) + 1);
+    tables
+}
+
+/// The same, but that nothing is acceptable.
+pub fn closed_tables() -> Tables {
+    Tables { policy: Policy::EMPTY, ..tables() }
+}
+
+/// The same, with this done to the record that is meant.
+pub fn tables_with(change: impl Fn(&mut IkeRecord)) -> Tables {
+    let mut tables = tables();
+    change(&mut tables.ike_mut()[PLACE]);
+    tables
+}
+
+/// A packet's pair that no record has.
+pub fn packet(family: u8) -> AddressPair {
+    let mut pair = AddressPair { family, ..contents::pair(60) };
+    if family == 4 {
+        pair.source[4..].fill(0);
+        pair.destination[4..].fill(0);
+    }
+    pair
+}
+
+/// A request with a new ID and a chain of these payloads.
+pub fn request(payloads: &[Draft]) -> Request {
+    let chain = ChainDraft::of(payloads.to_vec()).assemble();
+    Request {
+        spi: spi(),
+        id: NEW_ID,
+        pair: packet(6),
+        nat_source: (0x20..0x34).collect(),
+        nat_destination: (0x60..0x74).collect(),
+        first: chain.first,
+        body: chain.body,
+        output: (0..=255).chain(0..44).collect(),
+    }
+}
+
+/// This request on the tables above.
+pub fn case(request: Request) -> Case {
+    Case { tables: tables(), request }
+}
+
+pub fn update() -> Draft {
+    Draft::notify(NotifyType::UPDATE_SA_ADDRESSES, &[])
+}
+
+pub fn cookie(size: usize) -> Draft {
+    let data: Vec<u8> = (1..=size as u8).collect();
+    Draft::notify(NotifyType::COOKIE2, &data)
+}
+
+/// An unknown payload, not critical.
+pub fn unknown() -> Draft {
+    Draft::payload(200, 0, vec![])
+}
+
+pub fn unknown_critical() -> Draft {
+    Draft::payload(200, 0x80, vec![])
+}
+
+/// As many ADDITIONAL addresses, of families that take turns; for 0, NO_ADDITIONAL_ADDRESSES.
+pub fn list(size: usize) -> Vec<Draft> {
+    let address = |place: usize| {
+        let octets: Vec<u8> = (0..16).map(|octet| (place + octet) as u8 | 1).collect();
+        match place % 2 {
+            0 => Draft::notify(NotifyType::ADDITIONAL_IP4_ADDRESS, &octets[..4]),
+            _ => Draft::notify(NotifyType::ADDITIONAL_IP6_ADDRESS, &octets),
+        }
+    };
+    match size {
+        0 => vec![Draft::notify(NotifyType::NO_ADDITIONAL_ADDRESSES, &[])],
+        _ => (0..size).map(address).collect(),
+    }
+}

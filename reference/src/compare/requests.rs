@@ -1,0 +1,64 @@
+// A request run by both programs on the same tables.
+use crate::kinds::Verdict;
+use crate::ours;
+use crate::report::{self, Detail};
+use crate::tables::changes;
+use reference::cases::requests::Case;
+use reference::faults::Faults;
+use reference::handler;
+use reference::reply::Handled;
+use reference::request::Request;
+use reference::request_fields;
+use reference::table_fields::of_differing_places;
+use reference::tables::Tables;
+
+pub fn run(case: Case, faults: Faults, detail: Detail) -> Verdict {
+    let step = Step::take(&case.request, &case.tables, faults);
+    let agrees = step.agrees();
+    if !detail.shows(agrees) {
+        return Verdict { agrees, shown: String::new() };
+    }
+    let mut lines = Vec::new();
+    if detail == Detail::AllFields {
+        lines.push("  tables at first, where not 0 or none:".to_string());
+        lines.extend(changes(&Tables::empty(), &case.tables));
+    }
+    lines.extend(step.lines(&case.request, &case.tables, detail));
+    Verdict { agrees, shown: lines.join("\n") }
+}
+
+/// What each program made of a request, and how it left the tables.
+pub struct Step<'a> {
+    pub ours: Handled<'a>,
+    pub our_tables: Tables,
+    reference: Handled<'a>,
+    reference_tables: Tables,
+}
+
+impl<'a> Step<'a> {
+    pub fn take(request: &'a Request, tables: &Tables, faults: Faults) -> Self {
+        let (mut our_tables, mut reference_tables) = (tables.clone(), tables.clone());
+        let ours = ours::requests::handle(request, &mut our_tables);
+        let reference = handler::handle(request, &mut reference_tables, faults);
+        Step { ours, our_tables, reference, reference_tables }
+    }
+
+    pub fn agrees(&self) -> bool {
+        self.ours == self.reference && self.our_tables == self.reference_tables
+    }
+
+    /// The request, and what is to be shown of both replies and of the tables.
+    pub fn lines(&self, request: &Request, before: &Tables, detail: Detail) -> Vec<String> {
+        let input = request_fields::of(request);
+        let mut lines: Vec<String> =
+            input.into_iter().map(|(name, value)| format!("  {name}: {value}")).collect();
+        let (ours, reference) = (self.ours.fields(), self.reference.fields());
+        lines.extend(report::compared(&ours, &reference, detail));
+        if detail == Detail::AllFields {
+            lines.extend(changes(before, &self.reference_tables));
+        }
+        let [ours, reference] = of_differing_places(&self.our_tables, &self.reference_tables);
+        lines.extend(report::compared(&ours, &reference, Detail::DifferingFields));
+        lines
+    }
+}

@@ -1,0 +1,194 @@
+// The request handler: what a request gives back and writes, and what it does to the tables.
+use crate::calls::Refusal;
+use crate::chain::{NOTIFY, NO_NEXT_PAYLOAD};
+use crate::faults::{Fault, Faults};
+use crate::outcome::Place;
+use crate::reply::{Handled, Reply};
+use crate::request::{Failed, Passed, Request};
+use crate::response;
+use crate::steps::{self, Effect, Unfit};
+use crate::tables::Tables;
+
+pub fn handle<'a>(request: &'a Request, tables: &mut Tables, faults: Faults) -> Handled<'a> {
+    let (mut reply, response) = match request.check(tables, faults) {
+        Err(Failed::Refused(refusal)) => refused(refusal),
+        Err(Failed::Flawed(flaw)) => {
+            let (number, offset) = (flaw.cause.answer(), flaw.offset);
+            let response = response::to_flawed(request, flaw, faults);
+            (Reply { number, offset, ..Reply::default() }, response)
+        }
+        Ok(passed) => serve(request, &passed, tables, faults),
+    };
+    reply.first = if response.is_empty() { NO_NEXT_PAYLOAD } else { NOTIFY };
+    reply.length = response.len();
+    let mut output = request.output.clone();
+    if faults.on(Fault::RestCleared) {
+        output.fill(0);
+    }
+    output[..response.len()].copy_from_slice(&response);
+    Handled { reply, output }
+}
+
+fn refused<'a>(refusal: Refusal) -> (Reply<'a>, Vec<u8>) {
+    (Reply { number: refusal as u8, ..Reply::default() }, vec![])
+}
+
+/// Steps 1 to 4.
+fn serve<'a>(
+    request: &Request,
+    passed: &Passed<'a>,
+    tables: &mut Tables,
+    faults: Faults,
+) -> (Reply<'a>, Vec<u8>) {
+    let Passed { place, summary } = passed;
+    let tally_before = tables.ike.records[*place].unknown;
+    steps::add_unknown(&mut tables.ike_mut()[*place], summary, faults);
+    let mut reply =
+        Reply { payloads: summary.payloads, cookie: Place::of(summary.cookie), ..Reply::default() };
+    let updated = steps::update(request, passed, tables, faults);
+    let record = &mut tables.ike_mut()[*place];
+    if updated.is_ok() || faults.on(Fault::UnfitList) {
+        let update = updated.unwrap_or(Effect::None);
+        let (list, left_off) = steps::list(record, request.id, summary, update, faults);
+        (reply.update, reply.list, reply.left_off) = (update as u8, list as u8, left_off);
+    }
+    match updated {
+        Ok(update) => {
+            let stale = update == Effect::Stale;
+            (reply, response::to_done(request, summary, stale, faults))
+        }
+        Err(unfit) => {
+            if faults.on(Fault::UnfitUntallied) {
+                record.unknown = tally_before;
+            }
+            let response = response::to_unfit(request, unfit, summary, faults);
+            (told_unfit(reply, unfit, faults), response)
+        }
+    }
+}
+
+/// The count of payloads and the cookie are told as with 0.
+fn told_unfit<'a>(reply: Reply<'a>, unfit: Unfit, faults: Faults) -> Reply<'a> {
+    let payloads = if faults.on(Fault::UnfitCount) { 0 } else { reply.payloads };
+    let cookie = if faults.on(Fault::UnfitCookie) { Place::default() } else { reply.cookie };
+    Reply { number: unfit as u8, payloads, cookie, ..reply }
+}
+
+#[cfg(test)]
+mod tests {
+    use super::*;
+    use crate::address::AddressPair;
+    use crate::policy::Rule;
+    use crate::tables::{IkeRecord, IpsecRecord, Record};
+
+    const OLD: AddressPair = AddressPair { family: 4, source_port: 1, ..AddressPair::ZERO };
+    const NEW: AddressPair = AddressPair { family: 4, source_port: 2, ..AddressPair::ZERO };
+    /// Not acceptable.
+    const IPV6: AddressPair = AddressPair { family: 6, ..NEW };
+
+    const UPDATE: [u8; 4] = [0, 0, 0x40, 0x10];
+    const NO_ADDITIONAL: [u8; 4] = [0, 0, 0x40, 0x0f];
+
+    /// An IKE record, an IPsec record of it, and one of another behind the same address.
+    fn tables() -> Tables {
+        let mut tables = Tables::empty();
+        tables.ike_mut()[0] = IkeRecord { spi: 7, mobike: 1, pair: OLD, ..IkeRecord::FREE };
+        tables.ipsec_mut()[0] = IpsecRecord { spi: 1, owner: 7, pair: OLD };
+        tables.ipsec_mut()[1] = IpsecRecord { spi: 2, owner: 8, pair: OLD };
+        tables.policy.count = 1;
+        tables.policy.rules[0] = Rule { family: 4, ..Rule::ZERO };
+        tables
+    }
+
+    fn address(last: u8) -> Vec<u8> {
+        vec![0, 0, 0x40, 0x0d, 10, 0, 0, last]
+    }
+
+    /// A request whose notifications are given without their headers.
+    fn request(id: u32, pair: AddressPair, notifications: &[&[u8]]) -> Request {
+        let mut body = Vec::new();
+        for (place, content) in notifications.iter().enumerate() {
+            let next = if place + 1 < notifications.len() { 41 } else { 0 };
+            body.extend([next, 0, 0, 4 + content.len() as u8]);
+            body.extend_from_slice(content);
+        }
+        let (nat_source, nat_destination) = (vec![3; 20], vec![4; 20]);
+        let first = if body.is_empty() { 0 } else { 41 };
+        let output = vec![0xff; 128];
+        Request { spi: 7, id, pair, nat_source, nat_destination, first, body, output }
+    }
+
+    /// Number, update and list.
+    fn made(tables: &mut Tables, request: &Request) -> (u8, u8, u8) {
+        let Reply { number, update, list, .. } = handle(request, tables, Faults::NONE).reply;
+        (number, update, list)
+    }
+
+    #[test]
+    fn a_refused_id_6_still_makes_id_5_stale() {
+        let mut tables = tables();
+        assert_eq!(made(&mut tables, &request(6, IPV6, &[&UPDATE])), (9, 0, 0));
+        assert_eq!(made(&mut tables, &request(5, NEW, &[&UPDATE])), (0, 2, 0));
+        assert_eq!(made(&mut tables, &request(5, IPV6, &[&UPDATE])), (0, 2, 0));
+        assert_eq!(tables.ike.records[0].pair, OLD);
+        assert_eq!(made(&mut tables, &request(7, NEW, &[&UPDATE])), (0, 1, 0));
+    }
+
+    #[test]
+    fn update_7_does_not_stop_list_5() {
+        let mut tables = tables();
+        assert_eq!(made(&mut tables, &request(7, NEW, &[&UPDATE])), (0, 1, 0));
+        assert_eq!(made(&mut tables, &request(5, NEW, &[&UPDATE, &address(1)])), (0, 2, 1));
+        assert_eq!(made(&mut tables, &request(5, NEW, &[&NO_ADDITIONAL])), (0, 0, 2));
+        assert_eq!(tables.ike.records[0].count, 1);
+    }
+
+    #[test]
+    fn a_list_replaces_the_one_before() {
+        let mut tables = tables();
+        let three = [address(1), address(2), address(3)];
+        let three: Vec<&[u8]> = three.iter().map(Vec::as_slice).collect();
+        assert_eq!(made(&mut tables, &request(1, NEW, &three)), (0, 0, 1));
+        let before = tables.ike.records[0];
+        assert_eq!(made(&mut tables, &request(2, NEW, &[&address(9)])), (0, 0, 1));
+        let after = tables.ike.records[0];
+        assert_eq!((before.count, after.count), (3, 1));
+        assert_eq!(after.addresses[0].octets[..4], [10, 0, 0, 9]);
+        assert_eq!(after.addresses[1..], IkeRecord::FREE.addresses[1..]);
+    }
+
+    #[test]
+    fn no_nats_allowed_is_compared_with_the_packet() {
+        let told = |port| [&[0, 0, 0x40, 0x12][..], &[0; 8], &[0, port, 0, 0]].concat();
+        let mut tables = tables();
+        assert_eq!(made(&mut tables, &request(1, NEW, &[&told(1), &UPDATE])), (8, 0, 0));
+        assert_eq!(made(&mut tables, &request(2, NEW, &[&UPDATE, &told(2)])), (0, 1, 0));
+        assert_eq!(made(&mut tables, &request(3, IPV6, &[&UPDATE, &told(2)])), (8, 0, 0));
+        assert_eq!(made(&mut tables, &request(4, NEW, &[&told(1)])), (0, 0, 0));
+    }
+
+    #[test]
+    fn ipsec_records_move_with_their_owner() {
+        let mut tables = tables();
+        assert_eq!(made(&mut tables, &request(0, NEW, &[&UPDATE])), (0, 1, 0));
+        assert_eq!(tables.ike.records[0].pair, NEW);
+        assert_eq!([0, 1].map(|place| tables.ipsec.records[place].pair), [NEW, OLD]);
+    }
+
+    #[test]
+    fn the_longest_response_fills_the_least_output() {
+        let detection = |last| [&[0, 0, 0x40, last][..], &[9; 20]].concat();
+        let cookie = [&[1, 0, 0x40, 0x11][..], &[5; 64]].concat();
+        let asked: [&[u8]; 4] = [&cookie, &detection(5), &UPDATE, &detection(4)];
+        let request = request(0, NEW, &asked);
+        let handled = handle(&request, &mut tables(), Faults::NONE);
+        let mut expected = vec![41, 0, 0, 28, 0, 0, 0x40, 4];
+        expected.extend([3; 20]);
+        expected.extend([41, 0, 0, 28, 0, 0, 0x40, 5]);
+        expected.extend([4; 20]);
+        expected.extend([0, 0, 0, 72, 0, 0, 0x40, 0x11]);
+        expected.extend([5; 64]);
+        assert_eq!(handled.response(), expected);
+        assert_eq!((handled.reply.cookie.offset, handled.reply.cookie.length), (8, 64));
+    }
+}

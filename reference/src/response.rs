@@ -1,0 +1,124 @@
+// Step 4 of a request: which notifications its response holds, and the octets of these.
+use crate::chain::{self, HEADER_LENGTH, NOTIFY, NO_NEXT_PAYLOAD};
+use crate::faults::{Fault, Faults};
+use crate::flaws::{Cause, Flaw};
+use crate::notify::{Notify, NotifyType, NOTIFY_LENGTH};
+use crate::request::Request;
+use crate::steps::Unfit;
+use crate::summary::{Part, Summary};
+
+/// Notifications without an SPI: their types and data.
+type Notifications<'a> = Vec<(NotifyType, &'a [u8])>;
+
+/// The error of 6 or 7.
+pub fn to_flawed(request: &Request, flaw: Flaw, faults: Faults) -> Vec<u8> {
+    let payload_type = match flaw.cause {
+        Cause::UnknownCritical { payload_type } => Some([payload_type]),
+        _ => None,
+    };
+    let mut response: Notifications = match &payload_type {
+        Some(_) if faults.on(Fault::CriticalUntold) => {
+            vec![(NotifyType::UNSUPPORTED_CRITICAL_PAYLOAD, &[])]
+        }
+        Some(data) => vec![(NotifyType::UNSUPPORTED_CRITICAL_PAYLOAD, data)],
+        None => vec![(NotifyType::INVALID_SYNTAX, &[])],
+    };
+    if faults.on(Fault::FlawedCookie) {
+        response.extend(some_cookie(request, faults));
+    }
+    octets(&response)
+}
+
+/// A cookie of a chain that is refused, which only the fault `flawed-cookie` looks for.
+fn some_cookie(request: &Request, faults: Faults) -> Option<(NotifyType, &[u8])> {
+    let payloads = chain::split(request.first, &request.body).payloads;
+    let notifies = payloads.iter().filter(|payload| payload.payload_type == NOTIFY);
+    let mut notifies = notifies.filter_map(|payload| Notify::parse(payload, faults));
+    let cookie = notifies.find(|notify| notify.notify_type == NotifyType::COOKIE2)?;
+    (8..=64).contains(&cookie.data.len()).then_some((NotifyType::COOKIE2, cookie.data))
+}
+
+/// The error of 8 or 9, then the cookie.
+pub fn to_unfit(request: &Request, unfit: Unfit, summary: &Summary, faults: Faults) -> Vec<u8> {
+    let error = match unfit {
+        Unfit::Altered => NotifyType::UNEXPECTED_NAT_DETECTED,
+        Unfit::NotAcceptable => NotifyType::UNACCEPTABLE_ADDRESSES,
+    };
+    let mut response: Notifications = vec![(error, &[])];
+    if faults.on(Fault::UnfitNatValues) {
+        response.extend(nat_values(request, summary, faults));
+    }
+    response.extend(cookie(summary));
+    if faults.on(Fault::CookieBeforeError) {
+        response.reverse();
+    }
+    octets(&response)
+}
+
+/// The NAT detection values where they are asked for, then the cookie.
+pub fn to_done(request: &Request, summary: &Summary, stale: bool, faults: Faults) -> Vec<u8> {
+    let mut response = nat_values(request, summary, faults);
+    if stale && faults.on(Fault::StaleNatValues) {
+        response.clear();
+    }
+    response.extend(cookie(summary));
+    let mut octets = octets(&response);
+    if let (Some(cookie), true) = (summary.cookie, faults.on(Fault::CookieHeader)) {
+        copy_ignored(request, cookie, &mut octets);
+    }
+    octets
+}
+
+/// The two lent values, source first, for an update with both NAT detection kinds.
+fn nat_values<'a>(
+    request: &'a Request,
+    summary: &Summary<'a>,
+    faults: Faults,
+) -> Notifications<'a> {
+    let kinds = [summary.nat_source, summary.nat_destination];
+    let enough = if faults.on(Fault::OneNatKind) { 1 } else { 2 };
+    let asked_for = kinds.iter().flatten().count() >= enough;
+    if !asked_for || !(summary.update || faults.on(Fault::NatValuesAlways)) {
+        return vec![];
+    }
+    let mut values = [&request.nat_source[..], &request.nat_destination[..]];
+    if faults.on(Fault::NatValuesEchoed) {
+        values = kinds.map(|kind| kind.map_or(&[][..], |part| part.octets));
+    }
+    let mut response = vec![
+        (NotifyType::NAT_DETECTION_SOURCE_IP, values[0]),
+        (NotifyType::NAT_DETECTION_DESTINATION_IP, values[1]),
+    ];
+    if faults.on(Fault::NatDestinationFirst) {
+        response.reverse();
+    }
+    response
+}
+
+fn cookie<'a>(summary: &Summary<'a>) -> Option<(NotifyType, &'a [u8])> {
+    summary.cookie.map(|part| (NotifyType::COOKIE2, part.octets))
+}
+
+/// A chain of these; flags, protocol IDs and SPI sizes are 0.
+fn octets(notifications: &[(NotifyType, &[u8])]) -> Vec<u8> {
+    let mut octets = Vec::new();
+    for (place, (notify_type, data)) in notifications.iter().enumerate() {
+        let is_last = place + 1 == notifications.len();
+        let length = (NOTIFY_LENGTH + data.len()) as u16;
+        octets.extend([if is_last { NO_NEXT_PAYLOAD } else { NOTIFY }, 0]);
+        octets.extend(length.to_be_bytes());
+        octets.extend([0, 0]);
+        octets.extend(notify_type.0.to_be_bytes());
+        octets.extend_from_slice(data);
+    }
+    octets
+}
+
+/// Writes the flags and the protocol ID of the request's cookie, as only `cookie-header` does.
+fn copy_ignored(request: &Request, cookie: Part, octets: &mut [u8]) {
+    let received = cookie.offset - NOTIFY_LENGTH;
+    let written = octets.len() - cookie.octets.len() - NOTIFY_LENGTH;
+    for field in [1, HEADER_LENGTH] {
+        octets[written + field] = request.body[received + field];
+    }
+}
