@@ -105,6 +105,26 @@ pub enum Fault {
     FreedAnswers,
     LastUpdateWins,
     FirstMarkIgnored,
+
+    SentShort,
+    Sent65,
+    BodyBeforeSent,
+    RefusalTally,
+    UnsentCloses,
+    UnaskedCloses,
+    MissingCloses,
+    MissingAccepted,
+    ErrorBeforeClose,
+    CookiePrefix,
+    ErrorByNumber,
+    LastError,
+    Type0NoError,
+    Failed16384,
+    ErrorsSwapped,
+    ErrorsTallied,
+    UnaskedUntallied,
+    DifferentTallied,
+    CloseUntallied,
 }
 
 const OF_READER: [(Fault, &str); 22] = [
@@ -217,6 +237,28 @@ const OF_ORDERS: [(Fault, &str); 8] = [
     (Fault::FirstMarkIgnored, "first-mark-ignored"),
 ];
 
+const OF_JUDGE: [(Fault, &str); 19] = [
+    (Fault::SentShort, "sent-short"),
+    (Fault::Sent65, "sent-65"),
+    (Fault::BodyBeforeSent, "body-before-sent"),
+    (Fault::RefusalTally, "refusal-tally"),
+    (Fault::UnsentCloses, "unsent-closes"),
+    (Fault::UnaskedCloses, "unasked-closes"),
+    (Fault::MissingCloses, "missing-closes"),
+    (Fault::MissingAccepted, "missing-accepted"),
+    (Fault::ErrorBeforeClose, "error-before-close"),
+    (Fault::CookiePrefix, "cookie-prefix"),
+    (Fault::ErrorByNumber, "error-by-number"),
+    (Fault::LastError, "last-error"),
+    (Fault::Type0NoError, "type-0-no-error"),
+    (Fault::Failed16384, "failed-16384"),
+    (Fault::ErrorsSwapped, "errors-swapped"),
+    (Fault::ErrorsTallied, "errors-tallied"),
+    (Fault::UnaskedUntallied, "unasked-untallied"),
+    (Fault::DifferentTallied, "different-tallied"),
+    (Fault::CloseUntallied, "close-untallied"),
+];
+
 /// A fault by its name, with the kind of cases that must find it.
 #[derive(Debug, Clone, Copy)]
 pub struct NamedFault {
@@ -236,6 +278,7 @@ impl NamedFault {
             Kind::Tables => &OF_TABLES,
             Kind::Requests => &OF_REQUESTS,
             Kind::Orders => &OF_ORDERS,
+            Kind::Judge => &OF_JUDGE,
         };
         faults.iter().map(move |&(fault, name)| NamedFault { fault, name, kind })
     }
@@ -260,11 +303,13 @@ impl Faults {
 #[cfg(test)]
 mod tests {
     use super::*;
+    use crate::cases::judge::{self, JudgeCases};
     use crate::cases::orders::{self, OrdersCases};
     use crate::cases::reader::ReaderCases;
     use crate::cases::requests::{self, RequestsCases};
     use crate::cases::tables::TablesCases;
     use crate::handler::handle;
+    use crate::judge::judge;
     use crate::orders::broken;
     use crate::outcome::Outcome;
     use crate::reader::read;
@@ -303,16 +348,24 @@ mod tests {
         !broken.is_empty()
     }
 
+    fn shows_in_judge(cases: &JudgeCases, number: u64, fault: Fault) -> bool {
+        let judge::Case { sent, first, body } = cases.case(number);
+        let sound = judge(&sent, first, &body, Faults::NONE);
+        sound != judge(&sent, first, &body, Faults::only(fault))
+    }
+
     #[test]
     fn every_fault_changes_some_outcome() {
         let (reader, tables) = (ReaderCases::new(1), TablesCases::new(1));
         let (requests, orders) = (RequestsCases::new(1), OrdersCases::new(1));
+        let judge = JudgeCases::new(1);
         for NamedFault { fault, name, kind } in NamedFault::all() {
             let found = (0..20_000).any(|number| match kind {
                 Kind::Reader => shows_in_reader(&reader, number, fault),
                 Kind::Tables => shows_in_tables(&tables, number, fault),
                 Kind::Requests => shows_in_requests(&requests, number, fault),
                 Kind::Orders => shows_in_orders(&orders, number, fault),
+                Kind::Judge => shows_in_judge(&judge, number, fault),
             });
             assert!(found, "{name} shows in no case");
         }

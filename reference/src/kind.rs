@@ -6,10 +6,12 @@ pub enum Kind {
     Tables,
     Requests,
     Orders,
+    Judge,
 }
 
 impl Kind {
-    pub const ALL: [Kind; 4] = [Kind::Reader, Kind::Tables, Kind::Requests, Kind::Orders];
+    pub const ALL: [Kind; 5] =
+        [Kind::Reader, Kind::Tables, Kind::Requests, Kind::Orders, Kind::Judge];
 
     pub fn name(self) -> &'static str {
         match self {
@@ -17,6 +19,7 @@ impl Kind {
             Kind::Tables => "tables",
             Kind::Requests => "requests",
             Kind::Orders => "orders",
+            Kind::Judge => "judge",
         }
     }
 }

@@ -7,6 +7,7 @@ pub mod closing;
 pub mod faults;
 pub mod flaws;
 pub mod handler;
+pub mod judge;
 pub mod kind;
 pub mod notify;
 pub mod opening;

@@ -53,8 +53,8 @@ impl NotifyType {
         Self::KNOWN.contains(&self)
     }
 
-    pub fn is_error(self) -> bool {
-        self.0 < FIRST_STATUS_TYPE
+    pub fn is_error(self, faults: Faults) -> bool {
+        self.0 < FIRST_STATUS_TYPE || (self.0 == FIRST_STATUS_TYPE && faults.on(Fault::Failed16384))
     }
 
     pub fn is_additional_address(self) -> bool {

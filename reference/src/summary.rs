@@ -97,7 +97,7 @@ impl<'a> Summary<'a> {
     }
 
     fn add_unknown(&mut self, unknown: NotifyType, faults: Faults) {
-        if unknown.is_error() {
+        if unknown.is_error(faults) {
             self.errors.push(unknown);
             if faults.on(Fault::ErrorsUntallied) {
                 return;

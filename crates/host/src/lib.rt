@@ -2,3 +2,4 @@
 pub mod chain;
 pub mod records;
 pub mod requests;
+pub mod responses;

@@ -2,4 +2,6 @@
 pub mod Chain
 pub mod Scan
 pub mod Count
+pub mod Kept
 pub mod Cookie
+pub mod Errors

@@ -1,9 +1,11 @@
 // The kinds that this program runs, and the cases of each.
+use crate::judge;
 use crate::orders;
 use crate::reader;
 use crate::report::Detail;
 use crate::requests;
 use crate::tables;
+use reference::cases::judge::JudgeCases;
 use reference::cases::orders::OrdersCases;
 use reference::cases::reader::ReaderCases;
 use reference::cases::requests::RequestsCases;
@@ -16,9 +18,11 @@ pub const TURNS: &[Kind] = &[
     Kind::Reader,
     Kind::Requests,
     Kind::Tables,
+    Kind::Judge,
     Kind::Reader,
     Kind::Requests,
     Kind::Tables,
+    Kind::Judge,
     Kind::Requests,
     Kind::Orders,
 ];
@@ -45,6 +49,7 @@ pub struct Cases {
     tables: TablesCases,
     requests: RequestsCases,
     orders: OrdersCases,
+    judge: JudgeCases,
 }
 
 impl Cases {
@@ -54,6 +59,7 @@ impl Cases {
             tables: TablesCases::new(seed),
             requests: RequestsCases::new(seed),
             orders: OrdersCases::new(seed),
+            judge: JudgeCases::new(seed),
         }
     }
 
@@ -63,6 +69,7 @@ impl Cases {
             Kind::Tables => tables::run(self.tables.case(number), faults, detail),
             Kind::Requests => requests::run(self.requests.case(number), faults, detail),
             Kind::Orders => orders::run(self.orders.case(number), faults, detail),
+            Kind::Judge => judge::run(self.judge.case(number), faults, detail),
         }
     }
 }

@@ -3,6 +3,7 @@ mod listed;
 mod sequences;
 
 use super::requests::starts;
+use crate::cases::seeded::{Kinded, Seeded};
 use crate::orders::Order;
 use crate::request::Request;
 use crate::rng::Rng;
@@ -16,31 +17,22 @@ pub struct Case {
     pub chance: Order,
 }
 
-/// Tells the random cases of this kind from those of others.
-const KIND_WORD: u64 = 4;
-
 /// How often a policy is made to accept all pairs, so that requests are sound.
 const OPEN: [(usize, bool); 2] = [(2, true), (1, false)];
 
-/// The cases of one seed: first the listed ones, then random ones without end.
-#[derive(Debug)]
-pub struct OrdersCases {
-    seed: u64,
-    listed: Vec<Case>,
-}
+impl Kinded for Case {
+    const KIND_WORD: u64 = 4;
 
-impl OrdersCases {
-    pub fn new(seed: u64) -> Self {
-        OrdersCases { seed, listed: listed::all() }
+    fn listed() -> Vec<Self> {
+        listed::all()
     }
 
-    pub fn case(&self, number: u64) -> Case {
-        match usize::try_from(number).ok().and_then(|place| self.listed.get(place)) {
-            Some(case) => case.clone(),
-            None => random(&mut Rng::from_words(&[self.seed, number, KIND_WORD])),
-        }
+    fn random(rng: &mut Rng) -> Self {
+        random(rng)
     }
 }
+
+pub type OrdersCases = Seeded<Case>;
 
 fn random(rng: &mut Rng) -> Case {
     let mut tables = starts::tables(rng);

@@ -7,6 +7,7 @@ pub(super) mod mutation;
 mod noise;
 pub(super) mod well_formed;
 
+use crate::cases::seeded::{Kinded, Seeded};
 use crate::rng::Rng;
 use damage::Damage;
 
@@ -39,25 +40,19 @@ const WEIGHTS: [(usize, Making); 7] = [
     (6, Making::Noise),
 ];
 
-/// The reader's cases of one seed: first the listed ones, then random ones without end.
-#[derive(Debug)]
-pub struct ReaderCases {
-    seed: u64,
-    listed: Vec<Case>,
-}
+impl Kinded for Case {
+    const KIND_WORD: u64 = 1;
 
-impl ReaderCases {
-    pub fn new(seed: u64) -> Self {
-        ReaderCases { seed, listed: listed::all() }
+    fn listed() -> Vec<Self> {
+        listed::all()
     }
 
-    pub fn case(&self, number: u64) -> Case {
-        match usize::try_from(number).ok().and_then(|place| self.listed.get(place)) {
-            Some(case) => case.clone(),
-            None => random(&mut Rng::from_words(&[self.seed, number])),
-        }
+    fn random(rng: &mut Rng) -> Self {
+        random(rng)
     }
 }
+
+pub type ReaderCases = Seeded<Case>;
 
 pub(super) fn random(rng: &mut Rng) -> Case {
     match rng.pick_weighted(&WEIGHTS) {

@@ -4,6 +4,7 @@ mod chains;
 pub(super) mod listed;
 pub(super) mod starts;
 
+use crate::cases::seeded::{Kinded, Seeded};
 use crate::request::Request;
 use crate::rng::Rng;
 use crate::tables::Tables;
@@ -14,28 +15,19 @@ pub struct Case {
     pub request: Request,
 }
 
-/// Tells the random cases of this kind from those of others.
-const KIND_WORD: u64 = 3;
+impl Kinded for Case {
+    const KIND_WORD: u64 = 3;
 
-/// The handler's cases of one seed: first the listed ones, then random ones without end.
-#[derive(Debug)]
-pub struct RequestsCases {
-    seed: u64,
-    listed: Vec<Case>,
-}
-
-impl RequestsCases {
-    pub fn new(seed: u64) -> Self {
-        RequestsCases { seed, listed: listed::all() }
+    fn listed() -> Vec<Self> {
+        listed::all()
     }
 
-    pub fn case(&self, number: u64) -> Case {
-        match usize::try_from(number).ok().and_then(|place| self.listed.get(place)) {
-            Some(case) => case.clone(),
-            None => random(&mut Rng::from_words(&[self.seed, number, KIND_WORD])),
-        }
+    fn random(rng: &mut Rng) -> Self {
+        random(rng)
     }
 }
+
+pub type RequestsCases = Seeded<Case>;
 
 fn random(rng: &mut Rng) -> Case {
     let mut tables = starts::tables(rng);

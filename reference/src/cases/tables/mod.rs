@@ -7,6 +7,7 @@ pub(super) mod shapes;
 pub(super) mod spis;
 
 use crate::calls::Call;
+use crate::cases::seeded::{Kinded, Seeded};
 use crate::rng::Rng;
 use crate::tables::Tables;
 use shapes::Shape;
@@ -26,28 +27,19 @@ const WEIGHTS: [(usize, Shape); 5] = [
     (4, Shape::Hostile),
 ];
 
-/// Tells the random cases of this kind from those of others.
-const KIND_WORD: u64 = 2;
+impl Kinded for Case {
+    const KIND_WORD: u64 = 2;
 
-/// The tables' cases of one seed: first the listed ones, then random ones without end.
-#[derive(Debug)]
-pub struct TablesCases {
-    seed: u64,
-    listed: Vec<Case>,
-}
-
-impl TablesCases {
-    pub fn new(seed: u64) -> Self {
-        TablesCases { seed, listed: listed::all() }
+    fn listed() -> Vec<Self> {
+        listed::all()
     }
 
-    pub fn case(&self, number: u64) -> Case {
-        match usize::try_from(number).ok().and_then(|place| self.listed.get(place)) {
-            Some(case) => case.clone(),
-            None => random(&mut Rng::from_words(&[self.seed, number, KIND_WORD])),
-        }
+    fn random(rng: &mut Rng) -> Self {
+        random(rng)
     }
 }
+
+pub type TablesCases = Seeded<Case>;
 
 fn random(rng: &mut Rng) -> Case {
     let shape = rng.pick_weighted(&WEIGHTS);

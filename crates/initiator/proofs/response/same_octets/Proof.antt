@@ -1,0 +1,41 @@
+-- `initiator::response::same_octets` meets its contract. The loop's invariant: the first i octets are the same.
+-- Assumes nothing.
+use Prim.Native.Nat.{_≤_, _-_}
+use mathlib.Core.Path.{_≡_, refl, sym}
+use mathlib.Core.Bool.{true}
+use borrow.Author.Needs.{needs}
+use borrow.Author.Tests.{eq-eqb, ne-eqb}
+use native.Mathlib.Omega.{arith}
+use lib.ListN.{length}
+use Rattle.octets.specs.Lists.{allBelow, sameAt}
+use Rattle.octets.proofs.Below.{one-more, one-fails}
+use Rattle.initiator.proofs.response.same_octets.Statement.{statement}
+use Rattle.initiator.proofs.response.same_octets.Tie as tie
+
+abbrev Inv-loop : tie.InvT-loop
+Inv-loop a b i₀ i = (i ≤ length a) × (allBelow (sameAt a b) i ≡ true)
+
+abbrev μ-loop : tie.MeasureT-loop
+μ-loop a b i₀ i = length a - i
+
+pub same-octets-spec : {M : Type 1} → statement M
+same-octets-spec =
+    tie.close
+    (tie.spec
+    Inv-loop
+    μ-loop
+    (λ c. (search needs, refl))
+    (λ c. search needs)
+    (λ c. search needs)
+    (λ c.
+    let a = c .before .before .before .before .before .args in
+    sym (one-fails (sameAt (a .a .now) (a .b .now)) (c .before .before .before .before .loop .i) (length (a .a .now)) (c .before .before .before .loop-test .taken) (ne-eqb _ _ (c .if1 .taken))))
+    (λ c. search needs)
+    (λ c. search needs)
+    (λ c.
+    let a = c .before .before .before .before .before .args in
+    let l = c .before .before .before .before .loop in
+    (omega arith, one-more (sameAt (a .a .now) (a .b .now)) (l .i) (l .inv .1) (eq-eqb _ _ (c .if1 .left))))
+    (λ c.
+    let same : c .before .loop .i ≡ length (c .before .before .args .a .now) = omega arith in
+    sym (rw same at (c .before .loop .inv .1))))

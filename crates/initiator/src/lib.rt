@@ -1,0 +1,2 @@
+// The initiator's end: what a response comes to.
+pub mod response;

@@ -1,0 +1,150 @@
+// The responder's answer to a request of ours: accepted, refused, or so wrong that the IKE SA is to be closed.
+use findings::seen::Tally;
+use findings::values::cookie;
+use reader::read::read;
+ghost use mathlib.Core.Path.{_≡_};
+ghost use Prim.Native.Nat.{_≤_};
+ghost use lib.ListN.{length};
+ghost use Rattle.octets.specs.Lists.{sameOctets};
+ghost use Rattle.initiator.specs.Response.{cookieFits, closes, errorOutcome, outcomeOf, tallyOf, refusal, assessment};
+
+// What a response comes to. 01's words for the numbers: close, NAT seen, unacceptable, failed, accepted; NONE with refusals.
+pub const NONE: u8 = 0;
+
+pub const CLOSE: u8 = 1;
+
+pub const NAT_SEEN: u8 = 2;
+
+pub const UNACCEPTABLE: u8 = 3;
+
+pub const FAILED: u8 = 4;
+
+pub const ACCEPTED: u8 = 5;
+
+// All that is told of a response.
+#[repr(C)]
+pub struct Assessment {
+    pub number: u8,
+    pub outcome: u8,
+    pub payloads: u16,
+    pub offset: u16,
+    pub tally: u32,
+}
+
+// Whether a cookie of n octets may be sent; 0 octets mean that none is.
+pub fn cookie_fits(n: usize) -> bool
+    ensures { λ r. ⌜ r ≡ cookieFits n ⌝ }
+{
+    if n == 0 {
+        return true;
+    }
+    if n < 8 {
+        return false;
+    }
+    n <= 64
+}
+
+// Whether two parts of the same length have the same octets.
+pub fn same_octets(a: &[u8], b: &[u8]) -> bool
+    requires { ⌜ length (now a) ≡ length (now b) ⌝ }
+    ensures { λ r. ⌜ r ≡ sameOctets (length (now (a .entry))) (now (a .entry)) (now (b .entry)) ⌝ }
+{
+    let mut i = 0;
+    while i < a.len() {
+        if a[i] != b[i] {
+            return false;
+        }
+        i += 1;
+    }
+    true
+}
+
+// Whether the response doesn't bring back the cookie that was sent.
+pub fn must_close(sent: &[u8], got: &[u8], errors: u16) -> bool
+    ensures { λ r. ⌜ r ≡ closes (now (sent .entry)) (now (got .entry)) errors ⌝ }
+{
+    let asked = sent.len();
+    if asked == 0 {
+        return false;
+    }
+    if got.len() == 0 {
+        return errors == 0;
+    }
+    if asked == got.len() {
+        if same_octets(sent, got) { false } else { true }
+    } else {
+        true
+    }
+}
+
+// What an error of this notify type is told as.
+pub fn error_outcome(number: u16) -> u8
+    ensures { λ r. ⌜ r ≡ errorOutcome number ⌝ }
+{
+    if number == 41 {
+        return NAT_SEEN;
+    }
+    if number == 40 { UNACCEPTABLE } else { FAILED }
+}
+
+pub fn outcome_of(sent: &[u8], got: &[u8], t: Tally) -> u8
+    ensures { λ r. ⌜ r ≡ outcomeOf (now (sent .entry)) (now (got .entry)) t ⌝ }
+{
+    if must_close(sent, got, t.errors) {
+        return CLOSE;
+    }
+    if t.errors == 0 {
+        return ACCEPTED;
+    }
+    error_outcome(t.first_error)
+}
+
+// What was unknown in the response: errors are known here, and a cookie that wasn't asked for is not.
+pub fn tally_of(sent: &[u8], got: &[u8], t: Tally) -> u32
+    requires { ⌜ t .errors ≤ t .«unknown_notifies» ⌝ }
+    ensures { λ r. ⌜ r ≡ tallyOf (now (sent .entry)) (now (got .entry)) t ⌝ }
+{
+    let others = t.unknown_notifies - t.errors;
+    let unknown = t.unknown_payloads as u32 + others as u32;
+    if sent.len() == 0 {
+        if got.len() != 0 {
+            return unknown + 1;
+        }
+    }
+    unknown
+}
+
+pub fn refuse(number: u8, offset: u16) -> Assessment
+    ensures { λ r. ⌜ r ≡ refusal number offset ⌝ }
+{
+    Assessment {
+        number,
+        outcome: NONE,
+        payloads: 0,
+        offset,
+        tally: 0,
+    }
+}
+
+// Says what a response comes to, given the cookie sent with the request (empty: none).
+pub fn assess(sent: &[u8], first: u8, body: &[u8]) -> Assessment
+    ensures { λ r. ⌜ r ≡ assessment (now (sent .entry)) first (now (body .entry)) ⌝ }
+{
+    if cookie_fits(sent.len()) {
+        let r = read(first, body);
+        if r.number == 0 {
+            let seen = r.seen;
+            let t = seen.tally;
+            let got = cookie(body, seen);
+            return Assessment {
+                number: 0,
+                outcome: outcome_of(sent, got, t),
+                payloads: t.payloads,
+                offset: 0,
+                tally: tally_of(sent, got, t),
+            };
+        }
+        return refuse(r.number, r.offset);
+    }
+    refuse(1, 0)
+}

@@ -1,0 +1,60 @@
+// The judge's cases: the cookie that was sent, and a response.
+mod listed;
+mod responses;
+
+use super::reader;
+use crate::cases::seeded::{Kinded, Seeded};
+use crate::rng::Rng;
+
+#[derive(Debug, Clone, PartialEq, Eq)]
+pub struct Case {
+    /// Empty if none was sent.
+    pub sent: Vec<u8>,
+    pub first: u8,
+    pub body: Vec<u8>,
+}
+
+impl Case {
+    fn of(sent: Vec<u8>, response: reader::Case) -> Self {
+        Case { sent, first: response.first, body: response.body }
+    }
+}
+
+impl Kinded for Case {
+    const KIND_WORD: u64 = 5;
+
+    fn listed() -> Vec<Self> {
+        listed::all()
+    }
+
+    fn random(rng: &mut Rng) -> Self {
+        responses::random(rng)
+    }
+}
+
+pub type JudgeCases = Seeded<Case>;
+
+#[cfg(test)]
+mod tests {
+    use super::*;
+    use crate::faults::Faults;
+    use crate::judge::judge;
+    use std::collections::BTreeMap;
+
+    #[test]
+    fn random_cases_meet_every_answer_often() {
+        let mut met = BTreeMap::new();
+        for number in 0..5_000 {
+            let Case { sent, first, body } = responses::random(&mut Rng::from_words(&[number]));
+            let judged = judge(&sent, first, &body, Faults::NONE);
+            *met.entry((judged.number, judged.outcome, sent.is_empty())).or_insert(0) += 1;
+        }
+        let with_sent = [(1, 0), (3, 0), (6, 0), (7, 0), (0, 1), (0, 2), (0, 3), (0, 4), (0, 5)];
+        let without = [(3, 0), (6, 0), (7, 0), (0, 2), (0, 3), (0, 4), (0, 5)];
+        let with_sent = with_sent.map(|(number, outcome)| (number, outcome, false));
+        let without = without.map(|(number, outcome)| (number, outcome, true));
+        let answers: Vec<_> = with_sent.into_iter().chain(without).collect();
+        assert!(answers.iter().all(|answer| met.get(answer).is_some_and(|&n| n > 20)), "{met:?}");
+        assert_eq!(met.len(), answers.len());
+    }
+}

@@ -1,0 +1,262 @@
+// The judge of responses at the display's end: a verdict by the cookie sent and the response.
+use crate::calls::Refusal;
+use crate::chain::{self, Class};
+use crate::faults::{Fault, Faults};
+use crate::notify::NotifyType;
+use crate::reader::{self, Answer};
+use crate::summary::Summary;
+
+/// What a response that was read means, with its number.
+#[derive(Debug, Clone, Copy, PartialEq, Eq)]
+pub enum Verdict {
+    Close = 1,
+    NatSeen = 2,
+    Unacceptable = 3,
+    Failed = 4,
+    Accepted = 5,
+}
+
+/// What the judge gives back, in the form in which the two programs are compared.
+#[derive(Debug, Clone, Copy, Default, PartialEq, Eq)]
+pub struct Judged {
+    pub number: u8,
+    /// The verdict's number; 0 with refusals.
+    pub outcome: u8,
+    pub payloads: u16,
+    /// Told with 6 and 7.
+    pub offset: u16,
+    pub tally: u32,
+}
+
+impl Judged {
+    /// Every field by name, to be shown.
+    pub fn fields(&self) -> Vec<(String, String)> {
+        let fields = [
+            ("number", self.number.to_string()),
+            ("outcome", self.outcome.to_string()),
+            ("payloads", self.payloads.to_string()),
+            ("offset", self.offset.to_string()),
+            ("tally", self.tally.to_string()),
+        ];
+        fields.map(|(name, value)| (name.to_string(), value)).to_vec()
+    }
+}
+
+/// Judges a response to a request that was sent with this cookie; an empty one is none.
+pub fn judge(sent: &[u8], first: u8, body: &[u8], faults: Faults) -> Judged {
+    let reading = reader::read(first, body, faults);
+    let answer = reading.answer;
+    let too_long_first = answer == Answer::BodyTooLong && faults.on(Fault::BodyBeforeSent);
+    if !may_be_sent(sent.len(), faults) && !too_long_first {
+        return Judged { number: Refusal::Argument as u8, ..Judged::default() };
+    }
+    if answer != Answer::Read {
+        let (number, offset) = (answer.number(), answer.offset());
+        let kept = faults.on(Fault::RefusalTally);
+        let tally = if kept { unknown_before(first, body, offset, faults) } else { 0 };
+        return Judged { number, offset: offset as u16, tally, ..Judged::default() };
+    }
+    let summary = &reading.summary;
+    let verdict = verdict(sent, summary, faults);
+    let untallied = verdict == Verdict::Close && faults.on(Fault::CloseUntallied);
+    let tally = if untallied { 0 } else { tally(sent, summary, faults) };
+    let payloads = summary.payloads as u16;
+    Judged { number: 0, outcome: verdict as u8, payloads, offset: 0, tally }
+}
+
+/// Check 1: no cookie, or one of 8 to 64 octets.
+fn may_be_sent(size: usize, faults: Faults) -> bool {
+    match size {
+        0 | 8..=64 => true,
+        1..=7 => faults.on(Fault::SentShort),
+        65 => faults.on(Fault::Sent65),
+        _ => false,
+    }
+}
+
+fn verdict(sent: &[u8], summary: &Summary, faults: Faults) -> Verdict {
+    let error = told_error(&summary.errors, faults);
+    if closes(sent, summary, error.is_some(), faults) {
+        return Verdict::Close;
+    }
+    let swapped = faults.on(Fault::ErrorsSwapped);
+    match error {
+        None => Verdict::Accepted,
+        Some(NotifyType::UNEXPECTED_NAT_DETECTED) if swapped => Verdict::Unacceptable,
+        Some(NotifyType::UNACCEPTABLE_ADDRESSES) if swapped => Verdict::NatSeen,
+        Some(NotifyType::UNEXPECTED_NAT_DETECTED) => Verdict::NatSeen,
+        Some(NotifyType::UNACCEPTABLE_ADDRESSES) => Verdict::Unacceptable,
+        Some(_) => Verdict::Failed,
+    }
+}
+
+/// A cookie was sent, and a different one is there, or none and no error either.
+fn closes(sent: &[u8], summary: &Summary, error: bool, faults: Faults) -> bool {
+    let asked = !sent.is_empty();
+    match summary.cookie {
+        Some(_) if error && faults.on(Fault::ErrorBeforeClose) => false,
+        Some(cookie) => {
+            (asked || faults.on(Fault::UnaskedCloses)) && !same_cookie(sent, cookie.octets, faults)
+        }
+        None => {
+            (asked || faults.on(Fault::UnsentCloses))
+                && (!error || faults.on(Fault::MissingCloses))
+                && !faults.on(Fault::MissingAccepted)
+        }
+    }
+}
+
+fn same_cookie(sent: &[u8], there: &[u8], faults: Faults) -> bool {
+    if faults.on(Fault::CookiePrefix) {
+        return sent.iter().zip(there).all(|(one, other)| one == other);
+    }
+    sent == there
+}
+
+/// The first error in the chain's order.
+fn told_error(errors: &[NotifyType], faults: Faults) -> Option<NotifyType> {
+    let mut errors = errors.iter().copied();
+    if faults.on(Fault::Type0NoError) {
+        errors.find(|error| error.0 != 0)
+    } else if faults.on(Fault::LastError) {
+        errors.last()
+    } else if faults.on(Fault::ErrorByNumber) {
+        errors.max_by_key(|&error| match error {
+            NotifyType::UNEXPECTED_NAT_DETECTED => 2,
+            NotifyType::UNACCEPTABLE_ADDRESSES => 1,
+            _ => 0,
+        })
+    } else {
+        errors.next()
+    }
+}
+
+/// Unknown payloads and notifications as in step 1 but for errors, and a COOKIE2 not asked for.
+fn tally(sent: &[u8], summary: &Summary, faults: Faults) -> u32 {
+    let errors = if faults.on(Fault::ErrorsTallied) { 0 } else { summary.errors.len() };
+    let unknown = summary.unknown_payloads + summary.unknown_notifies.saturating_sub(errors);
+    let unasked = match summary.cookie {
+        Some(_) if faults.on(Fault::UnaskedUntallied) => false,
+        Some(cookie) if faults.on(Fault::DifferentTallied) => cookie.octets != sent,
+        Some(_) => sent.is_empty(),
+        None => false,
+    };
+    unknown as u32 + u32::from(unasked)
+}
+
+/// The unknown payloads before a flaw, for the fault that tallies them.
+fn unknown_before(first: u8, body: &[u8], offset: usize, faults: Faults) -> u32 {
+    let payloads = chain::split(first, body).payloads;
+    let before = payloads.iter().take_while(|payload| payload.offset < offset);
+    before.filter(|payload| Class::of(payload.payload_type, faults) == Class::Unknown).count()
+        as u32
+}
+
+#[cfg(test)]
+mod tests {
+    use super::*;
+
+    const SENT: [u8; 8] = [1, 2, 3, 4, 5, 6, 7, 8];
+    const OTHER: [u8; 8] = [1, 2, 3, 4, 5, 6, 7, 9];
+    const NONE: [u8; 0] = [];
+    const COOKIE2: u16 = 16401;
+
+    /// Notifications by type and data, then this many unknown payloads.
+    fn response(notifications: &[(u16, &[u8])], unknown: usize) -> (u8, Vec<u8>) {
+        let mut payloads: Vec<(u8, Vec<u8>)> = Vec::new();
+        for (notify_type, data) in notifications {
+            let content = [&[0, 0][..], &notify_type.to_be_bytes(), data].concat();
+            payloads.push((41, content));
+        }
+        payloads.extend(vec![(200, vec![]); unknown]);
+        let types: Vec<u8> = payloads.iter().map(|payload| payload.0).chain([0]).collect();
+        let mut body = Vec::new();
+        for (place, (_, content)) in payloads.iter().enumerate() {
+            body.extend([types[place + 1], 0, 0, 4 + content.len() as u8]);
+            body.extend(content);
+        }
+        (types[0], body)
+    }
+
+    fn judged(sent: &[u8], notifications: &[(u16, &[u8])], unknown: usize) -> Judged {
+        let (first, body) = response(notifications, unknown);
+        judge(sent, first, &body, Faults::NONE)
+    }
+
+    fn verdict_of(sent: &[u8], notifications: &[(u16, &[u8])]) -> u8 {
+        let judged = judged(sent, notifications, 0);
+        assert_eq!((judged.number, judged.offset), (0, 0));
+        assert_eq!(usize::from(judged.payloads), notifications.len());
+        judged.outcome
+    }
+
+    #[test]
+    fn without_an_error_or_a_cookie_sent_it_is_accepted() {
+        assert_eq!(verdict_of(&NONE, &[]), 5);
+        assert_eq!(verdict_of(&NONE, &[(16384, &[])]), 5);
+        assert_eq!(verdict_of(&NONE, &[(COOKIE2, &OTHER)]), 5);
+        assert_eq!(verdict_of(&SENT, &[(COOKIE2, &SENT)]), 5);
+    }
+
+    #[test]
+    fn each_error_is_told() {
+        for (error, told) in [(41, 2), (40, 3), (7, 4), (1, 4), (14, 4), (0, 4), (16383, 4)] {
+            assert_eq!(verdict_of(&NONE, &[(error, &[])]), told);
+            assert_eq!(verdict_of(&SENT, &[(error, &[]), (COOKIE2, &SENT)]), told);
+            assert_eq!(verdict_of(&SENT, &[(COOKIE2, &SENT), (error, &[])]), told);
+        }
+    }
+
+    #[test]
+    fn the_first_error_is_told() {
+        assert_eq!(verdict_of(&NONE, &[(7, &[]), (40, &[]), (41, &[])]), 4);
+        assert_eq!(verdict_of(&NONE, &[(40, &[]), (41, &[]), (7, &[])]), 3);
+        assert_eq!(verdict_of(&NONE, &[(16403, &[]), (41, &[]), (40, &[])]), 2);
+    }
+
+    #[test]
+    fn a_different_cookie_closes_beside_an_error_too() {
+        assert_eq!(verdict_of(&SENT, &[(COOKIE2, &OTHER)]), 1);
+        assert_eq!(verdict_of(&SENT, &[(COOKIE2, &OTHER), (40, &[])]), 1);
+        assert_eq!(verdict_of(&SENT, &[(41, &[]), (COOKIE2, &OTHER)]), 1);
+    }
+
+    #[test]
+    fn a_cookie_of_another_length_is_different() {
+        let longer = [&SENT[..], &[9]].concat();
+        assert_eq!(verdict_of(&SENT, &[(COOKIE2, &longer)]), 1);
+        assert_eq!(verdict_of(&longer, &[(COOKIE2, &SENT)]), 1);
+        assert_eq!(verdict_of(&longer, &[(COOKIE2, &longer)]), 5);
+    }
+
+    #[test]
+    fn a_missing_cookie_closes_without_an_error_only() {
+        assert_eq!(verdict_of(&SENT, &[]), 1);
+        assert_eq!(verdict_of(&SENT, &[(16384, &[])]), 1);
+        assert_eq!(verdict_of(&SENT, &[(41, &[])]), 2);
+        assert_eq!(verdict_of(&SENT, &[(7, &[])]), 4);
+    }
+
+    #[test]
+    fn the_tally_leaves_errors_out_and_adds_an_unasked_cookie() {
+        let mixed: [(u16, &[u8]); 4] =
+            [(40, &[]), (16384, &[]), (COOKIE2, &SENT), (16396, &[1, 2])];
+        assert_eq!(judged(&SENT, &mixed, 2).tally, 3);
+        assert_eq!(judged(&NONE, &mixed, 2).tally, 4);
+        let closed = judged(&OTHER, &mixed, 2);
+        assert_eq!((closed.outcome, closed.payloads, closed.tally), (1, 6, 3));
+    }
+
+    #[test]
+    fn refusals_give_0() {
+        let refused = |number, offset| Judged { number, offset, ..Judged::default() };
+        let judge = |sent: &[u8], first, body: &[u8]| judge(sent, first, body, Faults::NONE);
+        for size in [1, 7, 65, 66, 300] {
+            assert_eq!(judge(&vec![1; size], 41, &[0; 4097]), refused(1, 0));
+        }
+        assert_eq!(judge(&[1; 64], 200, &[0; 4097]), refused(3, 0));
+        assert_eq!(judge(&SENT, 200, &[41, 0, 0, 4, 0, 0, 0, 7, 0, 0, 0]), refused(6, 4));
+        assert_eq!(judge(&NONE, 200, &[201, 0, 0, 4, 0, 0x80, 0, 4]), refused(7, 4));
+        assert_eq!(judge(&NONE, 0, &[0; 4096]), refused(6, 0));
+    }
+}
