@@ -26,6 +26,11 @@ pub struct AddressPair {
 
 impl Address {
     pub const ZERO: Self = Address { family: 0, octets: [0; 16] };
+
+    /// Whether the family is allowed and the address doesn't pass its family's octets.
+    pub fn is_sound(&self) -> bool {
+        octet_count(self.family).is_some_and(|count| is_zero_past(&self.octets, count))
+    }
 }
 
 impl AddressPair {
@@ -56,5 +61,9 @@ pub fn octet_count(family: u8) -> Option<usize> {
 pub fn are_sound(family: u8, both: [&AddressOctets; 2], faults: Faults) -> bool {
     let Some(count) = octet_count(family) else { return false };
     let looked_at = if faults.on(Fault::SourceTailOnly) { &both[..1] } else { &both[..] };
-    looked_at.iter().all(|octets| octets[count..].iter().all(|&octet| octet == 0))
+    looked_at.iter().all(|octets| is_zero_past(octets, count))
+}
+
+fn is_zero_past(octets: &AddressOctets, count: usize) -> bool {
+    octets[count..].iter().all(|&octet| octet == 0)
 }

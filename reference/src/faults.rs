@@ -125,6 +125,63 @@ pub enum Fault {
     UnaskedUntallied,
     DifferentTallied,
     CloseUntallied,
+
+    NoNatsFirst,
+    DestinationFirst,
+    CookieFirst,
+    FamiliesSorted,
+    FlagWritten,
+    ReservedWritten,
+    ProtocolWritten,
+    SpiSizeWritten,
+    NextAtEnd,
+    TailOverwritten,
+    RefusalClears,
+    LengthOffByOne,
+    EmptyFirst41,
+    Ipv6AsIpv4,
+    WrittenPortsSwapped,
+    ListOf0None,
+    NeedsUpdate,
+    EmptyNeedsNoRoom,
+    RoomAsNeeded,
+    Room565,
+    RoomFirst,
+    UnaskedPair,
+    UnaskedValues,
+    UnaskedAddress,
+    PairTail,
+    AddressTail,
+    AddressFamily5,
+    SeventeenCut,
+    CountByOctet,
+    NoneWithAddresses,
+    OneKindWritten,
+    ValueOf19,
+    DestinationValueAny,
+    Cookie7Written,
+    Cookie65Written,
+
+    AskedListOnce,
+    AskedPastCount,
+    AskedPairAlways,
+    AskedValuesAlways,
+    PlainReserved,
+    PlainCritical,
+    PlainProtocol,
+    PlainAnyOrder,
+    PlainMobike,
+    PlainUnknownNotify,
+    PlainUnknown,
+    PlainSkipped,
+    PlainSourceAlone,
+    PlainDestinationAlone,
+    PlainTwoSources,
+    PlainSeventeen,
+    PlainFamilyOrder,
+    PlainNotEmpty,
+    PlainWithoutNone,
+    PlainNeedsUpdate,
 }
 
 const OF_READER: [(Fault, &str); 22] = [
@@ -259,6 +316,67 @@ const OF_JUDGE: [(Fault, &str); 19] = [
     (Fault::CloseUntallied, "close-untallied"),
 ];
 
+const OF_WRITER: [(Fault, &str); 35] = [
+    (Fault::NoNatsFirst, "no-nats-first"),
+    (Fault::DestinationFirst, "destination-first"),
+    (Fault::CookieFirst, "cookie-first"),
+    (Fault::FamiliesSorted, "families-sorted"),
+    (Fault::FlagWritten, "flag-written"),
+    (Fault::ReservedWritten, "reserved-written"),
+    (Fault::ProtocolWritten, "protocol-written"),
+    (Fault::SpiSizeWritten, "spi-size-written"),
+    (Fault::NextAtEnd, "next-at-end"),
+    (Fault::TailOverwritten, "tail-overwritten"),
+    (Fault::RefusalClears, "refusal-clears"),
+    (Fault::LengthOffByOne, "length-off-by-one"),
+    (Fault::EmptyFirst41, "empty-first-41"),
+    (Fault::Ipv6AsIpv4, "ipv6-as-ipv4"),
+    (Fault::WrittenPortsSwapped, "written-ports-swapped"),
+    (Fault::ListOf0None, "list-of-0-none"),
+    (Fault::NeedsUpdate, "needs-update"),
+    (Fault::EmptyNeedsNoRoom, "empty-needs-no-room"),
+    (Fault::RoomAsNeeded, "room-as-needed"),
+    (Fault::Room565, "room-565"),
+    (Fault::RoomFirst, "room-first"),
+    (Fault::UnaskedPair, "unasked-pair"),
+    (Fault::UnaskedValues, "unasked-values"),
+    (Fault::UnaskedAddress, "unasked-address"),
+    (Fault::PairTail, "pair-tail"),
+    (Fault::AddressTail, "address-tail"),
+    (Fault::AddressFamily5, "address-family-5"),
+    (Fault::SeventeenCut, "seventeen-cut"),
+    (Fault::CountByOctet, "count-by-octet"),
+    (Fault::NoneWithAddresses, "none-with-addresses"),
+    (Fault::OneKindWritten, "one-kind-written"),
+    (Fault::ValueOf19, "value-of-19"),
+    (Fault::DestinationValueAny, "destination-value-any"),
+    (Fault::Cookie7Written, "cookie-7-written"),
+    (Fault::Cookie65Written, "cookie-65-written"),
+];
+
+const OF_ROUND_TRIPS: [(Fault, &str); 20] = [
+    (Fault::AskedListOnce, "asked-list-once"),
+    (Fault::AskedPastCount, "asked-past-count"),
+    (Fault::AskedPairAlways, "asked-pair-always"),
+    (Fault::AskedValuesAlways, "asked-values-always"),
+    (Fault::PlainReserved, "plain-reserved"),
+    (Fault::PlainCritical, "plain-critical"),
+    (Fault::PlainProtocol, "plain-protocol"),
+    (Fault::PlainAnyOrder, "plain-any-order"),
+    (Fault::PlainMobike, "plain-mobike"),
+    (Fault::PlainUnknownNotify, "plain-unknown-notify"),
+    (Fault::PlainUnknown, "plain-unknown"),
+    (Fault::PlainSkipped, "plain-skipped"),
+    (Fault::PlainSourceAlone, "plain-source-alone"),
+    (Fault::PlainDestinationAlone, "plain-destination-alone"),
+    (Fault::PlainTwoSources, "plain-two-sources"),
+    (Fault::PlainSeventeen, "plain-seventeen"),
+    (Fault::PlainFamilyOrder, "plain-family-order"),
+    (Fault::PlainNotEmpty, "plain-not-empty"),
+    (Fault::PlainWithoutNone, "plain-without-none"),
+    (Fault::PlainNeedsUpdate, "plain-needs-update"),
+];
+
 /// A fault by its name, with the kind of cases that must find it.
 #[derive(Debug, Clone, Copy)]
 pub struct NamedFault {
@@ -279,6 +397,8 @@ impl NamedFault {
             Kind::Requests => &OF_REQUESTS,
             Kind::Orders => &OF_ORDERS,
             Kind::Judge => &OF_JUDGE,
+            Kind::Writer => &OF_WRITER,
+            Kind::RoundTrips => &OF_ROUND_TRIPS,
         };
         faults.iter().map(move |&(fault, name)| NamedFault { fault, name, kind })
     }
@@ -307,12 +427,16 @@ mod tests {
     use crate::cases::orders::{self, OrdersCases};
     use crate::cases::reader::ReaderCases;
     use crate::cases::requests::{self, RequestsCases};
+    use crate::cases::round_trips::RoundTripsCases;
     use crate::cases::tables::TablesCases;
+    use crate::cases::writer::WriterCases;
     use crate::handler::handle;
     use crate::judge::judge;
     use crate::orders::broken;
     use crate::outcome::Outcome;
     use crate::reader::read;
+    use crate::round_trips::Model;
+    use crate::writer::write;
 
     fn shows_in_reader(cases: &ReaderCases, number: u64, fault: Fault) -> bool {
         let case = cases.case(number);
@@ -354,11 +478,21 @@ mod tests {
         sound != judge(&sent, first, &body, Faults::only(fault))
     }
 
+    fn shows_in_writer(cases: &WriterCases, number: u64, fault: Fault) -> bool {
+        let case = cases.case(number);
+        write(&case, Faults::NONE) != write(&case, Faults::only(fault))
+    }
+
+    fn shows_in_round_trips(cases: &RoundTripsCases, number: u64, fault: Fault) -> bool {
+        !cases.case(number).holds_of(&Model(Faults::NONE), Faults::only(fault))
+    }
+
     #[test]
     fn every_fault_changes_some_outcome() {
         let (reader, tables) = (ReaderCases::new(1), TablesCases::new(1));
         let (requests, orders) = (RequestsCases::new(1), OrdersCases::new(1));
-        let judge = JudgeCases::new(1);
+        let (judge, writer) = (JudgeCases::new(1), WriterCases::new(1));
+        let round_trips = RoundTripsCases::new(1);
         for NamedFault { fault, name, kind } in NamedFault::all() {
             let found = (0..20_000).any(|number| match kind {
                 Kind::Reader => shows_in_reader(&reader, number, fault),
@@ -366,6 +500,8 @@ mod tests {
                 Kind::Requests => shows_in_requests(&requests, number, fault),
                 Kind::Orders => shows_in_orders(&orders, number, fault),
                 Kind::Judge => shows_in_judge(&judge, number, fault),
+                Kind::Writer => shows_in_writer(&writer, number, fault),
+                Kind::RoundTrips => shows_in_round_trips(&round_trips, number, fault),
             });
             assert!(found, "{name} shows in no case");
         }

@@ -1,7 +1,7 @@
 // The request handler: what a request gives back and writes, and what it does to the tables.
 use crate::calls::Refusal;
-use crate::chain::{NOTIFY, NO_NEXT_PAYLOAD};
 use crate::faults::{Fault, Faults};
+use crate::notifications::first_type;
 use crate::outcome::Place;
 use crate::reply::{Handled, Reply};
 use crate::request::{Failed, Passed, Request};
@@ -19,7 +19,7 @@ pub fn handle<'a>(request: &'a Request, tables: &mut Tables, faults: Faults) -> 
         }
         Ok(passed) => serve(request, &passed, tables, faults),
     };
-    reply.first = if response.is_empty() { NO_NEXT_PAYLOAD } else { NOTIFY };
+    reply.first = first_type(&response);
     reply.length = response.len();
     let mut output = request.output.clone();
     if faults.on(Fault::RestCleared) {

@@ -1,4 +1,5 @@
 // The judge of responses at the display's end: a verdict by the cookie sent and the response.
+use crate::asking::may_be_sent;
 use crate::calls::Refusal;
 use crate::chain::{self, Class};
 use crate::faults::{Fault, Faults};
@@ -62,16 +63,6 @@ pub fn judge(sent: &[u8], first: u8, body: &[u8], faults: Faults) -> Judged {
     let tally = if untallied { 0 } else { tally(sent, summary, faults) };
     let payloads = summary.payloads as u16;
     Judged { number: 0, outcome: verdict as u8, payloads, offset: 0, tally }
-}
-
-/// Check 1: no cookie, or one of 8 to 64 octets.
-fn may_be_sent(size: usize, faults: Faults) -> bool {
-    match size {
-        0 | 8..=64 => true,
-        1..=7 => faults.on(Fault::SentShort),
-        65 => faults.on(Fault::Sent65),
-        _ => false,
-    }
 }
 
 fn verdict(sent: &[u8], summary: &Summary, faults: Faults) -> Verdict {

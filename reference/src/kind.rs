@@ -7,11 +7,20 @@ pub enum Kind {
     Requests,
     Orders,
     Judge,
+    Writer,
+    RoundTrips,
 }
 
 impl Kind {
-    pub const ALL: [Kind; 5] =
-        [Kind::Reader, Kind::Tables, Kind::Requests, Kind::Orders, Kind::Judge];
+    pub const ALL: [Kind; 7] = [
+        Kind::Reader,
+        Kind::Tables,
+        Kind::Requests,
+        Kind::Orders,
+        Kind::Judge,
+        Kind::Writer,
+        Kind::RoundTrips,
+    ];
 
     pub fn name(self) -> &'static str {
         match self {
@@ -20,6 +29,8 @@ impl Kind {
             Kind::Requests => "requests",
             Kind::Orders => "orders",
             Kind::Judge => "judge",
+            Kind::Writer => "writer",
+            Kind::RoundTrips => "round-trips",
         }
     }
 }

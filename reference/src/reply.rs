@@ -27,10 +27,14 @@ pub struct Handled<'a> {
     pub output: Vec<u8>,
 }
 
+/// What was written, and the octets after it; where its length is past the output, all and none.
+pub fn written_and_rest(output: &[u8], length: usize) -> (&[u8], &[u8]) {
+    output.split_at_checked(length).unwrap_or((output, &[]))
+}
+
 impl<'a> Handled<'a> {
-    /// The response, and the octets after it; where its length is past the output, all and none.
     fn parts(&self) -> (&[u8], &[u8]) {
-        self.output.split_at_checked(self.reply.length).unwrap_or((&self.output, &[]))
+        written_and_rest(&self.output, self.reply.length)
     }
 
     pub fn response(&self) -> &[u8] {

@@ -1,7 +1,8 @@
 // Step 4 of a request: which notifications its response holds, and the octets of these.
-use crate::chain::{self, HEADER_LENGTH, NOTIFY, NO_NEXT_PAYLOAD};
+use crate::chain::{self, HEADER_LENGTH, NOTIFY};
 use crate::faults::{Fault, Faults};
 use crate::flaws::{Cause, Flaw};
+use crate::notifications::octets;
 use crate::notify::{Notify, NotifyType, NOTIFY_LENGTH};
 use crate::request::Request;
 use crate::steps::Unfit;
@@ -97,21 +98,6 @@ fn nat_values<'a>(
 
 fn cookie<'a>(summary: &Summary<'a>) -> Option<(NotifyType, &'a [u8])> {
     summary.cookie.map(|part| (NotifyType::COOKIE2, part.octets))
-}
-
-/// A chain of these; flags, protocol IDs and SPI sizes are 0.
-fn octets(notifications: &[(NotifyType, &[u8])]) -> Vec<u8> {
-    let mut octets = Vec::new();
-    for (place, (notify_type, data)) in notifications.iter().enumerate() {
-        let is_last = place + 1 == notifications.len();
-        let length = (NOTIFY_LENGTH + data.len()) as u16;
-        octets.extend([if is_last { NO_NEXT_PAYLOAD } else { NOTIFY }, 0]);
-        octets.extend(length.to_be_bytes());
-        octets.extend([0, 0]);
-        octets.extend(notify_type.0.to_be_bytes());
-        octets.extend_from_slice(data);
-    }
-    octets
 }
 
 /// Writes the flags and the protocol ID of the request's cookie, as only `cookie-header` does.

@@ -1,6 +1,6 @@
 -- Addresses: families, widths, and which sixteen octets are an address of a family.
 use Prim.Native.Nat.{ℕ}
-use mathlib.Core.List.{List, zipWith}
+use mathlib.Core.List.{List, map, zipWith}
 use mathlib.Core.Bool.{Bool, cond, _&&_, not}
 use lib.Dec.{eqb}
 use lib.ListN.{drop, replicate}
@@ -18,6 +18,12 @@ addressOf family octets = record { family = family; octets = octets }
 -- 01: "an additional address is family and octets".
 abbrev pub addressesOf : List ℕ → List (List ℕ) → List Address
 addressesOf families octets = zipWith addressOf families octets
+
+abbrev pub familiesOf : List Address → List ℕ
+familiesOf addresses = map (λ (a : Address). a .family) addresses
+
+abbrev pub octetsOf : List Address → List (List ℕ)
+octetsOf addresses = map (λ (a : Address). a .octets) addresses
 
 abbrev pub isZero : ℕ → Bool
 isZero x = eqb x 0

@@ -3,7 +3,7 @@ ghost use mathlib.Core.Path.{_≡_};
 ghost use Prim.Native.Nat.{_≤_};
 ghost use lib.ListN.{drop};
 ghost use Rattle.octets.specs.Lists.{all, sameOctets};
-ghost use Rattle.address.specs.Address.{widthOf, addressesOf, isZero, addressFits};
+ghost use Rattle.address.specs.Address.{widthOf, addressesOf, familiesOf, octetsOf, isZero, addressFits};
 
 #[repr(C)]
 pub struct Address {
@@ -40,6 +40,35 @@ pub fn addresses_of(families: [u8; 16], octets: [[u8; 16]; 16]) -> [Address; 16]
             family: families[i],
             octets: o,
         };
+        i += 1;
+    }
+    out
+}
+
+// The families of a stored list.
+pub fn families_of(addresses: [Address; 16]) -> [u8; 16]
+    ensures { λ r. ⌜ r ≡ familiesOf addresses ⌝ }
+{
+    let mut out = [0u8; 16];
+    let mut i = 0;
+    while i < 16 {
+        let a = addresses[i];
+        out[i] = a.family;
+        i += 1;
+    }
+    out
+}
+
+// A stored list's octets, as they travel.
+pub fn octets_of(addresses: [Address; 16]) -> [[u8; 16]; 16]
+    ensures { λ r. ⌜ r ≡ octetsOf addresses ⌝ }
+{
+    let mut out = [[0u8; 16]; 16];
+    let mut i = 0;
+    while i < 16 {
+        let a = addresses[i];
+        let octets = a.octets;
+        out[i] = octets;
         i += 1;
     }
     out

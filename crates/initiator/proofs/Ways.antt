@@ -1,6 +1,6 @@
 -- The three ways out of an assessment, in terms of what was read.
 use Prim.Native.Nat.{ℕ, _≤_}
-use mathlib.Core.Path.{_≡_, sym}
+use mathlib.Core.Path.{_≡_}
 use mathlib.Core.List.{List}
 use mathlib.Core.Bool.{true, false}
 use borrow.Author.Tests.{eq-eqb, ne-eqb}
@@ -9,7 +9,8 @@ use Rattle.findings.specs.Values.{partOf}
 use Rattle.reader.specs.Chain.{reading}
 use Rattle.reader.specs.declared.read.Reading.{Reading}
 use Rattle.reader.proofs.Errors.{errors-among}
-use Rattle.initiator.specs.Response.{cookieFits, refusal, wholeAssessment, assessment}
+use Rattle.requests.specs.Request.{cookieFits}
+use Rattle.initiator.specs.Response.{refusal, wholeAssessment, assessment}
 
 module _ (sent : List ℕ) (first : ℕ) (body : List ℕ) where
   pub unfit : cookieFits (length sent) ≡ false → refusal 1 0 ≡ assessment sent first body

@@ -1,20 +1,16 @@
 -- What a response comes to: 01, "The display's end", its second paragraph.
 use Prim.Native.Nat.{ℕ, _+_, _-_}
 use mathlib.Core.List.{List}
-use mathlib.Core.Bool.{Bool, true, false, cond, _&&_, _||_, not}
-use lib.Dec.{eqb, leb, ltb}
+use mathlib.Core.Bool.{Bool, cond, _&&_, not}
+use lib.Dec.{eqb}
 use lib.ListN.{length}
 use Rattle.octets.specs.Lists.{sameOctets}
 use Rattle.findings.specs.Values.{partOf}
-use Rattle.findings.specs.declared.seen.Seen.{Seen}
 use Rattle.findings.specs.declared.seen.Tally.{Tally}
 use Rattle.reader.specs.Chain.{reading}
 use Rattle.reader.specs.declared.read.Reading.{Reading}
+use Rattle.requests.specs.Request.{cookieFits}
 use Rattle.initiator.specs.declared.response.Assessment.{Assessment}
-
--- 01, number 1: "a cookie to send not of 0 or 8 to 64 octets".
-unfoldable pub cookieFits : ℕ → Bool
-cookieFits n = eqb n 0 || (not (ltb n 8) && leb n 64)
 
 -- the same octets, and as many of them
 abbrev pub same : List ℕ → List ℕ → Bool

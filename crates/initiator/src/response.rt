@@ -2,11 +2,12 @@
 use findings::seen::Tally;
 use findings::values::cookie;
 use reader::read::read;
+use requests::fits::cookie_fits;
 ghost use mathlib.Core.Path.{_≡_};
 ghost use Prim.Native.Nat.{_≤_};
 ghost use lib.ListN.{length};
 ghost use Rattle.octets.specs.Lists.{sameOctets};
-ghost use Rattle.initiator.specs.Response.{cookieFits, closes, errorOutcome, outcomeOf, tallyOf, refusal, assessment};
+ghost use Rattle.initiator.specs.Response.{closes, errorOutcome, outcomeOf, tallyOf, refusal, assessment};
 
 // What a response comes to. 01's words for the numbers: close, NAT seen, unacceptable, failed, accepted; NONE with refusals.
 pub const NONE: u8 = 0;
@@ -29,19 +30,6 @@ pub struct Assessment {
     pub payloads: u16,
     pub offset: u16,
     pub tally: u32,
-}
-
-// Whether a cookie of n octets may be sent; 0 octets mean that none is.
-pub fn cookie_fits(n: usize) -> bool
-    ensures { λ r. ⌜ r ≡ cookieFits n ⌝ }
-{
-    if n == 0 {
-        return true;
-    }
-    if n < 8 {
-        return false;
-    }
-    n <= 64
 }
 
 // Whether two parts of the same length have the same octets.

@@ -1,4 +1,5 @@
 -- Laws that belong to no one function.
+pub mod Small
 pub mod Pad
 pub mod Zip
 pub mod Tests

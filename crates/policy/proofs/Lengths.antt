@@ -1,18 +1,15 @@
 -- Lengths that fit are at most 128.
-use Prim.Native.Nat.{ℕ, _*_, _≤_}
-use mathlib.Core.Path.{_≡_, refl, sym}
-use mathlib.Core.Bool.{Bool, true, false, _&&_, false≢true}
+use Prim.Native.Nat.{_*_, _≤_}
+use mathlib.Core.Path.{_≡_}
+use mathlib.Core.Bool.{true}
 use native.Mathlib.Omega.{arith}
 use borrow.Author.Tests.{leb-true}
 use lib.Dec.{leb}
+use Rattle.octets.proofs.Small.{both}
 use Rattle.address.specs.Address.{widthOf}
 use Rattle.address.proofs.Width.{width-small}
 use Rattle.policy.specs.Policy.{lengthsFit}
 use Rattle.policy.specs.declared.rules.Rule.{Rule}
-
-both : (a b : Bool) → a && b ≡ true → (a ≡ true) × (b ≡ true)
-both true b e = (refl, e)
-both false b e = absurd (false≢true e)
 
 pub lengths-small : (r : Rule) → lengthsFit r ≡ true → (r .«source_len» ≤ 128) × (r .«destination_len» ≤ 128)
 lengths-small r e =

@@ -1,14 +1,14 @@
 -- Laws of the chain definition: what is known of a payload found, and one step of a chain.
 use Prim.Native.Nat.{ℕ, zero, suc, _+_, _-_, _≤_, _<_}
-use mathlib.Core.Path.{_≡_, refl, sym, ap, _∙_, subst}
+use mathlib.Core.Path.{_≡_, refl, ap}
 use mathlib.Core.List.{List}
-use mathlib.Core.Bool.{Bool, true, false, cond, _&&_, _||_, false≢true}
+use mathlib.Core.Bool.{Bool, true, false, cond, _&&_, _||_}
 use native.Mathlib.Omega.{arith}
-use native.Mathlib.Nat.{le-refl}
-use borrow.Author.Tests.{ltb-false, eq-eqb, ne-eqb}
+use borrow.Author.Tests.{ltb-false}
 use lib.Dec.{eqb, leb, ltb}
 use lib.ListN.{length, getD}
 use Rattle.octets.specs.Octets.{be16}
+use Rattle.octets.proofs.Small.{neither, chosen}
 use Rattle.payload.specs.Notify.{kindOf, dataFits}
 use Rattle.payload.specs.Payload.{spiFits, notifyAt, sized, payloadAt}
 use Rattle.reader.specs.Chain.{Chain, ends, faulty, payload, link, chainEnd, chain, chainAt}
@@ -35,12 +35,8 @@ DataFits (Notify kind number len) = dataFits kind len ≡ true
 
 module _ {P : ℕ → Content → Type 0} where
   -- both ways of a test
-  either : (b : Bool) {x y : Found} → (b ≡ true → OfFound P x) → (b ≡ false → OfFound P y) → OfFound P (cond b x y)
-  either true p q = p refl
-  either false p q = q refl
-
-  both : (b : Bool) {x y : Found} → OfFound P x → OfFound P y → OfFound P (cond b x y)
-  both b p q = either b (λ z. p) (λ z. q)
+  each-way : (b : Bool) {x y : Found} → OfFound P x → OfFound P y → OfFound P (cond b x y)
+  each-way b p q = chosen (OfFound P) b (λ z. p) (λ z. q)
 
   -- a payload has the size that it was read at, and data that fits
   read-one : (first : ℕ) (body : List ℕ) (at n : ℕ) → ((content : Content) → DataFits content → P n content) → OfFound P (sized first body at n)
@@ -48,16 +44,12 @@ module _ {P : ℕ → Content → Type 0} where
   read-one first body at n p =
       let spi = getD body (at + 5) 0 in
       let kind = kindOf (be16 body (at + 6)) in
-      both (eqb first 41)
-      (both (ltb n 8 || ltb (n - 8) spi) none
-      (both (spiFits kind spi)
-      (either (dataFits kind (n - 8 - spi)) (λ e. one (p (Notify kind (be16 body (at + 6)) (n - 8 - spi)) e)) (λ e. none))
+      each-way (eqb first 41)
+      (each-way (ltb n 8 || ltb (n - 8) spi) none
+      (each-way (spiFits kind spi)
+      (chosen (OfFound P) (dataFits kind (n - 8 - spi)) (λ e. one (p (Notify kind (be16 body (at + 6)) (n - 8 - spi)) e)) (λ e. none))
       none))
-      (both (leb 33 first && leb first 48) (one (p Skipped tt)) (both (leb 128 (getD body (at + 1) 0)) none (one (p Unknown tt))))
-
-neither : (a b : Bool) → a || b ≡ false → (a ≡ false) × (b ≡ false)
-neither true b e = absurd (false≢true (sym e))
-neither false b e = (refl, e)
+      (each-way (leb 33 first && leb first 48) (one (p Skipped tt)) (each-way (leb 128 (getD body (at + 1) 0)) none (one (p Unknown tt))))
 
 -- 4 octets at least, none past the end, and data that fits
 abbrev Within : List ℕ → ℕ → ℕ → Content → Type 0
@@ -67,8 +59,8 @@ module _ (first : ℕ) (body : List ℕ) (at : ℕ) (inside : at ≤ length body
   found-within : OfFound (Within body at) (payloadAt first body at)
   unfolding payloadAt
   found-within =
-      both (ltb (length body - at) 4) none
-      (either (ltb (be16 body (at + 2)) 4 || ltb (length body - at) (be16 body (at + 2)))
+      each-way (ltb (length body - at) 4) none
+      (chosen (OfFound (Within body at)) (ltb (be16 body (at + 2)) 4 || ltb (length body - at) (be16 body (at + 2)))
       (λ e. none)
       (λ e.
       let t = neither (ltb (be16 body (at + 2)) 4) (ltb (length body - at) (be16 body (at + 2))) e in

@@ -2,10 +2,11 @@
 use Prim.Native.Nat.{ℕ, _≤_}
 use mathlib.Core.Path.{_≡_}
 use mathlib.Core.List.{List}
-use mathlib.Core.Bool.{Bool, true, false, _&&_, false≢true}
+use mathlib.Core.Bool.{true}
 use native.Mathlib.Omega.{arith}
 use borrow.Author.Tests.{leb-true}
 use lib.Dec.{leb}
+use Rattle.octets.proofs.Small.{both}
 use Rattle.payload.specs.Notify.{dataFits}
 use Rattle.payload.specs.declared.notify.NotifyKind.{NotifyKind}
 use Rattle.payload.specs.declared.notify.NotifyKind.the-variants.{NatDetectionSource, NatDetectionDestination, MobikeSupported, AdditionalIp4, AdditionalIp6, NoAdditionalAddresses, UpdateSaAddresses, Cookie2, NoNatsAllowed, Unknown}
@@ -20,10 +21,6 @@ use Rattle.reader.proofs.Kept.{kept}
 abbrev Short : Seen → Type 0
 Short s = s .«cookie_len» ≤ 64
 
-second : (a b : Bool) → a && b ≡ true → b ≡ true
-second true b e = e
-second false b e = absurd (false≢true e)
-
 noted-short : (s : Seen) (k : NotifyKind) (number place len : ℕ) → Short s → dataFits k len ≡ true → Short (noted s k number place len)
 unfolding noted
 noted-short s NatDetectionSource number place len h f = h
@@ -33,7 +30,7 @@ noted-short s AdditionalIp4 number place len h f = h
 noted-short s AdditionalIp6 number place len h f = h
 noted-short s NoAdditionalAddresses number place len h f = h
 noted-short s UpdateSaAddresses number place len h f = h
-noted-short s Cookie2 number place len h f = leb-true len 64 (second (leb 8 len) (leb len 64) f)
+noted-short s Cookie2 number place len h f = leb-true len 64 (both (leb 8 len) (leb len 64) f .1)
 noted-short s NoNatsAllowed number place len h f = h
 noted-short s Unknown number place len h f = h
 

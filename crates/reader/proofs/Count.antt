@@ -1,21 +1,18 @@
 -- The payload count that a reading tells is the length of the chain that was read.
 use Prim.Native.Nat.{ℕ, suc, _+_}
-use mathlib.Core.Path.{_≡_, refl, _∙_}
+use mathlib.Core.Path.{_≡_, sym, ap, _∙_}
 use mathlib.Core.List.{List}
 use mathlib.Core.Bool.{Bool, true, false, cond}
 use native.Mathlib.Omega.{arith}
-use lib.Dec.{ltb}
-use lib.ListN.{length}
 use Rattle.findings.specs.Seen.{nothingSeen, contentNoted, conflicts}
-use Rattle.reader.specs.Chain.{Chain, ends, faulty, payload, count, chainAt, stopped, scanned, numberOf, answer, answered, refused, reading, ReadAs}
-use Rattle.payload.specs.declared.payload.Fault.{Fault}
-use Rattle.payload.specs.declared.payload.Fault.the-variants.{ChainLength, NotifyShape, DataSize, Conflict, Leftover, Critical}
+use Rattle.reader.specs.Chain.{Chain, ends, faulty, payload, count, chainAt, stopped, scanned, reading, ReadAs}
+use Rattle.payload.specs.declared.payload.Fault.the-variants.{Conflict}
 use Rattle.findings.specs.declared.seen.Seen.{Seen}
 use Rattle.findings.proofs.Counts.{one}
 use Rattle.reader.specs.declared.read.Scan.{Scan}
-use Rattle.reader.specs.declared.read.Outcome.{Outcome}
 use Rattle.reader.specs.declared.read.Outcome.the-variants.{Whole, Broken}
 use Rattle.reader.specs.declared.read.Reading.{Reading}
+use Rattle.reader.proofs.Whole.{read-whole}
 
 whole-scan : (s : Seen) (ch : Chain) → scanned s ch .outcome ≡ Whole → scanned s ch .seen .tally .payloads ≡ s .tally .payloads + count ch
 unfolding scanned
@@ -32,32 +29,10 @@ whole-scan s (payload at content rest) e = go (conflicts s content) e (whole-sca
     go true e h = let z : _≡_ {A = ℕ} 0 1 = cc in absurd (omega arith)
     go false e h = h e ∙ omega (arith, one s content (at + 8))
 
--- no fault has the number 0
-faults-told : (f : Fault) → numberOf f ≡ 0 → ⊥
-faults-told ChainLength e = omega arith
-faults-told NotifyShape e = omega arith
-faults-told DataSize e = omega arith
-faults-told Conflict e = omega arith
-faults-told Leftover e = omega arith
-faults-told (Critical t) e = omega arith
-
-told-whole : (o : Outcome) (s : Seen) → answer o s .number ≡ 0 → (o ≡ Whole) × (answer o s .seen ≡ s)
-told-whole Whole s e = (refl, refl)
-told-whole (Broken f at) s e = absurd (faults-told f e)
-
 counts : (first : ℕ) (body : List ℕ) → reading first body .number ≡ 0 → reading first body .seen .tally .payloads ≡ count (chainAt body first 0)
-unfolding reading
-counts first body = go (ltb 4096 (length body))
-  where
-    found : Scan
-    found = scanned nothingSeen (chainAt body first 0)
-
-    go : (b : Bool) → cond b (refused 3 0 0) (answered found) .number ≡ 0
-        → cond b (refused 3 0 0) (answered found) .seen .tally .payloads ≡ count (chainAt body first 0)
-    go true e = absurd (omega arith)
-    go false e =
-        let w = told-whole (found .outcome) (found .seen) e in
-        rw (w .1) (whole-scan nothingSeen (chainAt body first 0) (w .0) ∙ omega arith)
+counts first body e =
+    let w = read-whole first body e in
+    ap (λ (x : Scan). x .seen .tally .payloads) (sym w) ∙ whole-scan nothingSeen (chainAt body first 0) (ap (λ (x : Scan). x .outcome) w) ∙ omega arith
 
 -- what is read as defined is counted as promised
 pub promised : (first : ℕ) (body : List ℕ) (r : Reading) → r ≡ reading first body → ReadAs first body r

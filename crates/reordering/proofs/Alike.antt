@@ -1,22 +1,20 @@
 -- What stays the same over any list of requests: where each SPI is found, whether MOBIKE was agreed, how long the tables are.
-use Prim.Native.Nat.{ℕ, zero, suc, _<_}
+use Prim.Native.Nat.{ℕ, zero, suc}
 use mathlib.Core.Path.{_≡_, refl, sym, ap, _∙_}
-use mathlib.Core.List.{List, [], _∷_, map}
-use mathlib.Core.Bool.{Bool, true, false, cond, _&&_, not}
+use mathlib.Core.List.{List, [], _∷_}
+use mathlib.Core.Bool.{Bool, true, false}
 use native.Mathlib.Decide.{ℕ-discrete}
-use lib.Dec.{eqb, ltb}
 use lib.ListN.{length, getD, set, length-set, length-map}
 use Rattle.octets.specs.Lists.{placeOf}
 use Rattle.octets.proofs.Places.{store-same}
 use Rattle.policy.specs.declared.rules.Policy.{Policy}
 use Rattle.tables.specs.Records.{ikeSpi, noIke, follows}
-use Rattle.tables.specs.Calls.{listFits}
 use Rattle.tables.specs.Reached.{Tables}
 use Rattle.tables.specs.declared.ike.IkeRecord.{IkeRecord}
 use Rattle.tables.specs.declared.ipsec.IpsecRecord.{IpsecRecord}
 use Rattle.responder.specs.Core.{coreResult}
-use Rattle.responder.specs.Handle.{Request, argumentsFit, meant, recordNumber, checkedNumber}
-use Rattle.reordering.specs.Requests.{step, inUse}
+use Rattle.responder.specs.Handle.{Request, meant, recordNumber}
+use Rattle.reordering.specs.Requests.{step}
 use Rattle.reordering.proofs.Keeps.{core-keeps}
 use Rattle.reordering.proofs.Steps.{early, place, entry, owners, changed, core, step-taken, step-refused}
 

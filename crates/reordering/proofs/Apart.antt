@@ -3,26 +3,23 @@ use Prim.Native.Nat.{ℕ, _<_}
 use mathlib.Core.Path.{_≡_, refl, sym, ap, _∙_}
 use mathlib.Core.Logic.{⊎-elim}
 use mathlib.Core.List.{List, [], _∷_, map}
-use mathlib.Core.Bool.{Bool, true, false, cond, _&&_, not, false≢true}
-use native.Mathlib.Omega.{arith}
+use mathlib.Core.Bool.{Bool, true, false, not, false≢true}
 use native.Mathlib.Decide.{ℕ-discrete}
-use borrow.Author.Tests.{eqb-true, eq-eqb, ne-eqb, lt-ltb}
-use lib.Dec.{eqb, ltb}
+use borrow.Author.Tests.{eqb-true, lt-ltb}
+use lib.Dec.{eqb}
 use lib.ListN.{length, getD, set}
 use lib.Seq.{getD-set-other, set-comm}
-use Rattle.octets.specs.Lists.{placeOf}
 use Rattle.octets.proofs.Places.{place-has}
-use Rattle.address.specs.Address.{pairFits}
+use Rattle.octets.proofs.Small.{both}
 use Rattle.address.specs.declared.pair.Pair.{Pair}
 use Rattle.policy.specs.declared.rules.Policy.{Policy}
-use Rattle.tables.specs.Records.{ikeSpi, noIke, newIpsec, follows}
+use Rattle.tables.specs.Records.{ikeSpi, noIke, follows}
 use Rattle.tables.specs.Calls.{listFits}
 use Rattle.tables.specs.Reached.{Tables, tables}
-use Rattle.tables.specs.declared.ike.IkeRecord.{IkeRecord}
 use Rattle.tables.specs.declared.ipsec.IpsecRecord.{IpsecRecord}
-use Rattle.responder.specs.Handle.{Request, argumentsFit, meant}
-use Rattle.responder.proofs.Checks.{both, passed, record-there}
-use Rattle.reordering.specs.Requests.{step, Answer, answer, inUse, Apart}
+use Rattle.responder.specs.Handle.{Request, argumentsFit}
+use Rattle.responder.proofs.Checks.{passed, record-there}
+use Rattle.reordering.specs.Requests.{step, answer, inUse, Apart}
 use Rattle.reordering.proofs.Steps.{early, place, entry, owners, changed, core, answerAt, step-taken, step-refused, answer-is, refused-alike, there}
 use Rattle.reordering.proofs.Alike.{Alike, alike-self, early-alike, change-places, step-alike}
 

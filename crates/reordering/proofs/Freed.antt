@@ -1,28 +1,27 @@
 -- Two sound requests of one IKE SA with different IDs: the tables end the same in either order.
-use Prim.Native.Nat.{ℕ, _+_, min, _<_}
+use Prim.Native.Nat.{ℕ, _+_, min}
 use mathlib.Core.Path.{_≡_, refl, sym, ap, _∙_}
 use mathlib.Core.List.{List, [], _∷_, map}
-use mathlib.Core.Bool.{Bool, true, false, cond, _&&_}
+use mathlib.Core.Bool.{Bool, true, false, cond}
 use native.Mathlib.Omega.{arith}
-use borrow.Author.Tests.{eqb-true}
 use lib.Dec.{eqb}
-use lib.ListN.{length, getD, set}
+use lib.ListN.{getD, set}
 use lib.Seq.{getD-set-same, set-set}
 use Rattle.octets.specs.Lists.{placeOf}
 use Rattle.address.specs.declared.pair.Pair.{Pair}
 use Rattle.policy.specs.declared.rules.Policy.{Policy}
-use Rattle.tables.specs.Records.{ikeSpi, noIke, newIpsec, follows}
+use Rattle.tables.specs.Records.{ikeSpi, noIke, follows}
 use Rattle.tables.specs.Reached.{Tables, tables}
 use Rattle.tables.specs.declared.ike.IkeRecord.{IkeRecord}
 use Rattle.tables.specs.declared.ipsec.IpsecRecord.{IpsecRecord}
 use Rattle.responder.specs.Decide.{tallied, hasList}
 use Rattle.responder.specs.Core.{listSeen}
 use Rattle.responder.specs.Handle.{Request, meant}
-use Rattle.reordering.specs.Requests.{step, seenIn, sound}
-use Rattle.reordering.proofs.Steps.{early, place, entry, owners, changed, core, step-taken, there}
-use Rattle.reordering.proofs.Alike.{Alike, alike-self, early-alike, step-alike}
+use Rattle.reordering.specs.Requests.{step, seenIn}
+use Rattle.reordering.proofs.Steps.{early, place, entry, owners, step-taken, there}
+use Rattle.reordering.proofs.Alike.{alike-self, early-alike, step-alike}
 use Rattle.reordering.proofs.Winner.{Winner, nobody, one, other, winner, agree}
-use Rattle.reordering.proofs.Sound.{idOf, updates, advanced, Sound, core-sound, sound-parts}
+use Rattle.reordering.proofs.Sound.{idOf, updates, advanced, Sound, core-sound}
 
 -- the later of two moves of one owner's record decides
 follow-over : (k : ℕ) (p o : Pair) (x : IpsecRecord) → follows k p (follows k o x) ≡ follows k p x

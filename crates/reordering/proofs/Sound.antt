@@ -1,33 +1,26 @@
 -- What a sound request does to its record, field by field, and that two of them end the same in either order.
-use Prim.Native.Nat.{ℕ, _+_, min, _<_}
-use mathlib.Core.Path.{_≡_, refl, sym, ap, _∙_}
-use mathlib.Core.List.{List, [], _∷_, map}
+use Prim.Native.Nat.{ℕ, _+_, min}
+use mathlib.Core.Path.{_≡_, refl, ap, _∙_}
+use mathlib.Core.List.{List}
 use mathlib.Core.Bool.{Bool, true, false, cond, _&&_, _||_, not, false≢true}
-use native.Mathlib.Omega.{arith}
 use borrow.Author.Tests.{eqb-true, eq-eqb}
 use lib.Dec.{eqb, leb}
-use lib.ListN.{length, getD, set}
-use lib.Seq.{getD-set-same, set-set}
+use Rattle.octets.proofs.Small.{both}
 use Rattle.address.specs.declared.address.Address.{Address}
 use Rattle.address.specs.declared.pair.Pair.{Pair}
 use Rattle.findings.specs.Values.{noNatsSeen}
 use Rattle.findings.specs.declared.seen.Seen.{Seen}
 use Rattle.policy.specs.declared.rules.Policy.{Policy}
 use Rattle.reader.specs.Chain.{reading}
-use Rattle.tables.specs.Records.{noIke, newIpsec, follows}
-use Rattle.tables.specs.Reached.{Tables, tables}
+use Rattle.tables.specs.Reached.{Tables}
 use Rattle.tables.specs.declared.ike.IkeRecord.{IkeRecord}
-use Rattle.tables.specs.declared.ipsec.IpsecRecord.{IpsecRecord}
 use Rattle.responder.specs.Decide.{tallied, verdict, counted, marked, moved, relisted, decision, leftOff, hasList, listDecided, updateDecided, decided}
 use Rattle.responder.specs.Core.{listSeen, wholeResult, brokenResult, coreResult}
 use Rattle.responder.specs.Handle.{Request}
 use Rattle.responder.specs.declared.decide.Decision.{Decision}
-use Rattle.responder.specs.declared.core.CoreResult.{CoreResult}
-use Rattle.responder.proofs.Checks.{both}
-use Rattle.reordering.specs.Requests.{step, seenIn, sound}
-use Rattle.reordering.proofs.Steps.{early, place, entry, owners, changed, core, step-taken, there}
-use Rattle.reordering.proofs.Alike.{Alike, early-alike, change-places}
-use Rattle.reordering.proofs.Winner.{counts, markAfter, Winner, nobody, one, other, winner, agree}
+use Rattle.reordering.specs.Requests.{seenIn, sound}
+use Rattle.reordering.proofs.Steps.{early, entry, core}
+use Rattle.reordering.proofs.Winner.{counts}
 
 abbrev pub idOf : Request → ℕ
 idOf q = q .asks .id

@@ -1,29 +1,23 @@
 -- One request as a change of its own record and of the IPsec records it owns, and what every request leaves alone.
-use Prim.Native.Nat.{ℕ, zero, suc, _<_, _≤_}
-use mathlib.Core.Path.{_≡_, refl, sym, ap, _∙_}
-use mathlib.Core.List.{List, [], _∷_, map}
-use mathlib.Core.Bool.{Bool, true, false, cond, _&&_, false≢true}
-use native.Mathlib.Omega.{arith}
-use borrow.Author.Tests.{eqb-true, eq-eqb, ne-eqb}
+use Prim.Native.Nat.{ℕ, _<_}
+use mathlib.Core.Path.{_≡_, refl}
+use mathlib.Core.List.{List, [], map}
+use mathlib.Core.Bool.{Bool, true, false, cond}
+use borrow.Author.Tests.{eq-eqb, ne-eqb}
 use lib.Dec.{eqb}
-use lib.ListN.{length, getD, set, length-set, length-map}
-use lib.Seq.{getD-set-other}
+use lib.ListN.{length, set}
 use Rattle.octets.specs.Lists.{placeOf}
-use Rattle.octets.proofs.Places.{store-same, place-has}
 use Rattle.policy.specs.declared.rules.Policy.{Policy}
 use Rattle.findings.specs.Values.{partOf}
-use Rattle.tables.specs.Records.{ikeSpi, noIke, follows}
-use Rattle.tables.specs.Calls.{listFits}
+use Rattle.tables.specs.Records.{ikeSpi, follows}
 use Rattle.tables.specs.Reached.{Tables, tables}
 use Rattle.tables.specs.declared.ike.IkeRecord.{IkeRecord}
 use Rattle.tables.specs.declared.ipsec.IpsecRecord.{IpsecRecord}
 use Rattle.responder.specs.Core.{refusalReply, coreResult, coreResponse}
-use Rattle.responder.specs.Handle.{Request, argumentsFit, meant, recordNumber, checkedNumber, earlyNumber, handled, handledResponse}
-use Rattle.responder.specs.declared.core.Reply.{Reply}
+use Rattle.responder.specs.Handle.{Request, meant, earlyNumber, handled, handledResponse}
 use Rattle.responder.specs.declared.core.CoreResult.{CoreResult}
-use Rattle.responder.proofs.Checks.{both, Passed, passed, record-there}
+use Rattle.responder.proofs.Checks.{passed, record-there}
 use Rattle.reordering.specs.Requests.{step, Answer, answer}
-use Rattle.reordering.proofs.Keeps.{Kept, core-keeps}
 
 abbrev pub early : Tables → Request → ℕ
 early t q = earlyNumber (t .ike) (t .ipsec) q

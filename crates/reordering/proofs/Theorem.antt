@@ -6,8 +6,8 @@ use mathlib.Core.List.{List, [], _∷_}
 use mathlib.Core.Bool.{Bool, true, false, cond, _&&_}
 use native.Mathlib.Decide.{ℕ-discrete}
 use borrow.Author.Tests.{eq-eqb, ne-eqb}
-use lib.Dec.{eqb, leb}
-use Rattle.order.specs.Order.{All, Pairwise, Order, after, Update, Held, latest, greatest, settled}
+use lib.Dec.{leb}
+use Rattle.order.specs.Order.{All, Pairwise, after, Update, Held, latest}
 use Rattle.order.proofs.Orders.{order-pairs}
 use Rattle.order.proofs.Answers.{keeps-state, keeps-answers}
 use Rattle.order.proofs.Latest.{latest-is-greatest}
@@ -18,10 +18,9 @@ use Rattle.tables.specs.declared.ike.IkeRecord.{IkeRecord}
 use Rattle.responder.specs.Handle.{Request, request, meant}
 use Rattle.reordering.specs.Requests.{step, answer, Apart, seenIn, sound, updatesFor, pairHeld}
 use Rattle.reordering.specs.Reordering.{AnswersKept, TablesKept, AnyOrder}
-use Rattle.reordering.proofs.Steps.{early, entry}
 use Rattle.reordering.proofs.Alike.{Alike, alike-self, early-alike, step-alike}
 use Rattle.reordering.proofs.Apart.{apart, entry-stays}
-use Rattle.reordering.proofs.Sound.{idOf, updates, advanced, Sound, sound-parts}
+use Rattle.reordering.proofs.Sound.{idOf, advanced, sound-parts}
 use Rattle.reordering.proofs.Freed.{swap-sound, entry-sound}
 
 -- what every element has, every two have

@@ -2,12 +2,13 @@
 use Prim.Native.Nat.{ℕ, _≤_, _<_}
 use mathlib.Core.Path.{_≡_, refl}
 use mathlib.Core.List.{List, [], map}
-use mathlib.Core.Bool.{Bool, true, false, cond, _&&_, not, false≢true}
+use mathlib.Core.Bool.{Bool, true, false, cond, _&&_, not}
 use native.Mathlib.Omega.{arith}
 use borrow.Author.Tests.{eq-eqb, ne-eqb, eqb-true, ltb-true, ltb-false}
 use lib.Dec.{eqb, ltb}
 use lib.ListN.{length, set}
 use Rattle.octets.specs.Lists.{placeOf}
+use Rattle.octets.proofs.Small.{both}
 use Rattle.address.specs.Address.{pairFits}
 use Rattle.address.specs.declared.pair.Pair.{Pair}
 use Rattle.policy.specs.declared.rules.Policy.{Policy}
@@ -20,10 +21,6 @@ use Rattle.responder.specs.Handle.{Request, argumentsFit, meant, recordN
 use Rattle.responder.specs.declared.core.Reply.{Reply}
 use Rattle.responder.specs.declared.core.CoreResult.{CoreResult}
 use Rattle.responder.specs.declared.handle.Handled.{Handled}
-
-pub both : (a b : Bool) → a && b ≡ true → (a ≡ true) × (b ≡ true)
-both true b e = (refl, e)
-both false b e = absurd (false≢true e)
 
 pub record Passed (fit : Bool) (room octets number : ℕ) : Type 0 where
   pub fits : fit ≡ true

@@ -1,7 +1,7 @@
 -- One request on the record that it means, after checks 1 to 5: reading, steps 1 to 4, and all that is given back.
 use Prim.Native.Nat.{ℕ}
 use mathlib.Core.List.{List, [], _∷_}
-use mathlib.Core.Bool.{Bool, true, false, cond, _&&_, not}
+use mathlib.Core.Bool.{Bool, false, cond, _&&_, not}
 use lib.Dec.{eqb}
 use lib.ListN.{length}
 use Rattle.address.specs.Address.{addressesOf}

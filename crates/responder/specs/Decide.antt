@@ -1,14 +1,12 @@
 -- One request on the record that it means: 01's "One request, step by step", steps 1 to 3.
 use Prim.Native.Nat.{ℕ, _+_, _-_, min}
 use mathlib.Core.List.{List}
-use mathlib.Core.Bool.{Bool, true, false, cond, _&&_, _||_, not}
+use mathlib.Core.Bool.{Bool, cond, _&&_, _||_, not}
 use lib.Dec.{eqb, leb}
 use Rattle.octets.specs.Lists.{sameOctets}
-use Rattle.address.specs.Address.{addressesOf}
 use Rattle.address.specs.declared.address.Address.{Address}
 use Rattle.address.specs.declared.pair.Pair.{Pair}
 use Rattle.findings.specs.declared.seen.Seen.{Seen}
-use Rattle.findings.specs.declared.seen.Places.{Places}
 use Rattle.findings.specs.declared.values.NoNats.{NoNats}
 use Rattle.policy.specs.Policy.{acceptable}
 use Rattle.policy.specs.declared.rules.Policy.{Policy}

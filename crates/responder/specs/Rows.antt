@@ -4,17 +4,14 @@ use mathlib.Core.List.{List, [], _∷_, _++_}
 use mathlib.Core.Bool.{Bool, true, false, _&&_}
 use lib.Dec.{eqb}
 use lib.ListN.{length, getD, replicate}
-use Rattle.octets.specs.Lists.{all}
 use Rattle.octets.specs.Octets.{padded}
 use Rattle.address.specs.declared.pair.Pair.{Pair}
-use Rattle.findings.specs.Values.{partOf}
 use Rattle.policy.specs.Policy.{noRule}
 use Rattle.policy.specs.declared.rules.Rule.{Rule}
 use Rattle.policy.specs.declared.rules.Policy.{Policy}
 use Rattle.tables.specs.Records.{newIke, noIke, noIpsec}
 use Rattle.tables.specs.declared.ike.IkeRecord.{IkeRecord}
 use Rattle.responder.specs.Core.{asked}
-use Rattle.responder.specs.Decide.{marked}
 use Rattle.responder.specs.Handle.{Request, request, handled, handledResponse}
 
 abbrev sameList : List ℕ → List ℕ → Bool

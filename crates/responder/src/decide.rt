@@ -1,9 +1,7 @@
 // The decision on one record, by value: what a request that was read changes in it, and what it is answered.
 use address::address::Address;
-use address::address::addresses_of;
 use address::address::same_address;
 use address::pair::Pair;
-use findings::seen::Places;
 use findings::seen::Seen;
 use findings::values::NoNats;
 use policy::rules::Policy;

@@ -1,23 +1,20 @@
 -- What each table call can come to: the tables as they were, or one change under what its checks have shown.
 use Prim.Native.Nat.{ℕ, _<_, _≤_}
-use mathlib.Core.Path.{_≡_, refl, sym}
+use mathlib.Core.Path.{_≡_, refl}
 use mathlib.Core.Logic.{_⊎_, inl, inr}
 use mathlib.Core.List.{List, map}
-use mathlib.Core.Bool.{Bool, true, false, cond, _||_, not, false≢true}
+use mathlib.Core.Bool.{Bool, true, false, _||_, not}
 use borrow.Author.Tests.{ltb-true, ltb-false, eqb-false}
-use lib.Dec.{eqb, ltb}
+use lib.Dec.{eqb}
 use lib.ListN.{length, getD, set}
 use Rattle.octets.specs.Lists.{placeOf}
+use Rattle.octets.proofs.Small.{neither}
 use Rattle.address.specs.Address.{pairFits}
 use Rattle.address.specs.declared.pair.Pair.{Pair}
 use Rattle.tables.specs.Records.{ikeSpi, ipsecSpi, newIke, noIke, newIpsec, noIpsec, released}
 use Rattle.tables.specs.Calls.{ikeAnswer, ipsecAnswer, closeAnswer, hasIke, hasIpsec, listFits, openIke, openIpsec, closeIke, closeIpsec}
 use Rattle.tables.specs.declared.ike.IkeRecord.{IkeRecord}
 use Rattle.tables.specs.declared.ipsec.IpsecRecord.{IpsecRecord}
-
-neither : (a b : Bool) → a || b ≡ false → (a ≡ false) × (b ≡ false)
-neither true b e = absurd (false≢true (sym e))
-neither false b e = (refl, e)
 
 module _ (ike : List IkeRecord) (spi : ℕ) (mobike : Bool) (pair : Pair) where
   pub record IkeOpened : Type 0 where

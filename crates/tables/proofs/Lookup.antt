@@ -2,18 +2,17 @@
 use Prim.Native.Nat.{ℕ, _<_, _≤_}
 use mathlib.Core.Path.{_≡_, refl, sym, ap, _∙_}
 use mathlib.Core.List.{List, [], _∷_, map}
-use mathlib.Core.Bool.{Bool, true, false, cond}
+use mathlib.Core.Bool.{Bool}
 use native.Mathlib.Omega.{arith}
 use native.Mathlib.Decide.{decLt, ℕ-discrete}
-use borrow.Author.Tests.{eq-eqb, ne-eqb, lt-ltb, eqb-true}
-use lib.Dec.{eqb}
+use borrow.Author.Tests.{eq-eqb, ne-eqb, lt-ltb}
 use lib.ListN.{length, getD, set, length-set}
 use lib.Seq.{getD-set-same, getD-set-other, set-set}
 use Rattle.octets.specs.Lists.{placeOf}
 use Rattle.octets.proofs.Places.{place-within, place-has, store-other, store-found}
 use Rattle.address.specs.declared.pair.Pair.{Pair}
 use Rattle.tables.specs.Records.{ikeSpi, newIke, noIke, released}
-use Rattle.tables.specs.Calls.{closeAnswer, listFits, closeIke}
+use Rattle.tables.specs.Calls.{closeAnswer, closeIke}
 use Rattle.tables.specs.Reached.{Distinct}
 use Rattle.tables.specs.declared.ike.IkeRecord.{IkeRecord}
 use Rattle.tables.specs.declared.ipsec.IpsecRecord.{IpsecRecord}

@@ -1,5 +1,5 @@
 -- From empty tables, whatever is called, no SPI stands twice in a table and every IPsec record has an owner.
-use Prim.Native.Nat.{ℕ, _<_, _≤_}
+use Prim.Native.Nat.{ℕ, _<_}
 use mathlib.Core.Path.{_≡_, refl, sym, ap, _∙_}
 use mathlib.Core.Logic.{⊎-elim}
 use mathlib.Core.List.{List, [], _∷_, map}
@@ -14,7 +14,7 @@ use Rattle.octets.specs.Lists.{placeOf}
 use Rattle.octets.proofs.Places.{at-most, place-has}
 use Rattle.address.specs.declared.pair.Pair.{Pair}
 use Rattle.tables.specs.Records.{ikeSpi, ipsecSpi, newIke, noIke, newIpsec, noIpsec, released}
-use Rattle.tables.specs.Reached.{Tables, tables, empty, Call, opensIke, opensIpsec, closesIke, closesIpsec, after, afterAll, Distinct, Owned, WellFormed}
+use Rattle.tables.specs.Reached.{Tables, empty, Call, opensIke, opensIpsec, closesIke, closesIpsec, after, afterAll, Distinct, Owned, WellFormed}
 use Rattle.tables.specs.declared.ike.IkeRecord.{IkeRecord}
 use Rattle.tables.specs.declared.ipsec.IpsecRecord.{IpsecRecord}
 use Rattle.tables.proofs.Once.{open-once, close-once, each-once}

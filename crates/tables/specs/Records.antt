@@ -1,6 +1,6 @@
 -- IKE and IPsec records: their keys, new ones, closed ones.
 use Prim.Native.Nat.{ℕ}
-use mathlib.Core.Bool.{Bool, false, cond, _||_, not}
+use mathlib.Core.Bool.{Bool, false, cond}
 use lib.Dec.{eqb}
 use lib.ListN.{replicate}
 use Rattle.address.specs.Address.{noPair, noAddress}

@@ -1,6 +1,6 @@
 -- Octets written at a place of a buffer, and a Notify payload as octets, the layout of 01 ("The payload chain").
 use Prim.Native.Nat.{ℕ, _+_, _/_, _%_}
-use mathlib.Core.List.{List, _∷_, _++_}
+use mathlib.Core.List.{List, [], _∷_, _++_}
 use lib.ListN.{length, take, drop}
 
 -- `out` with the octets at `at`; everything else is as it was.
@@ -14,3 +14,21 @@ placed out at octets = take at out ++ (octets ++ drop (at + length octets) out)
 unfoldable pub notifyOctets : ℕ → ℕ → List ℕ → List ℕ
 notifyOctets next number octets =
     next ∷ 0 ∷ ((8 + length octets) / 256) ∷ ((8 + length octets) % 256) ∷ 0 ∷ 0 ∷ (number / 256) ∷ (number % 256) ∷ octets
+
+-- A notification with no SPI: its notify type and its data.
+pub record Notification : Type 0 where
+  pub number : ℕ
+  pub octets : List ℕ
+
+abbrev pub notification : ℕ → List ℕ → Notification
+notification number octets = record { number = number; octets = octets }
+
+-- The type of what stands first: a Notify, or what follows the notifications where there are none.
+abbrev pub firstType : List Notification → ℕ → ℕ
+firstType [] next = next
+firstType (x ∷ xs) next = 41
+
+-- Notifications one behind the other, each with the type of what follows it; `next` is the type of what follows the last.
+unfoldable pub chained : List Notification → ℕ → List ℕ
+chained [] next = []
+chained (x ∷ xs) next = notifyOctets (firstType xs next) (x .number) (x .octets) ++ chained xs next

@@ -3,5 +3,7 @@ pub mod judge;
 pub mod orders;
 pub mod reader;
 pub mod requests;
+pub mod round_trips;
 mod seeded;
 pub mod tables;
+pub mod writer;

@@ -30,3 +30,29 @@ impl<C: Kinded> Seeded<C> {
         }
     }
 }
+
+/// What the tests of each kind's random cases have in common.
+#[cfg(test)]
+pub mod met {
+    use super::{Kinded, Rng};
+    use std::collections::BTreeMap;
+    use std::fmt::Debug;
+
+    /// How often so many random cases get each answer.
+    pub fn answers<C: Kinded, A: Ord>(cases: u64, answer: impl Fn(C) -> A) -> BTreeMap<A, u64> {
+        let mut met = BTreeMap::new();
+        for number in 0..cases {
+            let case = C::random(&mut Rng::from_words(&[number]));
+            *met.entry(answer(case)).or_insert(0) += 1;
+        }
+        met
+    }
+
+    /// Asserts that random cases get these answers only, and each of them often.
+    pub fn assert_often<C: Kinded, A: Ord + Debug>(expected: &[A], answer: impl Fn(C) -> A) {
+        let met = answers(5_000, answer);
+        let is_often = |answer| met.get(answer).is_some_and(|&times| times > 20);
+        assert!(expected.iter().all(is_often), "{met:?}");
+        assert_eq!(met.len(), expected.len());
+    }
+}

@@ -4,12 +4,16 @@ use crate::orders;
 use crate::reader;
 use crate::report::Detail;
 use crate::requests;
+use crate::round_trips;
 use crate::tables;
+use crate::writer;
 use reference::cases::judge::JudgeCases;
 use reference::cases::orders::OrdersCases;
 use reference::cases::reader::ReaderCases;
 use reference::cases::requests::RequestsCases;
+use reference::cases::round_trips::RoundTripsCases;
 use reference::cases::tables::TablesCases;
+use reference::cases::writer::WriterCases;
 use reference::faults::{Faults, NamedFault};
 use reference::kind::Kind;
 
@@ -25,6 +29,10 @@ pub const TURNS: &[Kind] = &[
     Kind::Judge,
     Kind::Requests,
     Kind::Orders,
+    Kind::Writer,
+    Kind::RoundTrips,
+    Kind::Writer,
+    Kind::RoundTrips,
 ];
 
 pub fn named(name: &str) -> Option<Kind> {
@@ -43,6 +51,14 @@ pub struct Verdict {
     pub shown: String,
 }
 
+impl Verdict {
+    /// With these lines, if the case is shown at all.
+    pub fn of(agrees: bool, detail: Detail, lines: impl FnOnce() -> Vec<String>) -> Self {
+        let shown = if detail.shows(agrees) { lines().join("\n") } else { String::new() };
+        Verdict { agrees, shown }
+    }
+}
+
 /// The cases of one seed, of every kind.
 pub struct Cases {
     reader: ReaderCases,
@@ -50,6 +66,8 @@ pub struct Cases {
     requests: RequestsCases,
     orders: OrdersCases,
     judge: JudgeCases,
+    writer: WriterCases,
+    round_trips: RoundTripsCases,
 }
 
 impl Cases {
@@ -60,6 +78,8 @@ impl Cases {
             requests: RequestsCases::new(seed),
             orders: OrdersCases::new(seed),
             judge: JudgeCases::new(seed),
+            writer: WriterCases::new(seed),
+            round_trips: RoundTripsCases::new(seed),
         }
     }
 
@@ -70,6 +90,8 @@ impl Cases {
             Kind::Requests => requests::run(self.requests.case(number), faults, detail),
             Kind::Orders => orders::run(self.orders.case(number), faults, detail),
             Kind::Judge => judge::run(self.judge.case(number), faults, detail),
+            Kind::Writer => writer::run(self.writer.case(number), faults, detail),
+            Kind::RoundTrips => round_trips::run(self.round_trips.case(number), faults, detail),
         }
     }
 }

@@ -7,7 +7,9 @@ mod ours;
 mod reader;
 mod report;
 mod requests;
+mod round_trips;
 mod tables;
+mod writer;
 
 use arguments::{Arguments, Mode, USAGE};
 use kinds::Cases;

@@ -6,21 +6,13 @@ use reference::cases::reader::Case;
 use reference::faults::Faults;
 use reference::outcome::Outcome;
 use reference::reader;
-use reference::show::hex;
 
 pub fn run(case: Case, faults: Faults, detail: Detail) -> Verdict {
     let ours = ours::reader::read(case.first, &case.body);
     let reference = Outcome::of(&reader::read(case.first, &case.body, faults));
-    let agrees = ours == reference;
-    if !detail.shows(agrees) {
-        return Verdict { agrees, shown: String::new() };
-    }
-    let input = [
-        ("first type", case.first.to_string()),
-        ("body length", case.body.len().to_string()),
-        ("body", hex(&case.body)),
-    ];
-    let input = input.map(|(name, value)| format!("  {name}: {value}"));
-    let fields = report::compared(&ours.fields(), &reference.fields(), detail);
-    Verdict { agrees, shown: [&input[..], &fields[..]].concat().join("\n") }
+    Verdict::of(ours == reference, detail, || {
+        let mut lines = report::chain(case.first, &case.body);
+        lines.extend(report::compared(&ours.fields(), &reference.fields(), detail));
+        lines
+    })
 }

@@ -1,4 +1,5 @@
-// How a case is shown: how much of it, and the two programs' fields side by side.
+// How a case is shown: how much of it, its input, and the two programs' fields side by side.
+use reference::show::hex;
 
 #[derive(Debug, Clone, Copy, PartialEq, Eq)]
 pub enum Detail {
@@ -21,14 +22,34 @@ impl Detail {
 /// Names and values.
 type Fields = [(String, String)];
 
+/// A line for each field of a case's input.
+pub fn input(fields: &Fields) -> Vec<String> {
+    fields.iter().map(|(name, value)| format!("  {name}: {value}")).collect()
+}
+
+/// The lines of a chain's input.
+pub fn chain(first: u8, body: &[u8]) -> Vec<String> {
+    let fields = [
+        ("first type", first.to_string()),
+        ("body length", body.len().to_string()),
+        ("body", hex(body)),
+    ];
+    input(&fields.map(|(name, value)| (name.to_string(), value)))
+}
+
 /// A line for each field that is to be shown; a star marks those that differ.
 pub fn compared(ours: &Fields, reference: &Fields, detail: Detail) -> Vec<String> {
+    side_by_side([("ours", ours), ("reference", reference)], detail)
+}
+
+/// The same of any two, by their names.
+pub fn side_by_side([one, other]: [(&str, &Fields); 2], detail: Detail) -> Vec<String> {
     let mut lines = Vec::new();
-    for ((name, our_value), (_, reference_value)) in ours.iter().zip(reference) {
-        let differs = our_value != reference_value;
+    for ((name, value), (_, other_value)) in one.1.iter().zip(other.1) {
+        let differs = value != other_value;
         if differs || detail == Detail::AllFields {
             let mark = if differs { '*' } else { ' ' };
-            lines.push(format!("{mark} {name}: ours {our_value} | reference {reference_value}"));
+            lines.push(format!("{mark} {name}: {} {value} | {} {other_value}", one.0, other.0));
         }
     }
     lines

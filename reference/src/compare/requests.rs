@@ -14,17 +14,15 @@ use reference::tables::Tables;
 
 pub fn run(case: Case, faults: Faults, detail: Detail) -> Verdict {
     let step = Step::take(&case.request, &case.tables, faults);
-    let agrees = step.agrees();
-    if !detail.shows(agrees) {
-        return Verdict { agrees, shown: String::new() };
-    }
-    let mut lines = Vec::new();
-    if detail == Detail::AllFields {
-        lines.push("  tables at first, where not 0 or none:".to_string());
-        lines.extend(changes(&Tables::empty(), &case.tables));
-    }
-    lines.extend(step.lines(&case.request, &case.tables, detail));
-    Verdict { agrees, shown: lines.join("\n") }
+    Verdict::of(step.agrees(), detail, || {
+        let mut lines = Vec::new();
+        if detail == Detail::AllFields {
+            lines.push("  tables at first, where not 0 or none:".to_string());
+            lines.extend(changes(&Tables::empty(), &case.tables));
+        }
+        lines.extend(step.lines(&case.request, &case.tables, detail));
+        lines
+    })
 }
 
 /// What each program made of a request, and how it left the tables.
@@ -49,9 +47,7 @@ impl<'a> Step<'a> {
 
     /// The request, and what is to be shown of both replies and of the tables.
     pub fn lines(&self, request: &Request, before: &Tables, detail: Detail) -> Vec<String> {
-        let input = request_fields::of(request);
-        let mut lines: Vec<String> =
-            input.into_iter().map(|(name, value)| format!("  {name}: {value}")).collect();
+        let mut lines = report::input(&request_fields::of(request));
         let (ours, reference) = (self.ours.fields(), self.reference.fields());
         lines.extend(report::compared(&ours, &reference, detail));
         if detail == Detail::AllFields {

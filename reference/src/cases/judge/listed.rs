@@ -1,5 +1,5 @@
 // The cases every run begins with: sizes and octets of cookies, orders of errors, tallies, chains.
-use super::super::reader::draft::{ChainDraft, Draft};
+use super::super::reader::draft::{sequences, ChainDraft, Draft};
 use super::super::reader::{self, atoms};
 use super::Case;
 use crate::notify::NotifyType;
@@ -86,18 +86,9 @@ fn cookie_sizes() -> Vec<Case> {
 
 /// No cookie, the one sent or another, before and after up to three notifications, or none sent.
 fn errors_in_order() -> Vec<Case> {
-    let mut orders: Vec<Vec<Draft>> = vec![vec![]];
-    let mut longest = orders.clone();
-    for _ in 0..3 {
-        let longer = longest.iter().flat_map(|order| {
-            ORDERED.map(|notify_type| [&order[..], &[notify(notify_type)]].concat())
-        });
-        longest = longer.collect();
-        orders.extend_from_slice(&longest);
-    }
     let (sent, other) = (octets(8), octets(9));
     let mut cases = Vec::new();
-    for order in orders {
+    for order in sequences(&ORDERED.map(notify), 3) {
         for sent in [&[], &sent[..]] {
             cases.push(case(sent, &order));
             for there in [cookie(&octets(8)), cookie(&other)] {

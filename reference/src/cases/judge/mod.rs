@@ -37,24 +37,19 @@ pub type JudgeCases = Seeded<Case>;
 #[cfg(test)]
 mod tests {
     use super::*;
+    use crate::cases::seeded::met;
     use crate::faults::Faults;
     use crate::judge::judge;
-    use std::collections::BTreeMap;
 
     #[test]
     fn random_cases_meet_every_answer_often() {
-        let mut met = BTreeMap::new();
-        for number in 0..5_000 {
-            let Case { sent, first, body } = responses::random(&mut Rng::from_words(&[number]));
-            let judged = judge(&sent, first, &body, Faults::NONE);
-            *met.entry((judged.number, judged.outcome, sent.is_empty())).or_insert(0) += 1;
-        }
         let with_sent = [(1, 0), (3, 0), (6, 0), (7, 0), (0, 1), (0, 2), (0, 3), (0, 4), (0, 5)];
         let without = [(3, 0), (6, 0), (7, 0), (0, 2), (0, 3), (0, 4), (0, 5)];
         let with_sent = with_sent.map(|(number, outcome)| (number, outcome, false));
         let without = without.map(|(number, outcome)| (number, outcome, true));
-        let answers: Vec<_> = with_sent.into_iter().chain(without).collect();
-        assert!(answers.iter().all(|answer| met.get(answer).is_some_and(|&n| n > 20)), "{met:?}");
-        assert_eq!(met.len(), answers.len());
+        met::assert_often(&[&with_sent[..], &without].concat(), |case: Case| {
+            let judged = judge(&case.sent, case.first, &case.body, Faults::NONE);
+            (judged.number, judged.outcome, case.sent.is_empty())
+        });
     }
 }

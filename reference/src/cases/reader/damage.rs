@@ -95,7 +95,8 @@ impl Damage {
     }
 }
 
-fn insert(rng: &mut Rng, chain: &mut ChainDraft, draft: Draft) {
+/// Puts the payload at any place.
+pub fn insert(rng: &mut Rng, chain: &mut ChainDraft, draft: Draft) {
     let place = rng.between(0, chain.payloads.len());
     chain.payloads.insert(place, draft);
 }

@@ -2,6 +2,7 @@
 use super::Case;
 use crate::chain::{HEADER_LENGTH, NOTIFY, NO_NEXT_PAYLOAD};
 use crate::notify::NotifyType;
+use std::slice::from_ref;
 
 #[derive(Debug, Clone, Default)]
 pub struct Draft {
@@ -84,4 +85,18 @@ impl ChainDraft {
         body.extend_from_slice(&self.tail);
         Case { first: self.type_at(0), body }
     }
+}
+
+/// Every sequence of at most so many of these payloads.
+pub fn sequences(payloads: &[Draft], most: usize) -> Vec<Vec<Draft>> {
+    let mut all: Vec<Vec<Draft>> = vec![vec![]];
+    let mut longest = all.clone();
+    for _ in 0..most {
+        let longer = longest.iter().flat_map(|sequence| {
+            payloads.iter().map(move |payload| [&sequence[..], from_ref(payload)].concat())
+        });
+        longest = longer.collect();
+        all.extend_from_slice(&longest);
+    }
+    all
 }

@@ -1,7 +1,8 @@
 // Random chains of requests: those that ask for something, changed or flawed ones, and any other.
 use super::super::reader::draft::{ChainDraft, Draft};
 use super::super::reader::{self, atoms, damage::Damage, mutation};
-use crate::address::{octet_count, AddressPair};
+use crate::address::AddressPair;
+use crate::notifications::no_nats_data;
 use crate::notify::NotifyType;
 use crate::rng::Rng;
 
@@ -111,13 +112,6 @@ fn no_nats(rng: &mut Rng, pair: &AddressPair, old: &AddressPair) -> Vec<u8> {
         _ => {}
     }
     told
-}
-
-/// What a NO_NATS_ALLOWED of this pair holds; pairs that aren't of family 4 count as of 6.
-pub fn no_nats_data(pair: &AddressPair) -> Vec<u8> {
-    let size = octet_count(pair.family).unwrap_or(16);
-    let ports = [pair.source_port, pair.destination_port].map(u16::to_be_bytes);
-    [&pair.source[..size], &pair.destination[..size], &ports[0], &ports[1]].concat()
 }
 
 /// The pair as in a packet to the peer.

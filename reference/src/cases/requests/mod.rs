@@ -42,22 +42,18 @@ fn random(rng: &mut Rng) -> Case {
 #[cfg(test)]
 mod tests {
     use super::*;
+    use crate::cases::seeded::met;
     use crate::faults::Faults;
     use crate::handler::handle;
-    use std::collections::BTreeMap;
 
     #[test]
     fn random_cases_meet_every_answer_often() {
-        let mut met = BTreeMap::new();
-        for number in 0..5_000 {
-            let Case { mut tables, request } = random(&mut Rng::from_words(&[number]));
-            let reply = handle(&request, &mut tables, Faults::NONE).reply;
-            *met.entry((reply.number, reply.update, reply.list)).or_insert(0) += 1;
-        }
         let done = (0..3).flat_map(|update| (0..3).map(move |list| (0, update, list)));
         let refused = (1..=9).map(|number| (number, 0, 0));
         let answers: Vec<_> = done.chain(refused).collect();
-        assert!(answers.iter().all(|answer| met.get(answer).is_some_and(|&n| n > 20)), "{met:?}");
-        assert_eq!(met.len(), answers.len());
+        met::assert_often(&answers, |Case { mut tables, request }| {
+            let reply = handle(&request, &mut tables, Faults::NONE).reply;
+            (reply.number, reply.update, reply.list)
+        });
     }
 }

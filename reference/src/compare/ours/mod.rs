@@ -3,6 +3,7 @@ pub mod judge;
 pub mod reader;
 pub mod requests;
 pub mod tables;
+pub mod writer;
 
 const _: &str = env!(
     "UNMAVRETH_LIBRARY_DIRECTORY",

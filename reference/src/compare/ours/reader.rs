@@ -35,8 +35,8 @@ struct CReading {
 }
 
 #[repr(C)]
-struct CAddressList {
-    list: [Address; 16],
+pub(super) struct CAddressList {
+    pub(super) list: [Address; 16],
 }
 
 const _: () = assert!(size_of::<CSeen>() == 74);

@@ -1,7 +1,6 @@
 -- `findings::seen::repeated` meets its contract: each arm computes the case of `repeats` that its kind picks.
 -- Assumes nothing.
 use borrow.Author.Needs.{needs}
-use borrow.Author.Tests.{eqb-true}
 use Rattle.findings.proofs.seen.repeated.Statement.{statement}
 use Rattle.findings.proofs.seen.repeated.Tie as tie
 

@@ -10,9 +10,8 @@ use mathlib.Core.Bool.{Bool, true, false, cond}
 use lib.ListN.{length, take, drop, getD, length-take, length-drop}
 use Rattle.octets.specs.Octets.{be16}
 use Rattle.payload.specs.Notify.{kindOf, dataFits}
-use Rattle.payload.specs.Payload.{notifyAt, notified, spiFits}
+use Rattle.payload.specs.Payload.{notifyAt, spiFits}
 use Rattle.payload.specs.declared.notify.NotifyKind.{NotifyKind}
-use Rattle.payload.specs.declared.payload.Found.{Found}
 use Rattle.payload.specs.declared.payload.Found.the-variants.{Payload, Faulty}
 use Rattle.payload.specs.declared.payload.Fault.the-variants.{DataSize, NotifyShape}
 use Rattle.payload.specs.declared.payload.Content.the-variants.{Notify}

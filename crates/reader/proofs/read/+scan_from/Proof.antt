@@ -1,14 +1,13 @@
 -- The proof of the cycle of calls {scan_from}. The measure is the octets left, of which each payload takes four at least. Each
 -- way that a step ends is one law of proofs/Scan.antt.
 -- Assumes nothing.
-use Prim.Native.Nat.{ℕ, _+_, _-_, _<_, _≤_}
-use mathlib.Core.Path.{_≡_, sym, _∙_}
+use Prim.Native.Nat.{ℕ, _+_, _-_, _<_}
+use mathlib.Core.Path.{sym, _∙_}
 use native.Mathlib.Omega.{arith}
 use borrow.Author.Needs.{needs}
 use lib.ListN.{length}
 use borrow.Fn.Kinds.{In}
 use borrow.Fn.PlainCycle.{Measures, is, falls, and}
-use Rattle.reader.specs.Chain.{Scanning}
 use Rattle.reader.proofs.Chain.{takes}
 use Rattle.reader.proofs.Scan.{at-end, at-leftover, at-fault, at-conflict, at-payload}
 use Rattle.findings.proofs.Counts.{counted-more}

@@ -12,7 +12,7 @@ use Rattle.writing.specs.Notify.{placed}
 use Rattle.writing.proofs.Placed.{placed-none}
 use Rattle.tables.specs.Records.{noIke}
 use Rattle.responder.specs.Core.{asked, coreResult, coreResponse}
-use Rattle.responder.specs.Handle.{request, argumentsFit, recordNumber, earlyNumber, meant, handled, handledResponse}
+use Rattle.responder.specs.Handle.{request, argumentsFit, recordNumber, earlyNumber, meant, handledResponse}
 use Rattle.responder.proofs.Checks.{Passed, passed, record-there, lent-fit, refused-early, silent-early, handled-core, handled-octets}
 use Rattle.responder.proofs.handle.handle.Statement.{statement}
 use Rattle.responder.proofs.handle.handle.Tie as tie

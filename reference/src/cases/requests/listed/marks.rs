@@ -1,8 +1,9 @@
 // Updates and lists with message IDs about the marks, fit or refused: stale comes first.
 use super::super::super::reader::draft::Draft;
-use super::super::chains::{no_nats_data, swapped};
+use super::super::chains::swapped;
 use super::setting::{self, cookie, list, packet, request, unknown, update};
 use super::Case;
+use crate::notifications::no_nats_data;
 use crate::notify::NotifyType;
 use crate::policy::Policy;
 use crate::request::Request;

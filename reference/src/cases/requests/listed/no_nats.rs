@@ -1,9 +1,10 @@
 // NO_NATS_ALLOWED: equal to the packet's pair, to another one, or off by one bit, with each effect.
 use super::super::super::reader::draft::Draft;
-use super::super::chains::{no_nats_data, swapped};
+use super::super::chains::swapped;
 use super::setting::{self, cookie, list, packet, request, update};
 use super::Case;
 use crate::address::AddressPair;
+use crate::notifications::no_nats_data;
 use crate::notify::NotifyType;
 use crate::request::Request;
 use crate::tables::Tables;

@@ -1,9 +1,9 @@
--- `initiator::response::cookie_fits` meets its contract.
+-- `requests::fits::cookie_fits` meets its contract.
 -- Assumes nothing.
 use borrow.Author.Tests.{eq-eqb, ne-eqb, lt-ltb, le-ltb}
-use Rattle.initiator.specs.Response.{cookieFits}
-use Rattle.initiator.proofs.response.cookie_fits.Statement.{statement}
-use Rattle.initiator.proofs.response.cookie_fits.Tie as tie
+use Rattle.requests.specs.Request.{cookieFits}
+use Rattle.requests.proofs.fits.cookie_fits.Statement.{statement}
+use Rattle.requests.proofs.fits.cookie_fits.Tie as tie
 
 pub cookie-fits-spec : {M : Type 1} → statement M
 unfolding cookieFits

@@ -1,0 +1,43 @@
+-- `address::address::octets_of` meets its contract. The loop's invariant: the first i are those of the list.
+-- Assumes nothing.
+use Prim.Native.Nat.{_≤_, _-_}
+use mathlib.Core.Path.{_≡_, refl}
+use mathlib.Core.List.{[]}
+use borrow.Author.Needs.{needs}
+use native.Mathlib.Omega.{arith}
+use lib.ListN.{length, replicate}
+use Rattle.octets.proofs.Mapped.{unmapped, mapped, maps-one, maps-all}
+use Rattle.address.specs.Address.{addressOf}
+use Rattle.address.specs.declared.address.Address.{Address}
+use Rattle.address.proofs.address.octets_of.Statement.{statement}
+use Rattle.address.proofs.address.octets_of.Tie as tie
+
+abbrev Inv-loop : tie.InvT-loop
+Inv-loop addresses out₀ i₀ out i = (i ≤ 16) × (out ≡ mapped (λ (a : Address). a .octets) (replicate 16 0) addresses 16 i)
+
+abbrev μ-loop : tie.MeasureT-loop
+μ-loop addresses out₀ i₀ out i = 16 - i
+
+pub octets-of-spec : {M : Type 1} → statement M
+octets-of-spec =
+    tie.close
+    (tie.spec
+    Inv-loop
+    μ-loop
+    (λ c. (search needs, refl))
+    (λ c. search needs)
+    (λ c. search needs)
+    (λ c. search needs)
+    (λ c. search needs)
+    (λ c. search needs)
+    (λ c. search needs)
+    (λ c.
+    let a = c .before .before .before .before .args in
+    let l = c .before .before .before .loop in
+    let long : length (a .t1) ≡ 16 = search (needs, unmapped) in
+    (omega arith, maps-one (λ (x : Address). x .octets) (replicate 16 0) (a .t1) 16 long (l .out) (l .i) (addressOf 0 []) (omega arith) (l .inv .1)))
+    (λ c.
+    let a = c .before .before .args in
+    let l = c .before .loop in
+    let long : length (a .t1) ≡ 16 = search (needs, unmapped) in
+    maps-all (λ (x : Address). x .octets) (replicate 16 0) (a .t1) 16 long (l .out) (l .i) (omega arith) (l .inv .1)))

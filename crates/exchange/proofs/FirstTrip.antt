@@ -1,0 +1,70 @@
+-- The first round trip: reading a written request gives back what was asked for.
+use Prim.Native.Nat.{ℕ, _≤_}
+use mathlib.Core.Path.{_≡_, refl, _∙_}
+use mathlib.Core.List.{List, [], zipWith}
+use mathlib.Core.Bool.{Bool, true, false, cond}
+use native.Mathlib.Nat.{zero-add}
+use native.Mathlib.Omega.{arith}
+use borrow.Author.Tests.{le-ltb, ltb-false}
+use lib.Dec.{eqb, ltb, leb·zero}
+use lib.ListN.{length}
+use Rattle.findings.specs.Seen.{nothingSeen}
+use Rattle.findings.specs.Values.{partOf}
+use Rattle.writing.specs.Notify.{firstType}
+use Rattle.reader.specs.Chain.{scanned, answer, reading}
+use Rattle.reader.specs.declared.read.Outcome.the-variants.{Whole}
+use Rattle.requests.specs.Request.{Request, requested, requestOctets, requestFits, writeNumber, writtenOctets, complete, notWritten, written}
+use Rattle.exchange.specs.RoundTrips.{givenBy, Sized, GivenBack, ReadingWritten}
+use Rattle.exchange.proofs.Notifies.{notifyChain}
+use Rattle.exchange.proofs.Payloads.{chain-of}
+use Rattle.exchange.proofs.Gathered.{Clear}
+use Rattle.exchange.proofs.Reading.{scan-gives}
+use Rattle.exchange.proofs.Staged.{upTo, request-leads, request-length}
+
+part-none : (body : List ℕ) → partOf body 0 0 ≡ []
+part-none body = rw (leb·zero (length body))
+
+module _ (q : Request) (z : Sized q) (fits : requestFits q ≡ true) where
+  abbrev Body : List ℕ
+  Body = requestOctets q
+
+  -- before anything is seen nothing was asked for
+  start : givenBy Body nothingSeen ≡ upTo q false false false false false 0 []
+  unfolding zipWith
+  start = rw (part-none Body)
+
+  pub given-back : GivenBack q (firstType (requested q) 0) Body
+  unfolding reading
+  given-back =
+      let leads = request-leads q z fits in
+      let clear : Clear (givenBy Body nothingSeen) (requested q) = rw start (leads .clear) in
+      let found = scan-gives Body (requested q) [] refl (leads .fits) nothingSeen 0 clear refl (λ e. refl) in
+      let read : reading (firstType (requested q) 0) Body ≡ answer Whole (scanned nothingSeen (notifyChain 0 (requested q)) .seen) =
+      rw (le-ltb 4096 (length Body) (omega (arith, request-length q z fits)), chain-of (requested q) (leads .fits) [], found .whole) in
+      record {
+        number = rw read;
+        tally = rw (read, found .tally, zero-add);
+        values = rw read (found .values ∙ rw start (leads .gives));
+      }
+
+-- The writer's answer, by whether the request fits.
+module _ (q : Request) (room : ℕ) where
+  pub fits-written : requestFits q ≡ true → 564 ≤ room → (written q room ≡ complete q) × (writtenOctets q room ≡ requestOctets q)
+  unfolding writeNumber written writtenOctets
+  fits-written f r = (rw (f, le-ltb room 564 r), rw (f, le-ltb room 564 r))
+
+  pub number-zero : written q room .number ≡ 0 → (requestFits q ≡ true) × (564 ≤ room)
+  unfolding writeNumber written
+  number-zero = go (requestFits q) (ltb room 564) refl
+    where
+      go : (b c : Bool) → ltb room 564 ≡ c
+          → cond (eqb (cond b (cond c 2 0) 1) 0) (complete q) (notWritten (cond b (cond c 2 0) 1)) .number ≡ 0 → (b ≡ true) × (564 ≤ room)
+      go true true t e = absurd (omega arith)
+      go true false t e = (refl, ltb-false room 564 t)
+      go false c t e = absurd (omega arith)
+
+pub reading-written : ReadingWritten
+reading-written q room z e =
+    let n = number-zero q room e in
+    let w = fits-written q room (n .0) (n .1) in
+    rw (w .0, w .1) (given-back q z (n .0))

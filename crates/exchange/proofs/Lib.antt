@@ -1,0 +1,17 @@
+-- Laws that belong to no one function.
+pub mod Notifies
+pub mod Payloads
+pub mod Gathered
+pub mod Reading
+pub mod Pairs
+pub mod Staged
+pub mod FirstTrip
+pub mod Places
+pub mod Parsed
+pub mod Ranked
+pub mod Data
+pub mod Asked
+pub mod Plainly
+pub mod Ordered
+pub mod SecondTrip
+pub mod Answered

@@ -1,0 +1,110 @@
+-- Scanning a chain of notifications gives what they ask for: what was seen, with the octets at its places, is the request gathered.
+use Prim.Native.Nat.{ℕ, zero, suc, _+_}
+use mathlib.Core.Path.{_≡_, refl, sym, ap, _∙_}
+use mathlib.Core.List.{List, [], _∷_, _++_, zipWith, append-assoc}
+use mathlib.Core.Bool.{true, false, false≢true}
+use native.Mathlib.Omega.{arith}
+use borrow.Author.Tests.{eqb-true, eq-eqb, ne-eqb, le-leb, leb-true, not-false}
+use lib.Dec.{eqb}
+use lib.ListN.{length, set, length-append}
+use lib.Seq.{drop-append-add, take-append-seam}
+use Rattle.octets.proofs.Small.{both}
+use Rattle.payload.specs.Notify.{kindOf, dataFits}
+use Rattle.payload.specs.declared.notify.NotifyKind.{NotifyKind}
+use Rattle.payload.specs.declared.notify.NotifyKind.the-variants.{NatDetectionSource, NatDetectionDestination, MobikeSupported, AdditionalIp4, AdditionalIp6, NoAdditionalAddresses, UpdateSaAddresses, Cookie2, NoNatsAllowed, Unknown}
+use Rattle.findings.specs.Seen.{noted, contentNoted, repeats, counted, withTally}
+use Rattle.findings.specs.Values.{partOf, addressAt}
+use Rattle.findings.specs.declared.seen.Seen.{Seen}
+use Rattle.findings.specs.declared.seen.Tally.{Tally}
+use Rattle.writing.specs.Notify.{Notification, notifyOctets, firstType, chained}
+use Rattle.writing.proofs.Placed.{length-notify}
+use Rattle.reader.specs.Chain.{scanned}
+use Rattle.reader.specs.declared.read.Scan.{Scan}
+use Rattle.reader.specs.declared.read.Outcome.the-variants.{Whole}
+use Rattle.requests.specs.Request.{Request}
+use Rattle.exchange.specs.RoundTrips.{givenBy, allKnown}
+use Rattle.exchange.proofs.Notifies.{AllFit, notifyChain}
+use Rattle.exchange.proofs.Payloads.{length-body}
+use Rattle.exchange.proofs.Gathered.{gathered, taken, gatherAll, Clear}
+
+-- a notification's data stands behind its header
+pub part-at : (front : List ℕ) (next number : ℕ) (octets rest : List ℕ)
+    → partOf (front ++ (notifyOctets next number octets ++ rest)) (length front + 8) (length octets) ≡ octets
+unfolding notifyOctets
+part-at front next number octets rest =
+    rw (
+      le-leb (length front + 8 + length octets) (length (front ++ (notifyOctets next number octets ++ rest)))
+          (omega (arith, length-body front next number octets rest)),
+      drop-append-add front (notifyOctets next number octets ++ rest) 8,
+    )
+    (take-append-seam octets rest)
+
+-- two lists stored into at one place, then joined
+zip-set : {A B C : Type 0} (f : A → B → C) (xs : List A) (ys : List B) (i : ℕ) (x : A) (y : B)
+    → zipWith f (set xs i x) (set ys i y) ≡ set (zipWith f xs ys) i (f x y)
+unfolding zipWith
+zip-set f [] ys i x y = refl
+zip-set f (a ∷ xs) [] zero x y = refl
+zip-set f (a ∷ xs) [] (suc i) x y = refl
+zip-set f (a ∷ xs) (b ∷ ys) zero x y = refl
+zip-set f (a ∷ xs) (b ∷ ys) (suc i) x y = ap (λ l. f a b ∷ l) (zip-set f xs ys i x y)
+
+-- where no cookie is handed out none was seen
+abbrev NoneSeen : List ℕ → Seen → Type 0
+NoneSeen body s = length (givenBy body s .cookie) ≡ 0 → s .cookie ≡ 0
+
+-- A notification noted: its data stands at `place`, and what it asks for was not asked for before.
+module _ (body : List ℕ) (s : Seen) (t : Tally) (number place : ℕ) (octets : List ℕ) (later : place ≡ 0 → ⊥)
+    (there : partOf body place (length octets) ≡ octets) (cookies : NoneSeen body s) where
+  part : (n : ℕ) → eqb (length octets) n ≡ true → partOf body place n ≡ octets
+  part n e = rw (eqb-true (length octets) n e) at there
+
+  abbrev Noted : NotifyKind → Seen → Type 0
+  Noted k next =
+      (repeats s k ≡ false) × (next .tally ≡ t) × (givenBy body next ≡ gathered (givenBy body s) k octets) × NoneSeen body next
+
+  one-noted : (k : NotifyKind) → dataFits k (length octets) ≡ true → taken (givenBy body s) k ≡ false
+      → Noted k (noted (withTally s t) k number place (length octets))
+  unfolding noted
+  one-noted NatDetectionSource f c =
+      (refl, refl, rw (not-false (eqb (s .«nat_source») 0) c, ne-eqb place 0 later, part 20 f), cookies)
+  one-noted NatDetectionDestination f c = (c, refl, rw (ne-eqb place 0 later, part 20 f), cookies)
+  one-noted MobikeSupported f c = (refl, refl, refl, cookies)
+  one-noted AdditionalIp4 f c = (c, refl, rw (zip-set (addressAt body), part 4 f), cookies)
+  one-noted AdditionalIp6 f c = (c, refl, rw (zip-set (addressAt body), part 16 f), cookies)
+  one-noted NoAdditionalAddresses f c = (c, refl, refl, cookies)
+  one-noted UpdateSaAddresses f c = (c, refl, refl, cookies)
+  one-noted Cookie2 f c = (
+    rw (eq-eqb (s .cookie) 0 (cookies (eqb-true _ 0 (not-false _ c)))),
+    refl,
+    rw there,
+    rw there λ e. absurd (omega (arith, leb-true 8 (length octets) (both _ _ f .0))),
+  )
+  one-noted NoNatsAllowed f c = (c, refl, rw (ne-eqb place 0 later, there), cookies)
+  one-noted Unknown f c = absurd (false≢true (sym c))
+
+-- how a scan ended: whole, with these values and so many payloads
+pub record Scanned (body : List ℕ) (found : Scan) (r : Request) (n : ℕ) : Type 0 where
+  pub whole : found .outcome ≡ Whole
+  pub values : givenBy body (found .seen) ≡ r
+  pub tally : found .seen .tally ≡ allKnown n
+
+module _ (body : List ℕ) where
+  -- a whole chain, behind `front`: by induction, one notification noted at each step
+  pub scan-gives : (xs : List Notification) (front : List ℕ) → body ≡ front ++ chained xs 0 → AllFit xs
+      → (s : Seen) (n : ℕ) → Clear (givenBy body s) xs → s .tally ≡ allKnown n → NoneSeen body s
+      → Scanned body (scanned s (notifyChain (length front) xs)) (gatherAll (givenBy body s) xs) (n + length xs)
+  unfolding chained scanned contentNoted
+  scan-gives [] front e fits s n clear known cookies =
+      record { whole = refl; values = refl; tally = known ∙ ap allKnown (omega arith) }
+  scan-gives (x ∷ xs) front e fits s n clear known cookies =
+      let first = notifyOctets (firstType xs 0) (x .number) (x .octets) in
+      let more : length front + (8 + length (x .octets)) ≡ length (front ++ first) = simp (length-append, length-notify) in
+      let place = length front + 8 in
+      let k = kindOf (x .number) in
+      let there : partOf body place (length (x .octets)) ≡ x .octets = rw e (part-at front (firstType xs 0) (x .number) (x .octets) (chained xs 0)) in
+      let step = one-noted body s (counted (s .tally) 0) (x .number) place (x .octets) (omega arith) there cookies k (fits .0) (clear .0) in
+      let count : n + suc (length xs) ≡ n + 1 + length xs = omega arith in
+      rw (step .0, more, ← step .2, count)
+      (scan-gives xs (front ++ first) (e ∙ sym (append-assoc front first (chained xs 0))) (fits .1)
+      _ (n + 1) (rw (step .2) (clear .1)) (rw (step .1, known)) (step .3))

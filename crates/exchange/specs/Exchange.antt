@@ -1,0 +1,39 @@
+-- One exchange: a written request, the responder's reply to it, and what the initiator makes of the response.
+use Prim.Native.Nat.{ℕ}
+use mathlib.Core.Path.{_≡_}
+use mathlib.Core.List.{List}
+use Rattle.policy.specs.declared.rules.Policy.{Policy}
+use Rattle.tables.specs.declared.ike.IkeRecord.{IkeRecord}
+use Rattle.tables.specs.declared.ipsec.IpsecRecord.{IpsecRecord}
+use Rattle.responder.specs.Handle.{Request as Received, handled, handledResponse}
+use Rattle.responder.specs.declared.core.Reply.{Reply}
+use Rattle.requests.specs.Request.{Request, written, writtenOctets}
+use Rattle.initiator.specs.Response.{assessment}
+use Rattle.initiator.specs.declared.response.Assessment.{Assessment}
+use Rattle.exchange.specs.RoundTrips.{Sized}
+
+-- What the hosts must do: hand the responder the first type and the octets that the writer gave. The SPI, the ID, the packet's
+-- pair, the lent NAT values and the responder's output are free.
+pub record Carried (q : Request) (room : ℕ) (r : Received) : Type 0 where
+  pub first : r .asks .first ≡ written q room .first
+  pub body : r .asks .body ≡ writtenOctets q room
+
+-- accepted, with nothing unknown in the response
+pub record Accepted (a : Assessment) : Type 0 where
+  pub number : a .number ≡ 0
+  pub outcome : a .outcome ≡ 5
+  pub tally : a .tally ≡ 0
+
+-- The request is never answered 6 or 7. Where the responder says done, its response, handed to the initiator with its first type
+-- and beside the cookie that was sent, is accepted.
+pub record Understood (q : Request) (reply : Reply) (response : List ℕ) : Type 0 where
+  pub not-malformed : reply .number ≡ 6 → ⊥
+  pub not-critical : reply .number ≡ 7 → ⊥
+  pub accepted : reply .number ≡ 0 → Accepted (assessment (q .cookie) (reply .first) response)
+
+-- From any policy and any tables.
+abbrev pub AllUnderstood : Type 0
+AllUnderstood =
+    (q : Request) (room : ℕ) → Sized q → written q room .number ≡ 0
+    → (policy : Policy) (ike : List IkeRecord) (ipsec : List IpsecRecord) (r : Received) → Carried q room r
+    → Understood q (handled policy ike ipsec r .reply) (handledResponse policy ike ipsec r)

@@ -1,0 +1,103 @@
+-- The two round trips of demand 2, about the calls' own definitions: "Reading a written request gives back what was asked for;
+-- writing a plainly read one gives back its octets."
+use Prim.Native.Nat.{ℕ, _-_, _≤_, _<_}
+use mathlib.Core.Path.{_≡_}
+use mathlib.Core.List.{List, [], _++_}
+use mathlib.Core.Bool.{true, cond, not}
+use lib.Dec.{eqb}
+use lib.ListN.{length, take, getD, replicate}
+use Rattle.address.specs.Address.{noPair}
+use Rattle.address.specs.declared.pair.Pair.{Pair}
+use Rattle.findings.specs.Values.{partOf, natValue, noNatsSeen, additionalOf}
+use Rattle.findings.specs.declared.seen.Seen.{Seen}
+use Rattle.findings.specs.declared.seen.Tally.{Tally}
+use Rattle.findings.specs.declared.values.NoNats.{NoNats}
+use Rattle.reader.specs.Chain.{reading}
+use Rattle.requests.specs.Request.{Request, requested, written, writtenOctets}
+use Rattle.exchange.specs.Plain.{plainlyRead}
+
+abbrev pub pairOf : NoNats → Pair
+pairOf n =
+    record { family = n .family; source = n .source; destination = n .destination; «source_port» = n .«source_port»; «destination_port» = n .«destination_port» }
+
+-- What was seen in a body, as the writer takes it.
+abbrev pub givenBy : List ℕ → Seen → Request
+givenBy body s =
+    record {
+      ask =
+          record {
+            update = s .update;
+            «no_nats» = not (eqb (s .«no_nats») 0);
+            «nat_source» = not (eqb (s .«nat_source») 0);
+            «nat_destination» = not (eqb (s .«nat_destination») 0);
+            «no_additional» = s .«no_additional»;
+            count = s .list .count;
+          };
+      pair = pairOf (noNatsSeen body s);
+      families = s .list .families;
+      addresses = additionalOf body (s .list .places) (s .list .families);
+      source = natValue body (s .«nat_source»);
+      destination = natValue body (s .«nat_destination»);
+      cookie = partOf body (s .cookie) (s .«cookie_len»);
+    }
+
+-- What reading a chain hands out.
+abbrev pub given : ℕ → List ℕ → Request
+given first body = givenBy body (reading first body .seen)
+
+-- the first n of sixteen, and `none` in the places past them
+abbrev pub firstOnes : {A : Type 0} → A → ℕ → List A → List A
+firstOnes none n xs = take n xs ++ replicate (16 - n) none
+
+-- What was asked for, with 0 or nothing for what was not.
+abbrev pub askedFor : Request → Request
+askedFor q =
+    record {
+      ask = q .ask;
+      pair = cond (q .ask .«no_nats») (q .pair) noPair;
+      families = firstOnes 0 (q .ask .count) (q .families);
+      addresses = firstOnes (replicate 16 0) (q .ask .count) (q .addresses);
+      source = cond (q .ask .«nat_source») (q .source) [];
+      destination = cond (q .ask .«nat_source») (q .destination) [];
+      cookie = q .cookie;
+    }
+
+-- The sizes of the arrays, which their types fix.
+pub record Sized (q : Request) : Type 0 where
+  pub source : length (q .pair .source) ≡ 16
+  pub destination : length (q .pair .destination) ≡ 16
+  pub families : length (q .families) ≡ 16
+  pub addresses : length (q .addresses) ≡ 16
+  pub octets : (i : ℕ) → i < 16 → length (getD (q .addresses) i []) ≡ 16
+
+-- so many payloads, none of them unknown
+abbrev pub allKnown : ℕ → Tally
+allKnown n = record { payloads = n; «unknown_payloads» = 0; «unknown_notifies» = 0; errors = 0; «first_error» = 0 }
+
+-- "Reading a written request gives back what was asked for": every argument asked for, each value, and nothing else.
+pub record GivenBack (q : Request) (first : ℕ) (body : List ℕ) : Type 0 where
+  pub number : reading first body .number ≡ 0
+  pub tally : reading first body .seen .tally ≡ allKnown (length (requested q))
+  pub values : given first body ≡ askedFor q
+
+abbrev pub ReadingWritten : Type 0
+ReadingWritten =
+    (q : Request) (room : ℕ) → Sized q → written q room .number ≡ 0
+    → GivenBack q (written q room .first) (writtenOctets q room)
+
+-- a chain's octets are octets
+abbrev pub Octets : List ℕ → Type 0
+Octets body = (i : ℕ) → getD body i 0 < 256
+
+-- "writing a plainly read one gives back its octets": first type, length and every octet, in any output that is long enough.
+abbrev pub WrittenAgain : ℕ → List ℕ → Type 0
+WrittenAgain first body =
+    (room : ℕ) → 564 ≤ room
+    → (written (given first body) room ≡ record { number = 0; first = first; length = length body })
+    × (writtenOctets (given first body) room ≡ body)
+
+-- A chain is plainly read exactly if writing what it gave writes it again.
+abbrev pub WritingRead : Type 0
+WritingRead =
+    (first : ℕ) (body : List ℕ) → Octets body
+    → (plainlyRead first body ≡ true → WrittenAgain first body) × (WrittenAgain first body → plainlyRead first body ≡ true)

@@ -1,0 +1,18 @@
+// A request written by both programs.
+use crate::kinds::Verdict;
+use crate::ours;
+use crate::report::{self, Detail};
+use reference::asking::Arguments;
+use reference::asking_fields;
+use reference::faults::Faults;
+use reference::writer;
+
+pub fn run(arguments: Arguments, faults: Faults, detail: Detail) -> Verdict {
+    let ours = ours::writer::write(&arguments);
+    let reference = writer::write(&arguments, faults);
+    Verdict::of(ours == reference, detail, || {
+        let mut lines = report::input(&asking_fields::of(&arguments));
+        lines.extend(report::compared(&ours.fields(), &reference.fields(), detail));
+        lines
+    })
+}

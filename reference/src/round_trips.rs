@@ -1,0 +1,180 @@
+// Round trips: a request that is written and then read, and a chain that is read and then written.
+use crate::address::{Address, AddressPair};
+use crate::asking::{Arguments, Ask, LEAST_OUTPUT};
+use crate::faults::{Fault, Faults};
+use crate::outcome::Outcome;
+use crate::reader;
+use crate::show;
+use crate::summary::MAX_KEPT;
+use crate::writer::{self, Written};
+
+/// A program's reader and writer.
+pub trait Program {
+    fn read<'a>(&self, first: u8, body: &'a [u8]) -> Outcome<'a>;
+    fn write(&self, arguments: &Arguments) -> Written;
+}
+
+/// This program.
+pub struct Model(pub Faults);
+
+impl Program for Model {
+    fn read<'a>(&self, first: u8, body: &'a [u8]) -> Outcome<'a> {
+        Outcome::of(&reader::read(first, body, self.0))
+    }
+
+    fn write(&self, arguments: &Arguments) -> Written {
+        writer::write(arguments, self.0)
+    }
+}
+
+/// What was asked for, or what was read: every argument, empty or 0 where it is absent.
+#[derive(Debug, Clone, Default, PartialEq, Eq)]
+pub struct Content {
+    /// The reader's answer.
+    pub number: u8,
+    pub payloads: usize,
+    /// Unknown payloads and notifications.
+    pub unknown: usize,
+    pub update: u8,
+    pub no_additional: u8,
+    pub no_nats: bool,
+    pub pair: AddressPair,
+    pub nat_source: Vec<u8>,
+    pub nat_destination: Vec<u8>,
+    pub addresses: usize,
+    pub families: [u8; MAX_KEPT],
+    pub list: [Address; MAX_KEPT],
+    pub cookie: Vec<u8>,
+}
+
+impl Content {
+    fn read(outcome: &Outcome) -> Self {
+        Content {
+            number: outcome.number,
+            payloads: outcome.payloads,
+            unknown: outcome.unknown_payloads + outcome.unknown_notifies,
+            update: outcome.update,
+            no_additional: outcome.no_additional,
+            no_nats: outcome.no_nats.length != 0,
+            pair: outcome.no_nats_pair,
+            nat_source: outcome.nat_source.octets.to_vec(),
+            nat_destination: outcome.nat_destination.octets.to_vec(),
+            addresses: outcome.addresses,
+            families: outcome.address_families,
+            list: outcome.address_list,
+            cookie: outcome.cookie.octets.to_vec(),
+        }
+    }
+
+    /// Of arguments that pass the writer's checks.
+    fn asked(arguments: &Arguments, faults: Faults) -> Self {
+        let Ask { update, no_nats, nat_source, nat_destination, no_additional, .. } = arguments.ask;
+        let value = |asked, value: &[u8]| {
+            if asked || faults.on(Fault::AskedValuesAlways) {
+                value.to_vec()
+            } else {
+                vec![]
+            }
+        };
+        let list = asked_list(arguments, faults);
+        let has_pair = no_nats || faults.on(Fault::AskedPairAlways);
+        Content {
+            number: 0,
+            payloads: asked_payloads(arguments, faults),
+            unknown: 0,
+            update: u8::from(update),
+            no_additional: u8::from(no_additional),
+            no_nats,
+            pair: if has_pair { arguments.pair } else { AddressPair::ZERO },
+            nat_source: value(nat_source, &arguments.nat_source),
+            nat_destination: value(nat_destination, &arguments.nat_destination),
+            addresses: usize::from(arguments.ask.count),
+            families: list.map(|address| address.family),
+            list,
+            cookie: arguments.cookie.clone(),
+        }
+    }
+
+    /// Every field by name, to be shown.
+    pub fn fields(&self) -> Vec<(String, String)> {
+        let fields = [
+            ("number", self.number.to_string()),
+            ("payloads", self.payloads.to_string()),
+            ("unknown", self.unknown.to_string()),
+            ("update", self.update.to_string()),
+            ("no additional addresses", self.no_additional.to_string()),
+            ("no NATs allowed", self.no_nats.to_string()),
+            ("no NATs allowed, pair", show::pair(&self.pair)),
+            ("NAT source", show::hex(&self.nat_source)),
+            ("NAT destination", show::hex(&self.nat_destination)),
+            ("additional addresses", self.addresses.to_string()),
+            ("families", show::hex(&self.families)),
+            ("cookie", show::hex(&self.cookie)),
+        ];
+        let mut fields = fields.map(|(name, value)| (name.to_string(), value)).to_vec();
+        let list = self.list.iter().map(show::address).enumerate();
+        fields.extend(list.map(|(place, address)| (format!("address list {place}"), address)));
+        fields
+    }
+}
+
+/// The addresses asked for, and 0 past them.
+fn asked_list(arguments: &Arguments, faults: Faults) -> [Address; MAX_KEPT] {
+    let mut list = arguments.addresses;
+    if !faults.on(Fault::AskedPastCount) {
+        list[arguments.asked_addresses(faults).len()..].fill(Address::ZERO);
+    }
+    list
+}
+
+/// How many payloads are asked for.
+fn asked_payloads(arguments: &Arguments, faults: Faults) -> usize {
+    let Ask { update, no_nats, nat_source, nat_destination, no_additional, count } = arguments.ask;
+    let cookie = !arguments.cookie.is_empty();
+    let single = [update, no_nats, nat_source, nat_destination, no_additional, cookie];
+    let once = faults.on(Fault::AskedListOnce);
+    let of_list = if once { count.min(1) } else { count };
+    single.into_iter().filter(|&asked| asked).count() + usize::from(of_list)
+}
+
+/// What reading what was written must give: what was asked for, and none if it isn't written.
+pub fn expected(arguments: &Arguments, faults: Faults) -> Option<Content> {
+    arguments.check(faults).is_ok().then(|| Content::asked(arguments, faults))
+}
+
+/// What the program reads of what it writes; none if it doesn't write it.
+pub fn written_and_read(program: &impl Program, arguments: &Arguments) -> Option<Content> {
+    let written = program.write(arguments);
+    let read = || Content::read(&program.read(written.first, written.octets()));
+    (written.number == 0).then(read)
+}
+
+/// Whether the program reads the chain and, asked for what it read, writes the same chain.
+pub fn is_written_again(program: &impl Program, first: u8, body: &[u8]) -> bool {
+    let outcome = program.read(first, body);
+    if outcome.number != 0 {
+        return false;
+    }
+    let written = program.write(&asking_again(&outcome));
+    written.number == 0 && written.first == first && written.octets() == body
+}
+
+/// Asks for all that was read, and for nothing else.
+fn asking_again(outcome: &Outcome) -> Arguments {
+    Arguments {
+        ask: Ask {
+            update: outcome.update != 0,
+            no_nats: outcome.no_nats.length != 0,
+            nat_source: outcome.nat_source.length != 0,
+            nat_destination: outcome.nat_destination.length != 0,
+            no_additional: outcome.no_additional != 0,
+            count: outcome.addresses as u16,
+        },
+        pair: outcome.no_nats_pair,
+        addresses: outcome.address_list,
+        nat_source: outcome.nat_source.octets.to_vec(),
+        nat_destination: outcome.nat_destination.octets.to_vec(),
+        cookie: outcome.cookie.octets.to_vec(),
+        output: vec![0x5a; LEAST_OUTPUT],
+    }
+}
