@@ -1,7 +1,7 @@
 // Addresses and address pairs as they travel: sixteen octets each, told apart by their family.
 //
-// These structs, and those of tables.rs and policy.rs, are laid out as in the library's C interface
-// and so are handed over as they are.
+// These structs, and the records of tables.rs and the structs of policy.rs, are laid out as in the
+// library's C interface and so are handed over as they are.
 use crate::faults::{Fault, Faults};
 
 /// Addresses are held in 16 octets, IPv4 in the first four with zeros after.

@@ -1,11 +1,13 @@
 // Closing records: a place is set free, and with an IKE record those of the IPsec records it owns.
 use crate::calls::{refuse_if, Refusal};
 use crate::faults::{Fault, Faults};
+use crate::list_length::{self, User};
 use crate::tables::{find, same_spi, IkeRecord, IpsecRecord, Record, Tables};
 
 /// Checks 1, 4.
 pub fn close_ike(tables: &mut Tables, spi: u64, faults: Faults) -> Result<(), Refusal> {
-    let place = place_of(&tables.ike.records, spi, faults)?;
+    let list = list_length::check(tables, User::Closing, faults);
+    let place = place_of(&tables.ike.records, spi, list, faults)?;
     let closed = tables.ike.records[place];
     let freed = freed_place(&closed, faults);
     if faults.on(Fault::TwinsClosed) {
@@ -14,19 +16,33 @@ pub fn close_ike(tables: &mut Tables, spi: u64, faults: Faults) -> Result<(), Re
     }
     tables.ike_mut()[place] = freed;
     close_owned(tables, &closed, faults);
-    Ok(())
+    list
 }
 
 /// Checks 1, 4.
 pub fn close_ipsec(tables: &mut Tables, spi: u32, faults: Faults) -> Result<(), Refusal> {
-    let place = place_of(&tables.ipsec.records, u64::from(spi), faults)?;
+    let list = list_length::check(tables, User::Closing, faults);
+    let place = place_of(&tables.ipsec.records, u64::from(spi), list, faults)?;
     tables.ipsec_mut()[place] = IpsecRecord::FREE;
-    Ok(())
+    list
 }
 
-fn place_of<R: Record>(records: &[R], spi: u64, faults: Faults) -> Result<usize, Refusal> {
+/// The place that the SPI means, unless check 1 of it or of the list fails, or check 4.
+fn place_of<R: Record>(
+    records: &[R],
+    spi: u64,
+    list: Result<(), Refusal>,
+    faults: Faults,
+) -> Result<usize, Refusal> {
     refuse_if(spi == 0, Refusal::Argument)?;
-    find(records, spi, faults).ok_or(Refusal::NoSuchRecord)
+    let place = find(records, spi, faults).ok_or(Refusal::NoSuchRecord);
+    if faults.on(Fault::ListAfterRecord) {
+        place?;
+    }
+    if !faults.on(Fault::OtherListClosed) {
+        list?;
+    }
+    place
 }
 
 /// What is left in the place of an IKE record that was closed: 0 or none in every field.
@@ -105,6 +121,20 @@ mod tests {
         let mut tables = tables(&[], &[(0, 7), (1, 7), (1, 8)]);
         assert_eq!(close_ipsec(&mut tables, 1, Faults::NONE), Ok(()));
         assert_eq!(ipsec(&tables, 3), [(0, 7), (0, 0), (1, 8)]);
+    }
+
+    #[test]
+    fn a_list_of_another_length_is_refused_before_the_record_is_looked_for() {
+        for length in [0, 1, 127, 129, 300] {
+            let mut tables = tables(&[7], &[(1, 7)]).with_ipsec_length(length);
+            let before = tables.clone();
+            for spi in [0, 1, 7] {
+                let refused = Err(Refusal::Argument);
+                assert_eq!(close_ike(&mut tables, u64::from(spi), Faults::NONE), refused);
+                assert_eq!(close_ipsec(&mut tables, spi, Faults::NONE), refused);
+            }
+            assert_eq!(tables, before);
+        }
     }
 
     #[test]

@@ -26,6 +26,12 @@ pub enum Fault {
     Types49Known,
     FifteenAddresses,
     PortsSwapped,
+    FlawedCookieTold,
+    CookieCut,
+    CookiePastByOne,
+    CookieEndWraps,
+    CookieToEnd,
+    CookieAlike,
 
     SourceTailOnly,
     Spi32Bits,
@@ -56,6 +62,16 @@ pub enum Fault {
     Length0Nothing,
     HalvesAddUp,
     PrefixesSwapped,
+    ListOf127,
+    ListOf129,
+    ListsLonger,
+    ListLengthOctet,
+    ListLength16Bits,
+    OpenedListsShorter,
+    ClosedListOf0,
+    ListAfterRecord,
+    OtherListOpened,
+    OtherListClosed,
 
     MarkWhenApplied,
     OneMark,
@@ -96,6 +112,16 @@ pub enum Fault {
     NatDestinationFirst,
     CookieHeader,
     RestCleared,
+    ServedListOf127,
+    ServedListOf129,
+    ServedListOf0,
+    ServedAnyList,
+    ServedWithoutUpdate,
+    ServedListAfterOutput,
+    ServedListLast,
+    OtherListServed,
+    RefusedCookieTold,
+    FlawedCookieHandedOut,
 
     AnySequence,
     DoneIsSound,
@@ -184,7 +210,7 @@ pub enum Fault {
     PlainNeedsUpdate,
 }
 
-const OF_READER: [(Fault, &str); 22] = [
+const OF_READER: [(Fault, &str); 28] = [
     (Fault::LastFlaw, "last-flaw"),
     (Fault::CriticalSkipped, "critical-skipped"),
     (Fault::CriticalKnown, "critical-known"),
@@ -207,9 +233,15 @@ const OF_READER: [(Fault, &str); 22] = [
     (Fault::Types49Known, "types-49-known"),
     (Fault::FifteenAddresses, "fifteen-addresses"),
     (Fault::PortsSwapped, "ports-swapped"),
+    (Fault::FlawedCookieTold, "flawed-cookie-told"),
+    (Fault::CookieCut, "cookie-cut"),
+    (Fault::CookiePastByOne, "cookie-past-by-one"),
+    (Fault::CookieEndWraps, "cookie-end-wraps"),
+    (Fault::CookieToEnd, "cookie-to-end"),
+    (Fault::CookieAlike, "cookie-alike"),
 ];
 
-const OF_TABLES: [(Fault, &str); 29] = [
+const OF_TABLES: [(Fault, &str); 39] = [
     (Fault::SourceTailOnly, "source-tail-only"),
     (Fault::Spi32Bits, "spi-32-bits"),
     (Fault::HighestTwin, "highest-twin"),
@@ -239,9 +271,19 @@ const OF_TABLES: [(Fault, &str); 29] = [
     (Fault::Length0Nothing, "length-0-nothing"),
     (Fault::HalvesAddUp, "halves-add-up"),
     (Fault::PrefixesSwapped, "prefixes-swapped"),
+    (Fault::ListOf127, "list-of-127"),
+    (Fault::ListOf129, "list-of-129"),
+    (Fault::ListsLonger, "lists-longer"),
+    (Fault::ListLengthOctet, "list-length-octet"),
+    (Fault::ListLength16Bits, "list-length-16-bits"),
+    (Fault::OpenedListsShorter, "opened-lists-shorter"),
+    (Fault::ClosedListOf0, "closed-list-of-0"),
+    (Fault::ListAfterRecord, "list-after-record"),
+    (Fault::OtherListOpened, "other-list-opened"),
+    (Fault::OtherListClosed, "other-list-closed"),
 ];
 
-const OF_REQUESTS: [(Fault, &str); 39] = [
+const OF_REQUESTS: [(Fault, &str); 49] = [
     (Fault::MarkWhenApplied, "mark-when-applied"),
     (Fault::OneMark, "one-mark"),
     (Fault::ListAppended, "list-appended"),
@@ -281,6 +323,16 @@ const OF_REQUESTS: [(Fault, &str); 39] = [
     (Fault::NatDestinationFirst, "nat-destination-first"),
     (Fault::CookieHeader, "cookie-header"),
     (Fault::RestCleared, "rest-cleared"),
+    (Fault::ServedListOf127, "served-list-of-127"),
+    (Fault::ServedListOf129, "served-list-of-129"),
+    (Fault::ServedListOf0, "served-list-of-0"),
+    (Fault::ServedAnyList, "served-any-list"),
+    (Fault::ServedWithoutUpdate, "served-without-update"),
+    (Fault::ServedListAfterOutput, "served-list-after-output"),
+    (Fault::ServedListLast, "served-list-last"),
+    (Fault::OtherListServed, "other-list-served"),
+    (Fault::RefusedCookieTold, "refused-cookie-told"),
+    (Fault::FlawedCookieHandedOut, "flawed-cookie-handed-out"),
 ];
 
 const OF_ORDERS: [(Fault, &str); 8] = [
@@ -442,7 +494,8 @@ mod tests {
         let case = cases.case(number);
         let sound = read(case.first, &case.body, Faults::NONE);
         let faulty = read(case.first, &case.body, Faults::only(fault));
-        Outcome::of(&sound) != Outcome::of(&faulty)
+        let outcome = |reading, faults| Outcome::of(reading, &case.body, faults);
+        outcome(&sound, Faults::NONE) != outcome(&faulty, Faults::only(fault))
     }
 
     fn shows_in_tables(cases: &TablesCases, number: u64, fault: Fault) -> bool {

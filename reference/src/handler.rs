@@ -1,5 +1,5 @@
 // The request handler: what a request gives back and writes, and what it does to the tables.
-use crate::calls::Refusal;
+use crate::cookie::{self, hand_out};
 use crate::faults::{Fault, Faults};
 use crate::notifications::first_type;
 use crate::outcome::Place;
@@ -11,7 +11,12 @@ use crate::tables::Tables;
 
 pub fn handle<'a>(request: &'a Request, tables: &mut Tables, faults: Faults) -> Handled<'a> {
     let (mut reply, response) = match request.check(tables, faults) {
-        Err(Failed::Refused(refusal)) => refused(refusal),
+        Err(Failed::Refused(refusal)) => {
+            if faults.on(Fault::OtherListServed) {
+                serve_with_any_list(request, tables);
+            }
+            (Reply { number: refusal as u8, ..Reply::default() }, vec![])
+        }
         Err(Failed::Flawed(flaw)) => {
             let (number, offset) = (flaw.cause.answer(), flaw.offset);
             let response = response::to_flawed(request, flaw, faults);
@@ -19,6 +24,11 @@ pub fn handle<'a>(request: &'a Request, tables: &mut Tables, faults: Faults) -> 
         }
         Ok(passed) => serve(request, &passed, tables, faults),
     };
+    if takes_cookie_of_refused(reply.number, faults) {
+        reply.cookie = Place::of(cookie::of_refused(request.first, &request.body, faults));
+    }
+    let (at, length) = reply.cookie.as_told();
+    reply.handed_out = hand_out(&request.body, at, length, faults);
     reply.first = first_type(&response);
     reply.length = response.len();
     let mut output = request.output.clone();
@@ -29,8 +39,20 @@ pub fn handle<'a>(request: &'a Request, tables: &mut Tables, faults: Faults) -> 
     Handled { reply, output }
 }
 
-fn refused<'a>(refusal: Refusal) -> (Reply<'a>, Vec<u8>) {
-    (Reply { number: refusal as u8, ..Reply::default() }, vec![])
+/// Whether a fault tells the cookie with this number, which is one of a refusal.
+fn takes_cookie_of_refused(number: u8, faults: Faults) -> bool {
+    match number {
+        1..=5 => faults.on(Fault::RefusedCookieTold),
+        6 | 7 => faults.on(Fault::FlawedCookieHandedOut),
+        _ => false,
+    }
+}
+
+/// Steps 1 to 3 whatever the length of the IPsec list, as only `other-list-served` takes them.
+fn serve_with_any_list(request: &Request, tables: &mut Tables) {
+    if let Ok(passed) = request.check(tables, Faults::only(Fault::ServedAnyList)) {
+        serve(request, &passed, tables, Faults::NONE);
+    }
 }
 
 /// Steps 1 to 4.
@@ -173,6 +195,32 @@ mod tests {
         assert_eq!(made(&mut tables, &request(0, NEW, &[&UPDATE])), (0, 1, 0));
         assert_eq!(tables.ike.records[0].pair, NEW);
         assert_eq!([0, 1].map(|place| tables.ipsec.records[place].pair), [NEW, OLD]);
+    }
+
+    #[test]
+    fn an_ipsec_list_of_another_length_is_refused_first() {
+        for length in [0, 1, 127, 129, 300] {
+            let mut tables = tables().with_ipsec_length(length);
+            let before = tables.clone();
+            let sound = request(1, NEW, &[&UPDATE]);
+            let unknown = Request { spi: 9, ..sound.clone() };
+            let short = Request { output: vec![], ..sound.clone() };
+            for request in [sound, unknown, short] {
+                assert_eq!(made(&mut tables, &request), (1, 0, 0));
+            }
+            assert_eq!(tables, before);
+        }
+    }
+
+    #[test]
+    fn a_cookie_is_handed_out_of_the_body_unless_refused() {
+        let cookie = [&[0, 0, 0x40, 0x11][..], &[5; 8]].concat();
+        let sound = request(1, IPV6, &[&UPDATE, &cookie]);
+        let handed_out = handle(&sound, &mut tables(), Faults::NONE).reply.handed_out;
+        assert_eq!(handed_out, Place::in_body(&sound.body, 16, 8));
+        let flawed = request(1, NEW, &[&UPDATE, &cookie, &UPDATE]);
+        let handed_out = handle(&flawed, &mut tables(), Faults::NONE).reply.handed_out;
+        assert_eq!(handed_out, Place::default());
     }
 
     #[test]

@@ -2,6 +2,7 @@
 use crate::address::AddressPair;
 use crate::calls::{refuse_if, Refusal};
 use crate::faults::{Fault, Faults};
+use crate::list_length::{self, User};
 use crate::tables::{find, free_place, IkeRecord, IpsecRecord, Record, Tables};
 
 /// Checks 1, 11, 10.
@@ -31,9 +32,16 @@ pub fn open_ipsec(
 ) -> Result<(), Refusal> {
     let no_owner = owner == 0 && !faults.on(Fault::Owner0Unknown);
     refuse_if(spi == 0 || no_owner, Refusal::Argument)?;
+    let list = list_length::check(tables, User::Opening, faults);
+    if !faults.on(Fault::ListAfterRecord) && !faults.on(Fault::OtherListOpened) {
+        list?;
+    }
     let ike_place = find(&tables.ike.records, owner, faults).ok_or(Refusal::NoSuchRecord);
     if !faults.on(Fault::OwnerLast) {
         ike_place?;
+    }
+    if !faults.on(Fault::OtherListOpened) {
+        list?;
     }
     let elsewhere = find(&tables.ike.records, u64::from(spi), faults).is_some();
     refuse_if(elsewhere && faults.on(Fault::SpiAcrossTables), Refusal::SpiInUse)?;
@@ -43,7 +51,7 @@ pub fn open_ipsec(
         pair = AddressPair::ZERO;
     }
     tables.ipsec_mut()[place] = IpsecRecord { spi, owner, pair };
-    Ok(())
+    list
 }
 
 /// The lowest free place, unless the SPI is in use in that table (11) or all places are (10).
@@ -108,6 +116,19 @@ mod tests {
         assert_eq!(ipsec(&mut tables, 5, 33), Err(Refusal::NoSuchRecord));
         assert_eq!(ipsec(&mut tables, 5, 1), Err(Refusal::SpiInUse));
         assert_eq!(ipsec(&mut tables, 129, 1), Err(Refusal::AllInUse));
+    }
+
+    #[test]
+    fn a_list_of_another_length_is_refused_before_the_owner_is_looked_for() {
+        for length in [0, 1, 127, 129, 300] {
+            let mut tables = Tables::empty().with_ipsec_length(length);
+            assert_eq!(ike(&mut tables, 7, IPV4), Ok(()));
+            let before = tables.clone();
+            assert_eq!(ipsec(&mut tables, 9, 7), Err(Refusal::Argument));
+            assert_eq!(ipsec(&mut tables, 9, 8), Err(Refusal::Argument));
+            assert_eq!(tables, before);
+            assert_eq!(ike(&mut tables, 8, IPV4), Ok(()));
+        }
     }
 
     #[test]

@@ -1,5 +1,7 @@
 // A reading in the form in which the two programs are compared: every field, unused ones included.
 use crate::address::{Address, AddressPair};
+use crate::cookie::{hand_out, handed_out, HandedOut};
+use crate::faults::Faults;
 use crate::reader::Reading;
 use crate::show;
 use crate::summary::{Part, MAX_KEPT};
@@ -27,6 +29,8 @@ pub struct Outcome<'a> {
     pub nat_source: Place<'a>,
     pub nat_destination: Place<'a>,
     pub cookie: Place<'a>,
+    /// The cookie as it is handed out, then what is for hostile places.
+    pub handed_out: Vec<HandedOut<'a>>,
     pub no_nats: Place<'a>,
     /// All zero if NO_NATS_ALLOWED is absent.
     pub no_nats_pair: AddressPair,
@@ -37,8 +41,10 @@ pub struct Outcome<'a> {
 }
 
 impl<'a> Outcome<'a> {
-    pub fn of(reading: &Reading<'a>) -> Self {
+    /// The reading of this body.
+    pub fn of(reading: &Reading<'a>, body: &'a [u8], faults: Faults) -> Self {
         let summary = &reading.summary;
+        let cookie = Place::of(summary.cookie);
         let mut outcome = Outcome {
             number: reading.answer.number(),
             offset: reading.answer.offset(),
@@ -51,7 +57,8 @@ impl<'a> Outcome<'a> {
             no_additional: u8::from(summary.no_additional),
             nat_source: Place::of(summary.nat_source),
             nat_destination: Place::of(summary.nat_destination),
-            cookie: Place::of(summary.cookie),
+            cookie,
+            handed_out: handed_out(body, cookie, |at, length| hand_out(body, at, length, faults)),
             no_nats: Place::of(summary.no_nats.map(|no_nats| no_nats.part)),
             no_nats_pair: summary.no_nats.map(|no_nats| no_nats.pair).unwrap_or_default(),
             addresses: summary.addresses,
@@ -89,6 +96,9 @@ impl<'a> Outcome<'a> {
         fields.extend(numbers.map(|(name, value)| (name.to_string(), value.to_string())));
         fields.extend(places.map(|(name, place)| (name.to_string(), place.show())));
         fields.push(("no NATs allowed, pair".to_string(), show::pair(&self.no_nats_pair)));
+        for HandedOut { at, length, part } in &self.handed_out {
+            fields.push((format!("handed out of {length} octets at {at}"), part.show()));
+        }
         for place in 0..MAX_KEPT {
             let (offset, family) = (self.address_offsets[place], self.address_families[place]);
             let told = format!("family {family} at {offset}");
@@ -111,8 +121,14 @@ impl<'a> Place<'a> {
 
     /// The place that was told of a part of `body`.
     pub fn in_body(body: &'a [u8], offset: usize, length: usize) -> Self {
-        let octets = body.get(offset..offset + length).unwrap_or_default();
+        let end = offset.checked_add(length);
+        let octets = end.and_then(|end| body.get(offset..end)).unwrap_or_default();
         Place { offset, length, octets }
+    }
+
+    /// The place and the length in the numbers in which they are told.
+    pub fn as_told(&self) -> (u16, u16) {
+        (self.offset as u16, self.length as u16)
     }
 
     pub fn show(&self) -> String {

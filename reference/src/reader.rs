@@ -1,5 +1,6 @@
 // The payload reader: the answer to a first payload type and a body, with what the chain says.
 use crate::chain;
+use crate::cookie;
 use crate::faults::{Fault, Faults};
 use crate::flaws::{self, Flaw};
 use crate::summary::{summarise, Summary};
@@ -50,7 +51,13 @@ pub fn read(first: u8, body: &[u8], faults: Faults) -> Reading<'_> {
     }
     let chain = chain::split(first, body);
     match flaws::told(&chain, faults) {
-        Some(flaw) => Reading::refused(Answer::Flawed(flaw)),
+        Some(flaw) => {
+            let mut reading = Reading::refused(Answer::Flawed(flaw));
+            if faults.on(Fault::FlawedCookieTold) {
+                reading.summary.cookie = cookie::of_refused(first, body, faults);
+            }
+            reading
+        }
         None => Reading { answer: Answer::Read, summary: summarise(&chain, faults) },
     }
 }

@@ -14,6 +14,8 @@ pub struct Reply<'a> {
     /// Told with 6 and 7.
     pub offset: usize,
     pub cookie: Place<'a>,
+    /// The cookie as it is handed out for that place.
+    pub handed_out: Place<'a>,
     /// The response's first type.
     pub first: u8,
     /// The response's length.
@@ -48,8 +50,10 @@ impl<'a> Handled<'a> {
 
     /// Whether another call gave the same answer, the cookie by its octets.
     pub fn same_answer(&self, other: &Handled) -> bool {
-        let one = Reply { cookie: other.reply.cookie, ..self.reply.clone() };
-        one == other.reply && self.reply.cookie.octets == other.reply.cookie.octets
+        let Reply { cookie, handed_out, .. } = other.reply;
+        let one = Reply { cookie, handed_out, ..self.reply.clone() };
+        let octets = [self.reply.cookie.octets, self.reply.handed_out.octets];
+        one == other.reply && octets == [cookie.octets, handed_out.octets]
     }
 
     /// Every field by name, to be shown.
@@ -64,6 +68,7 @@ impl<'a> Handled<'a> {
             ("payloads", reply.payloads.to_string()),
             ("offset", reply.offset.to_string()),
             ("cookie", reply.cookie.show()),
+            ("cookie handed out", reply.handed_out.show()),
             ("response's first type", reply.first.to_string()),
             ("response's length", reply.length.to_string()),
             ("response", show::hex(response)),

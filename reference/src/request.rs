@@ -3,6 +3,7 @@ use crate::address::AddressPair;
 use crate::calls::{refuse_if, Refusal};
 use crate::faults::{Fault, Faults};
 use crate::flaws::Flaw;
+use crate::list_length::{self, User};
 use crate::reader::{self, Answer, MAX_BODY};
 use crate::steps;
 use crate::summary::Summary;
@@ -51,7 +52,8 @@ impl From<Refusal> for Failed {
 impl Request {
     /// Checks 1 to 7 in number order, 6 and 7 as the reader tells them.
     pub fn check(&self, tables: &Tables, faults: Faults) -> Result<Passed<'_>, Failed> {
-        self.check_arguments(faults)?;
+        let list = list_length::check(tables, User::Handler, faults);
+        self.check_arguments(list, faults)?;
         let too_long = refuse_if(self.body.len() > MAX_BODY, Refusal::BodyTooLong);
         if !faults.on(Fault::BodyLast) {
             too_long?;
@@ -67,11 +69,14 @@ impl Request {
             return Err(Failed::Flawed(flaw));
         }
         agreed?;
+        if reading.summary.update || !faults.on(Fault::ServedWithoutUpdate) {
+            list?;
+        }
         Ok(Passed { place, summary: reading.summary })
     }
 
-    /// Checks 1 and 2.
-    fn check_arguments(&self, faults: Faults) -> Result<(), Refusal> {
+    /// Checks 1 and 2, with that of the IPsec list.
+    fn check_arguments(&self, list: Result<(), Refusal>, faults: Faults) -> Result<(), Refusal> {
         let lent = [&self.nat_source, &self.nat_destination];
         let lent = if faults.on(Fault::NatSourceLengthOnly) { &lent[..1] } else { &lent[..] };
         let of_other_length = lent.iter().any(|value| value.len() != NAT_VALUE_LENGTH);
@@ -81,6 +86,12 @@ impl Request {
             too_short?;
         }
         refuse_if(unsound, Refusal::Argument)?;
+        if faults.on(Fault::ServedListAfterOutput) {
+            too_short?;
+        }
+        if !faults.on(Fault::ServedListLast) && !faults.on(Fault::ServedWithoutUpdate) {
+            list?;
+        }
         too_short
     }
 

@@ -1,9 +1,10 @@
 // Step 4 of a request: which notifications its response holds, and the octets of these.
-use crate::chain::{self, HEADER_LENGTH, NOTIFY};
+use crate::chain::HEADER_LENGTH;
+use crate::cookie;
 use crate::faults::{Fault, Faults};
 use crate::flaws::{Cause, Flaw};
 use crate::notifications::octets;
-use crate::notify::{Notify, NotifyType, NOTIFY_LENGTH};
+use crate::notify::{NotifyType, NOTIFY_LENGTH};
 use crate::request::Request;
 use crate::steps::Unfit;
 use crate::summary::{Part, Summary};
@@ -25,18 +26,10 @@ pub fn to_flawed(request: &Request, flaw: Flaw, faults: Faults) -> Vec<u8> {
         None => vec![(NotifyType::INVALID_SYNTAX, &[])],
     };
     if faults.on(Fault::FlawedCookie) {
-        response.extend(some_cookie(request, faults));
+        let part = cookie::of_refused(request.first, &request.body, faults);
+        response.extend(part.map(copied));
     }
     octets(&response)
-}
-
-/// A cookie of a chain that is refused, which only the fault `flawed-cookie` looks for.
-fn some_cookie(request: &Request, faults: Faults) -> Option<(NotifyType, &[u8])> {
-    let payloads = chain::split(request.first, &request.body).payloads;
-    let notifies = payloads.iter().filter(|payload| payload.payload_type == NOTIFY);
-    let mut notifies = notifies.filter_map(|payload| Notify::parse(payload, faults));
-    let cookie = notifies.find(|notify| notify.notify_type == NotifyType::COOKIE2)?;
-    (8..=64).contains(&cookie.data.len()).then_some((NotifyType::COOKIE2, cookie.data))
 }
 
 /// The error of 8 or 9, then the cookie.
@@ -49,7 +42,7 @@ pub fn to_unfit(request: &Request, unfit: Unfit, summary: &Summary, faults: Faul
     if faults.on(Fault::UnfitNatValues) {
         response.extend(nat_values(request, summary, faults));
     }
-    response.extend(cookie(summary));
+    response.extend(summary.cookie.map(copied));
     if faults.on(Fault::CookieBeforeError) {
         response.reverse();
     }
@@ -62,7 +55,7 @@ pub fn to_done(request: &Request, summary: &Summary, stale: bool, faults: Faults
     if stale && faults.on(Fault::StaleNatValues) {
         response.clear();
     }
-    response.extend(cookie(summary));
+    response.extend(summary.cookie.map(copied));
     let mut octets = octets(&response);
     if let (Some(cookie), true) = (summary.cookie, faults.on(Fault::CookieHeader)) {
         copy_ignored(request, cookie, &mut octets);
@@ -96,8 +89,9 @@ fn nat_values<'a>(
     response
 }
 
-fn cookie<'a>(summary: &Summary<'a>) -> Option<(NotifyType, &'a [u8])> {
-    summary.cookie.map(|part| (NotifyType::COOKIE2, part.octets))
+/// The notification that copies a cookie.
+fn copied(cookie: Part<'_>) -> (NotifyType, &[u8]) {
+    (NotifyType::COOKIE2, cookie.octets)
 }
 
 /// Writes the flags and the protocol ID of the request's cookie, as only `cookie-header` does.

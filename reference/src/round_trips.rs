@@ -19,7 +19,7 @@ pub struct Model(pub Faults);
 
 impl Program for Model {
     fn read<'a>(&self, first: u8, body: &'a [u8]) -> Outcome<'a> {
-        Outcome::of(&reader::read(first, body, self.0))
+        Outcome::of(&reader::read(first, body, self.0), body, self.0)
     }
 
     fn write(&self, arguments: &Arguments) -> Written {

@@ -2,19 +2,26 @@
 use crate::calls::Call;
 use crate::policy::{Policy, Rule};
 use crate::show;
-use crate::tables::{IkeRecord, IpsecRecord, Tables, IKE_PLACES, IPSEC_PLACES};
+use crate::tables::{IkeRecord, IpsecRecord, Record, Tables, IKE_PLACES};
 
 type Fields = Vec<(String, String)>;
 
-/// Every field of each place in which the two differ, of the one and of the other.
+/// Every field of each place in which the two differ, of the one and of the other. A place that only
+/// the longer IPsec list has is shown as cleared in the other.
 pub fn of_differing_places(one: &Tables, other: &Tables) -> [Fields; 2] {
     let ike = (0..IKE_PLACES).filter(|&at| one.ike.records[at] != other.ike.records[at]);
-    let ipsec = (0..IPSEC_PLACES).filter(|&at| one.ipsec.records[at] != other.ipsec.records[at]);
+    let longer = one.ipsec.records.len().max(other.ipsec.records.len());
+    let ipsec = (0..longer).filter(|&place| ipsec_at(one, place) != ipsec_at(other, place));
     [one, other].map(|tables| {
         let ike = ike.clone().flat_map(|place| ike_fields(place, &tables.ike.records[place]));
-        let ipsec = ipsec.clone().flat_map(|at| ipsec_fields(at, &tables.ipsec.records[at]));
-        ike.chain(ipsec).chain(policy_fields(&tables.policy)).collect()
+        let ipsec = ipsec.clone().flat_map(|place| ipsec_fields(place, &ipsec_at(tables, place)));
+        let length = ("IPsec records".to_string(), tables.ipsec.records.len().to_string());
+        ike.chain([length]).chain(ipsec).chain(policy_fields(&tables.policy)).collect()
     })
+}
+
+fn ipsec_at(tables: &Tables, place: usize) -> IpsecRecord {
+    tables.ipsec.records.get(place).copied().unwrap_or(IpsecRecord::FREE)
 }
 
 fn ike_fields(place: usize, record: &IkeRecord) -> Fields {

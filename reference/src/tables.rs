@@ -44,16 +44,15 @@ pub struct IpsecRecord {
     pub pair: AddressPair,
 }
 
-#[repr(C)]
-#[derive(Debug, Clone, Copy, PartialEq, Eq)]
+#[derive(Debug, Clone, PartialEq, Eq)]
 pub struct IkeTable {
     pub records: [IkeRecord; IKE_PLACES],
 }
 
-#[repr(C)]
-#[derive(Debug, Clone, Copy, PartialEq, Eq)]
+#[derive(Debug, Clone, PartialEq, Eq)]
 pub struct IpsecTable {
-    pub records: [IpsecRecord; IPSEC_PLACES],
+    /// As many as are lent; the calls refuse another number than 128.
+    pub records: Vec<IpsecRecord>,
 }
 
 /// All that the calls change; a table is copied only where it is changed.
@@ -93,16 +92,22 @@ impl Tables {
     pub fn empty() -> Self {
         Tables {
             ike: Rc::new(IkeTable { records: [IkeRecord::FREE; IKE_PLACES] }),
-            ipsec: Rc::new(IpsecTable { records: [IpsecRecord::FREE; IPSEC_PLACES] }),
+            ipsec: Rc::new(IpsecTable { records: vec![IpsecRecord::FREE; IPSEC_PLACES] }),
             policy: Policy::EMPTY,
         }
+    }
+
+    /// The same but for the length of the IPsec list: its records, over and over.
+    pub fn with_ipsec_length(&self, length: usize) -> Self {
+        let records = self.ipsec.records.iter().copied().cycle().take(length).collect();
+        Tables { ipsec: Rc::new(IpsecTable { records }), ..self.clone() }
     }
 
     pub fn ike_mut(&mut self) -> &mut [IkeRecord; IKE_PLACES] {
         &mut Rc::make_mut(&mut self.ike).records
     }
 
-    pub fn ipsec_mut(&mut self) -> &mut [IpsecRecord; IPSEC_PLACES] {
+    pub fn ipsec_mut(&mut self) -> &mut [IpsecRecord] {
         &mut Rc::make_mut(&mut self.ipsec).records
     }
 }

@@ -8,7 +8,7 @@ use reader::read::Reading;
 ghost use mathlib.Core.Path.{_≡_};
 ghost use Rattle.address.specs.Address.{addressesOf};
 ghost use Rattle.reader.specs.Chain.{ReadAs};
-ghost use Rattle.findings.specs.Values.{noNatsSeen, additionalOf};
+ghost use Rattle.findings.specs.Values.{partOf, noNatsSeen, additionalOf};
 
 #[repr(C)]
 pub struct AddressList {
@@ -21,6 +21,14 @@ pub extern "C" fn unmavreth_read(first: u8, body: &[u8]) -> Reading
     ensures { λ r. ⌜ ReadAs first (now (body .entry)) r ⌝ }
 {
     reader::read::read(first, body)
+}
+
+// Hands out COOKIE2's data as a part of the body, by the place and the length that a reading or a reply told; empty if there is none.
+#[no_mangle]
+pub extern "C" fn unmavreth_cookie<'s, 'a>(out: &'s mut &'a [u8], body: &'a [u8], at: u16, len: u16)
+    ensures { λ _. ⌜ now (now (out .exit)) ≡ partOf (now (body .entry)) at len ⌝ }
+{
+    *out = parts::cookie(body, at, len);
 }
 
 // What NO_NATS_ALLOWED held, from the body that was read and what was seen in it.

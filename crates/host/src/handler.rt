@@ -1,20 +1,27 @@
-// The call that handles a request.
-use crate::records::IkeTable;
-use crate::records::IpsecTable;
+// The call that handles a request, on lent tables: the record that the SPI means is looked up, answered and stored, and what it owns
+// follows.
 use address::pair::Pair;
+use lent::ike::ike_at;
+use lent::ike::ike_place;
+use lent::ike::ike_store;
+use lent::owned::follow_if;
+use lent::owned::ipsec_count;
 use policy::rules::Policy;
-use responder::handle::Handled;
+use responder::core::Reply;
+use responder::handle::answer;
+use tables::ike::IkeRecord;
+use tables::ipsec::IpsecRecord;
 ghost use mathlib.Core.Path.{_≡_};
 ghost use lib.ListN.{length};
 ghost use Rattle.writing.specs.Notify.{placed};
 ghost use Rattle.responder.specs.Core.{asked};
 ghost use Rattle.responder.specs.Handle.{request, handled, handledResponse};
 
-// Handles one INFORMATIONAL request of a peer that is the original initiator; the response goes to the start of `out`.
+// Handles one INFORMATIONAL request of a peer that is the original initiator: the response goes to the start of `out`, and what is past it stays as it was.
 #[no_mangle]
 pub extern "C" fn unmavreth_request(
-    ike: IkeTable,
-    ipsec: IpsecTable,
+    ike: &mut [IkeRecord; 32],
+    ipsec: &mut [IpsecRecord],
     policy: Policy,
     spi: u64,
     id: u32,
@@ -24,15 +31,19 @@ pub extern "C" fn unmavreth_request(
     first: u8,
     body: &[u8],
     out: &mut [u8],
-) -> Handled
-    ensures { λ r. ⌜ r ≡ handled policy (ike .records) (ipsec .records) (request spi (asked id pair (now (source .entry)) (now (destination .entry)) first (now (body .entry))) (length (now (out .entry)))) ⌝ }
-    ensures { λ _. ⌜ now (out .exit) ≡ placed (now (out .entry)) 0 (handledResponse policy (ike .records) (ipsec .records) (request spi (asked id pair (now (source .entry)) (now (destination .entry)) first (now (body .entry))) (length (now (out .entry))))) ⌝ }
+) -> Reply
+    ensures { λ r. ⌜ r ≡ handled policy (now (ike .entry)) (now (ipsec .entry)) (request spi (asked id pair (now (source .entry)) (now (destination .entry)) first (now (body .entry))) (length (now (out .entry)))) .reply ⌝ }
+    ensures { λ _. ⌜ now (ike .exit) ≡ handled policy (now (ike .entry)) (now (ipsec .entry)) (request spi (asked id pair (now (source .entry)) (now (destination .entry)) first (now (body .entry))) (length (now (out .entry)))) .ike ⌝ }
+    ensures { λ _. ⌜ now (ipsec .exit) ≡ handled policy (now (ike .entry)) (now (ipsec .entry)) (request spi (asked id pair (now (source .entry)) (now (destination .entry)) first (now (body .entry))) (length (now (out .entry)))) .ipsec ⌝ }
+    ensures { λ _. ⌜ now (out .exit) ≡ placed (now (out .entry)) 0 (handledResponse policy (now (ike .entry)) (now (ipsec .entry)) (request spi (asked id pair (now (source .entry)) (now (destination .entry)) first (now (body .entry))) (length (now (out .entry))))) ⌝ }
 {
-    let records = ike.records;
-    let owned = ipsec.records;
-    responder::handle::handle(
-        records,
-        owned,
+    let size = ipsec_count(ipsec);
+    let place = ike_place(ike, spi);
+    let entry = ike_at(ike, place);
+    let c = answer(
+        size,
+        place,
+        entry,
         policy,
         spi,
         id,
@@ -42,5 +53,8 @@ pub extern "C" fn unmavreth_request(
         first,
         body,
         out,
-    )
+    );
+    ike_store(ike, place, c.entry);
+    follow_if(ipsec, c.moves, spi, pair);
+    c.reply
 }

@@ -1,11 +1,20 @@
-// The calls on tables and policy.
+// The calls on tables and policy. The tables are lent: each call looks up, decides on what was found, and stores; a refusal changes
+// nothing.
 use address::pair::Pair;
+use lent::ike::ike_at;
+use lent::ike::ike_place;
+use lent::ike::ike_store;
+use lent::owned::ipsec_count;
+use lent::owned::release_if;
+use lent::places::ipsec_place;
+use lent::places::ipsec_store;
 use policy::rules::Policy;
 use policy::rules::PolicyAnswer;
 use policy::rules::Rule;
-use tables::calls::CloseAnswer;
-use tables::calls::IkeAnswer;
-use tables::calls::IpsecAnswer;
+use tables::calls::ike_closing;
+use tables::calls::ike_opening;
+use tables::calls::ipsec_closing;
+use tables::calls::ipsec_opening;
 use tables::ike::IkeRecord;
 use tables::ipsec::IpsecRecord;
 ghost use mathlib.Core.Path.{_≡_};
@@ -13,57 +22,74 @@ ghost use Rattle.policy.specs.Policy.{acceptable, setPolicy};
 ghost use Rattle.tables.specs.Calls.{openIke, openIpsec, closeIke, closeIpsec};
 
 #[repr(C)]
-pub struct IkeTable {
-    pub records: [IkeRecord; 32],
-}
-
-#[repr(C)]
-pub struct IpsecTable {
-    pub records: [IpsecRecord; 128],
-}
-
-#[repr(C)]
 pub struct RuleList {
     pub rules: [Rule; 16],
 }
 
+// Opens an IKE record at the lowest free place.
 #[no_mangle]
-pub extern "C" fn unmavreth_open_ike(ike: IkeTable, spi: u64, mobike: bool, pair: Pair) -> IkeAnswer
-    ensures { λ r. ⌜ r ≡ openIke (ike .records) spi mobike pair ⌝ }
+pub extern "C" fn unmavreth_open_ike(
+    ike: &mut [IkeRecord; 32],
+    spi: u64,
+    mobike: bool,
+    pair: Pair,
+) -> u8
+    ensures { λ r. ⌜ (r ≡ openIke (now (ike .entry)) spi mobike pair .number) × (now (ike .exit) ≡ openIke (now (ike .entry)) spi mobike pair .ike) ⌝ }
 {
-    let records = ike.records;
-    tables::calls::open_ike(records, spi, mobike, pair)
+    let taken = ike_place(ike, spi);
+    let free = ike_place(ike, 0);
+    let c = ike_opening(spi, mobike, pair, taken, free);
+    ike_store(ike, c.place, c.entry);
+    c.number
 }
 
+// Opens an IPsec record at the lowest free place, with the pair of its IKE record.
 #[no_mangle]
 pub extern "C" fn unmavreth_open_ipsec(
-    ike: IkeTable,
-    ipsec: IpsecTable,
+    ike: &[IkeRecord; 32],
+    ipsec: &mut [IpsecRecord],
     spi: u32,
     owner: u64,
-) -> IpsecAnswer
-    ensures { λ r. ⌜ r ≡ openIpsec (ike .records) (ipsec .records) spi owner ⌝ }
+) -> u8
+    ensures { λ r. ⌜ (r ≡ openIpsec (now (ike .entry)) (now (ipsec .entry)) spi owner .number) × (now (ipsec .exit) ≡ openIpsec (now (ike .entry)) (now (ipsec .entry)) spi owner .ipsec) ⌝ }
 {
-    let owners = ike.records;
-    let records = ipsec.records;
-    tables::calls::open_ipsec(owners, records, spi, owner)
+    let size = ipsec_count(ipsec);
+    let owned = ike_place(ike, owner);
+    let of = ike_at(ike, owned);
+    let taken = ipsec_place(ipsec, spi);
+    let free = ipsec_place(ipsec, 0);
+    let c = ipsec_opening(size, spi, owner, owned, of, taken, free);
+    ipsec_store(ipsec, c.place, c.entry);
+    c.number
 }
 
+// Closes an IKE record and the IPsec records that it owns.
 #[no_mangle]
-pub extern "C" fn unmavreth_close_ike(ike: IkeTable, ipsec: IpsecTable, spi: u64) -> CloseAnswer
-    ensures { λ r. ⌜ r ≡ closeIke (ike .records) (ipsec .records) spi ⌝ }
+pub extern "C" fn unmavreth_close_ike(
+    ike: &mut [IkeRecord; 32],
+    ipsec: &mut [IpsecRecord],
+    spi: u64,
+) -> u8
+    ensures { λ r. ⌜ (r ≡ closeIke (now (ike .entry)) (now (ipsec .entry)) spi .number) × (now (ike .exit) ≡ closeIke (now (ike .entry)) (now (ipsec .entry)) spi .ike) × (now (ipsec .exit) ≡ closeIke (now (ike .entry)) (now (ipsec .entry)) spi .ipsec) ⌝ }
 {
-    let records = ike.records;
-    let owned = ipsec.records;
-    tables::calls::close_ike(records, owned, spi)
+    let size = ipsec_count(ipsec);
+    let place = ike_place(ike, spi);
+    let c = ike_closing(size, spi, place);
+    ike_store(ike, c.place, c.entry);
+    release_if(ipsec, c.number == 0, spi);
+    c.number
 }
 
+// Closes an IPsec record.
 #[no_mangle]
-pub extern "C" fn unmavreth_close_ipsec(ipsec: IpsecTable, spi: u32) -> IpsecAnswer
-    ensures { λ r. ⌜ r ≡ closeIpsec (ipsec .records) spi ⌝ }
+pub extern "C" fn unmavreth_close_ipsec(ipsec: &mut [IpsecRecord], spi: u32) -> u8
+    ensures { λ r. ⌜ (r ≡ closeIpsec (now (ipsec .entry)) spi .number) × (now (ipsec .exit) ≡ closeIpsec (now (ipsec .entry)) spi .ipsec) ⌝ }
 {
-    let records = ipsec.records;
-    tables::calls::close_ipsec(records, spi)
+    let size = ipsec_count(ipsec);
+    let place = ipsec_place(ipsec, spi);
+    let c = ipsec_closing(size, spi, place);
+    ipsec_store(ipsec, c.place, c.entry);
+    c.number
 }
 
 #[no_mangle]

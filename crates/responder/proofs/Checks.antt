@@ -1,26 +1,20 @@
--- What has been shown where checks 1 to 5 pass, and the handler's ways out.
+-- What has been shown where checks 1 to 5 pass.
 use Prim.Native.Nat.{ℕ, _≤_, _<_}
 use mathlib.Core.Path.{_≡_, refl}
-use mathlib.Core.List.{List, [], map}
+use mathlib.Core.List.{List}
 use mathlib.Core.Bool.{Bool, true, false, cond, _&&_, not}
 use native.Mathlib.Omega.{arith}
-use borrow.Author.Tests.{eq-eqb, ne-eqb, eqb-true, ltb-true, ltb-false}
+use borrow.Author.Tests.{eqb-true, ltb-true, ltb-false}
 use lib.Dec.{eqb, ltb}
-use lib.ListN.{length, set}
+use lib.ListN.{length}
 use Rattle.octets.specs.Lists.{placeOf}
 use Rattle.octets.proofs.Small.{both}
 use Rattle.address.specs.Address.{pairFits}
 use Rattle.address.specs.declared.pair.Pair.{Pair}
-use Rattle.policy.specs.declared.rules.Policy.{Policy}
-use Rattle.tables.specs.Records.{ikeSpi, follows}
+use Rattle.tables.specs.Records.{ikeSpi}
 use Rattle.tables.specs.Calls.{hasIke}
 use Rattle.tables.specs.declared.ike.IkeRecord.{IkeRecord}
-use Rattle.tables.specs.declared.ipsec.IpsecRecord.{IpsecRecord}
-use Rattle.responder.specs.Core.{refusalReply, coreResult, coreResponse}
-use Rattle.responder.specs.Handle.{Request, argumentsFit, meant, recordNumber, checkedNumber, earlyNumber, handled, handledResponse}
-use Rattle.responder.specs.declared.core.Reply.{Reply}
-use Rattle.responder.specs.declared.core.CoreResult.{CoreResult}
-use Rattle.responder.specs.declared.handle.Handled.{Handled}
+use Rattle.responder.specs.Handle.{argumentsFit, meant, recordNumber, checkedNumber}
 
 pub record Passed (fit : Bool) (room octets number : ℕ) : Type 0 where
   pub fits : fit ≡ true
@@ -54,27 +48,3 @@ lent-fit spi pair source destination e =
     let rest = both (not (eqb spi 0)) (eqb (length source) 20 && (eqb (length destination) 20 && pairFits pair)) e .1 in
     let s = both (eqb (length source) 20) (eqb (length destination) 20 && pairFits pair) rest in
     (eqb-true (length source) 20 (s .0), eqb-true (length destination) 20 (both (eqb (length destination) 20) (pairFits pair) (s .1) .0))
-
-module _ (policy : Policy) (ike : List IkeRecord) (ipsec : List IpsecRecord) (q : Request) (n : ℕ) (e : n ≡ earlyNumber ike ipsec q) where
-  abbrev result : Reply → List IkeRecord → List IpsecRecord → Handled
-  result reply records owned = record { reply = reply; ike = records; ipsec = owned }
-
-  module _ (refused : n ≡ 0 → ⊥) where
-    pub refused-early : (reply : Reply) → reply ≡ refusalReply n 0 0 → result reply ike ipsec ≡ handled policy ike ipsec q
-    unfolding handled
-    refused-early reply r = rw (← e, ne-eqb n 0 refused, r)
-
-    pub silent-early : [] ≡ handledResponse policy ike ipsec q
-    unfolding handledResponse
-    silent-early = rw (← e, ne-eqb n 0 refused)
-
-  module _ (taken : n ≡ 0) where
-    pub handled-core : (c : CoreResult) (p : ℕ) (owned : List IpsecRecord) → c ≡ coreResult policy (q .asks) (meant ike (q .spi))
-        → p ≡ placeOf ikeSpi (q .spi) ike → owned ≡ cond (c .moves) (map (follows (q .spi) (q .asks .pair)) ipsec) ipsec
-        → result (c .reply) (set ike p (c .entry)) owned ≡ handled policy ike ipsec q
-    unfolding handled
-    handled-core c p owned ce pe oe = rw (← e, eq-eqb n 0 taken, oe, ce, pe)
-
-    pub handled-octets : coreResponse policy (q .asks) (meant ike (q .spi)) ≡ handledResponse policy ike ipsec q
-    unfolding handledResponse
-    handled-octets = rw (← e, eq-eqb n 0 taken)

@@ -2,4 +2,5 @@
 pub mod Lengths
 pub mod Ways
 pub mod Checks
+pub mod Looked
 pub mod Rows

@@ -1,7 +1,7 @@
 -- One request on the tables: 01's checks 1 to 5, then the core on the record that the SPI means.
 use Prim.Native.Nat.{ℕ}
 use mathlib.Core.List.{List, [], map}
-use mathlib.Core.Bool.{Bool, cond, _&&_, not}
+use mathlib.Core.Bool.{Bool, false, cond, _&&_, not}
 use lib.Dec.{eqb, ltb}
 use lib.ListN.{length, getD, set}
 use Rattle.octets.specs.Lists.{placeOf}
@@ -13,7 +13,8 @@ use Rattle.tables.specs.Calls.{hasIke, listFits}
 use Rattle.tables.specs.declared.ike.IkeRecord.{IkeRecord}
 use Rattle.tables.specs.declared.ipsec.IpsecRecord.{IpsecRecord}
 use Rattle.responder.specs.Core.{Asked, refusalReply, coreResult, coreResponse}
-use Rattle.responder.specs.declared.handle.Handled.{Handled}
+use Rattle.responder.specs.declared.core.CoreResult.{CoreResult}
+use Rattle.responder.specs.declared.core.Reply.{Reply}
 
 -- 01: "A request is given as SPI, ID, packet's pair, the two NAT values, first type, body." Its output's length belongs to it too.
 pub record Request : Type 0 where
@@ -46,6 +47,12 @@ earlyNumber ike ipsec q =
     checkedNumber (listFits ipsec && argumentsFit (q .spi) (q .asks .pair) (q .asks .nat-source) (q .asks .nat-destination))
     (q .room) (length (q .asks .body)) (recordNumber ike (q .spi))
 
+-- All that a request gives back, the tables after it included.
+pub record Handled : Type 0 where
+  pub reply : Reply
+  pub ike : List IkeRecord
+  pub ipsec : List IpsecRecord
+
 -- The tables after a request, and all else that it gives back: "the IKE record and all its IPsec records take the packet's pair,
 -- and no other record changes".
 unfoldable pub handled : Policy → List IkeRecord → List IpsecRecord → Request → Handled
@@ -62,3 +69,21 @@ handled policy ike ipsec q =
 -- The response's octets; "None" for 1 to 5.
 unfoldable pub handledResponse : Policy → List IkeRecord → List IpsecRecord → Request → List ℕ
 handledResponse policy ike ipsec q = cond (eqb (earlyNumber ike ipsec q) 0) (coreResponse policy (q .asks) (meant ike (q .spi))) []
+
+-- The same by what was looked up: how many IPsec records are lent, the lowest place with the SPI, and the record there.
+-- `proofs/Looked.antt` shows that with this and the tables' change around it a request is handled.
+abbrev pub recordNumberAt : ℕ → IkeRecord → ℕ
+recordNumberAt place entry = cond (ltb place 32) (cond (entry .mobike) 0 5) 4
+
+abbrev pub earlyNumberAt : ℕ → ℕ → IkeRecord → Request → ℕ
+earlyNumberAt size place entry q =
+    checkedNumber (eqb size 128 && argumentsFit (q .spi) (q .asks .pair) (q .asks .nat-source) (q .asks .nat-destination))
+    (q .room) (length (q .asks .body)) (recordNumberAt place entry)
+
+unfoldable pub answered : Policy → ℕ → ℕ → IkeRecord → Request → CoreResult
+answered policy size place entry q =
+    cond (eqb (earlyNumberAt size place entry q) 0) (coreResult policy (q .asks) entry)
+    (record { reply = refusalReply (earlyNumberAt size place entry q) 0 0; entry = entry; moves = false })
+
+unfoldable pub answeredResponse : Policy → ℕ → ℕ → IkeRecord → Request → List ℕ
+answeredResponse policy size place entry q = cond (eqb (earlyNumberAt size place entry q) 0) (coreResponse policy (q .asks) entry) []

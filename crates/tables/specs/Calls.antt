@@ -10,9 +10,20 @@ use Rattle.address.specs.declared.pair.Pair.{Pair}
 use Rattle.tables.specs.Records.{ikeSpi, ipsecSpi, newIke, noIke, newIpsec, noIpsec, released}
 use Rattle.tables.specs.declared.ike.IkeRecord.{IkeRecord}
 use Rattle.tables.specs.declared.ipsec.IpsecRecord.{IpsecRecord}
-use Rattle.tables.specs.declared.calls.IkeAnswer.{IkeAnswer}
-use Rattle.tables.specs.declared.calls.IpsecAnswer.{IpsecAnswer}
-use Rattle.tables.specs.declared.calls.CloseAnswer.{CloseAnswer}
+
+-- What a call comes to: its number, and the tables after it.
+pub record IkeAnswer : Type 0 where
+  pub number : ℕ
+  pub ike : List IkeRecord
+
+pub record IpsecAnswer : Type 0 where
+  pub number : ℕ
+  pub ipsec : List IpsecRecord
+
+pub record CloseAnswer : Type 0 where
+  pub number : ℕ
+  pub ike : List IkeRecord
+  pub ipsec : List IpsecRecord
 
 abbrev pub ikeAnswer : ℕ → List IkeRecord → IkeAnswer
 ikeAnswer number ike = record { number = number; ike = ike }

@@ -1,3 +1,4 @@
 pub mod Records
 pub mod Calls
+pub mod Changes
 pub mod Reached

@@ -1,164 +1,149 @@
-// The table calls: each gives its number and the tables after it. A refusal leaves every field of every place.
+// What each table call comes to, given what was looked up: its number, and the record to store with its place.
 use crate::ike::IkeRecord;
-use crate::ike::ike_place;
 use crate::ike::new_ike;
+use crate::ike::no_ike;
 use crate::ipsec::IpsecRecord;
-use crate::ipsec::ipsec_place;
 use crate::ipsec::no_ipsec;
-use crate::ipsec::release_all;
 use address::pair::Pair;
 use address::pair::pair_fits;
 ghost use mathlib.Core.Path.{_≡_};
-ghost use Rattle.tables.specs.Records.{noIke};
-ghost use Rattle.tables.specs.Calls.{openIke, openIpsec, closeIke, closeIpsec};
+ghost use mathlib.Core.Bool.{cond, _||_, not};
+ghost use lib.Dec.{eqb};
+ghost use Rattle.address.specs.Address.{pairFits};
+ghost use Rattle.tables.specs.Changes.{openingNumber, closingNumber, ikeOpening, ipsecOpening, ikeClosing, ipsecClosing};
 
-#[repr(C)]
-pub struct IkeAnswer {
+// A number, and the record that is stored at a place of the IKE table; 32, where nothing is stored, with any number but 0.
+pub struct IkeChange {
     pub number: u8,
-    pub ike: [IkeRecord; 32],
+    pub place: usize,
+    pub entry: IkeRecord,
 }
 
-#[repr(C)]
-pub struct IpsecAnswer {
+// The same for the IPsec list, past whose end nothing is stored.
+pub struct IpsecChange {
     pub number: u8,
-    pub ipsec: [IpsecRecord; 128],
+    pub place: usize,
+    pub entry: IpsecRecord,
 }
 
-#[repr(C)]
-pub struct CloseAnswer {
-    pub number: u8,
-    pub ike: [IkeRecord; 32],
-    pub ipsec: [IpsecRecord; 128],
+// The number of an opening: a bad argument, no owner, the SPI in use, no room, or 0.
+pub fn opening_number(bad: bool, owned: bool, taken: bool, room: bool) -> u8
+    ensures { λ r. ⌜ r ≡ openingNumber bad owned taken room ⌝ }
+{
+    if bad {
+        return 1;
+    }
+    if owned {
+        if taken {
+            return 11;
+        }
+        if room { 0 } else { 10 }
+    } else {
+        4
+    }
 }
 
-// Opens an IKE record at the lowest free place.
-pub fn open_ike(ike: [IkeRecord; 32], spi: u64, mobike: bool, pair: Pair) -> IkeAnswer
-    ensures { λ r. ⌜ r ≡ openIke ike spi mobike pair ⌝ }
+// The number of a closing: a bad argument, no such record, or 0.
+pub fn closing_number(bad: bool, there: bool) -> u8
+    ensures { λ r. ⌜ r ≡ closingNumber bad there ⌝ }
+{
+    if bad {
+        return 1;
+    }
+    if there { 0 } else { 4 }
+}
+
+// The place to store at: none with any number but 0.
+pub fn place_if(number: u8, place: usize, none: usize) -> usize
+    ensures { λ r. ⌜ r ≡ cond (eqb number 0) place none ⌝ }
+{
+    if number == 0 { place } else { none }
+}
+
+// Whether an IKE record can't have this SPI and pair.
+pub fn is_bad_ike(spi: u64, pair: Pair) -> bool
+    ensures { λ r. ⌜ r ≡ eqb spi 0 || not (pairFits pair) ⌝ }
 {
     if spi == 0 {
-        return IkeAnswer { number: 1, ike };
+        return true;
     }
-    if pair_fits(pair) {
-        if ike_place(ike, spi) < 32 {
-            return IkeAnswer { number: 11, ike };
-        }
-        let place = ike_place(ike, 0);
-        if place < 32 {
-            let new = new_ike(spi, mobike, pair);
-            let mut out = ike;
-            out[place] = new;
-            IkeAnswer {
-                number: 0,
-                ike: out,
-            }
-        } else {
-            IkeAnswer { number: 10, ike }
-        }
-    } else {
-        IkeAnswer { number: 1, ike }
+    if pair_fits(pair) { false } else { true }
+}
+
+// Whether the list hasn't 128 records, or an SPI is 0.
+pub fn is_bad_list(size: usize, spi: u64) -> bool
+    ensures { λ r. ⌜ r ≡ not (eqb size 128) || eqb spi 0 ⌝ }
+{
+    if size == 128 { spi == 0 } else { true }
+}
+
+pub fn is_bad_opening(size: usize, spi: u64, owner: u64) -> bool
+    ensures { λ r. ⌜ r ≡ (not (eqb size 128) || eqb spi 0) || eqb owner 0 ⌝ }
+{
+    if is_bad_list(size, spi) {
+        return true;
+    }
+    owner == 0
+}
+
+// Opening an IKE record: `taken` is the lowest place with its SPI, `free` the lowest free one.
+pub fn ike_opening(spi: u64, mobike: bool, pair: Pair, taken: usize, free: usize) -> IkeChange
+    ensures { λ r. ⌜ r ≡ ikeOpening spi mobike pair taken free ⌝ }
+{
+    let bad = is_bad_ike(spi, pair);
+    let number = opening_number(bad, true, taken < 32, free < 32);
+    let entry = new_ike(spi, mobike, pair);
+    IkeChange {
+        number,
+        place: place_if(number, free, 32),
+        entry,
     }
 }
 
-// Opens an IPsec record at the lowest free place, with the pair of its IKE record.
-pub fn open_ipsec(
-    ike: [IkeRecord; 32],
-    ipsec: [IpsecRecord; 128],
+// Opening an IPsec record in a list of `size`, with the pair of its IKE record `of`, whose place is `owned`.
+pub fn ipsec_opening(
+    size: usize,
     spi: u32,
     owner: u64,
-) -> IpsecAnswer
-    ensures { λ r. ⌜ r ≡ openIpsec ike ipsec spi owner ⌝ }
+    owned: usize,
+    of: IkeRecord,
+    taken: usize,
+    free: usize,
+) -> IpsecChange
+    ensures { λ r. ⌜ r ≡ ipsecOpening size spi owner owned («of» .pair) taken free ⌝ }
 {
-    if spi == 0 {
-        return IpsecAnswer { number: 1, ipsec };
-    }
-    if owner == 0 {
-        return IpsecAnswer { number: 1, ipsec };
-    }
-    let owned = ike_place(ike, owner);
-    if owned < 32 {
-        if ipsec_place(ipsec, spi) < 128 {
-            return IpsecAnswer { number: 11, ipsec };
-        }
-        let place = ipsec_place(ipsec, 0);
-        if place < 128 {
-            let of = ike[owned];
-            let pair = of.pair;
-            let mut out = ipsec;
-            out[place] = IpsecRecord { spi, owner, pair };
-            IpsecAnswer {
-                number: 0,
-                ipsec: out,
-            }
-        } else {
-            IpsecAnswer { number: 10, ipsec }
-        }
-    } else {
-        IpsecAnswer { number: 4, ipsec }
+    let bad = is_bad_opening(size, spi as u64, owner);
+    let number = opening_number(bad, owned < 32, taken < size, free < size);
+    let pair = of.pair;
+    IpsecChange {
+        number,
+        place: place_if(number, free, size),
+        entry: IpsecRecord { spi, owner, pair },
     }
 }
 
-// A closed place of the IKE table.
-pub fn no_ike() -> IkeRecord
-    ensures { λ r. ⌜ r ≡ noIke ⌝ }
+// Closing an IKE record, beside an IPsec list of `size`; `place` is the lowest with its SPI.
+pub fn ike_closing(size: usize, spi: u64, place: usize) -> IkeChange
+    ensures { λ r. ⌜ r ≡ ikeClosing size spi place ⌝ }
 {
-    let pair = Pair {
-        family: 0,
-        source: [0u8; 16],
-        destination: [0u8; 16],
-        source_port: 0,
-        destination_port: 0,
-    };
-    new_ike(0, false, pair)
-}
-
-// Closes an IKE record and the IPsec records that it owns.
-pub fn close_ike(ike: [IkeRecord; 32], ipsec: [IpsecRecord; 128], spi: u64) -> CloseAnswer
-    ensures { λ r. ⌜ r ≡ closeIke ike ipsec spi ⌝ }
-{
-    if spi == 0 {
-        return CloseAnswer {
-            number: 1,
-            ike,
-            ipsec,
-        };
-    }
-    let place = ike_place(ike, spi);
-    if place < 32 {
-        let none = no_ike();
-        let mut out = ike;
-        out[place] = none;
-        let left = release_all(ipsec, spi);
-        CloseAnswer {
-            number: 0,
-            ike: out,
-            ipsec: left,
-        }
-    } else {
-        CloseAnswer {
-            number: 4,
-            ike,
-            ipsec,
-        }
+    let number = closing_number(is_bad_list(size, spi), place < 32);
+    let entry = no_ike();
+    IkeChange {
+        number,
+        place: place_if(number, place, 32),
+        entry,
     }
 }
 
-// Closes an IPsec record.
-pub fn close_ipsec(ipsec: [IpsecRecord; 128], spi: u32) -> IpsecAnswer
-    ensures { λ r. ⌜ r ≡ closeIpsec ipsec spi ⌝ }
+// Closing an IPsec record of a list of `size`; `place` is the lowest with its SPI.
+pub fn ipsec_closing(size: usize, spi: u32, place: usize) -> IpsecChange
+    ensures { λ r. ⌜ r ≡ ipsecClosing size spi place ⌝ }
 {
-    if spi == 0 {
-        return IpsecAnswer { number: 1, ipsec };
-    }
-    let place = ipsec_place(ipsec, spi);
-    if place < 128 {
-        let none = no_ipsec();
-        let mut out = ipsec;
-        out[place] = none;
-        IpsecAnswer {
-            number: 0,
-            ipsec: out,
-        }
-    } else {
-        IpsecAnswer { number: 4, ipsec }
+    let number = closing_number(is_bad_list(size, spi as u64), place < size);
+    let entry = no_ipsec();
+    IpsecChange {
+        number,
+        place: place_if(number, place, size),
+        entry,
     }
 }

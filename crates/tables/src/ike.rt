@@ -1,9 +1,8 @@
-// IKE records: the lowest place with an SPI, a new record, a closed one.
+// IKE records: a new one, a closed one.
 use address::address::Address;
 use address::pair::Pair;
 ghost use mathlib.Core.Path.{_≡_};
-ghost use Rattle.octets.specs.Lists.{placeOf};
-ghost use Rattle.tables.specs.Records.{ikeSpi, newIke};
+ghost use Rattle.tables.specs.Records.{newIke, noIke};
 
 // A place is free when its SPI is 0. A mark is the least message ID that exceeds it: 0 for none, and the ID and one for an ID.
 #[repr(C)]
@@ -16,20 +15,6 @@ pub struct IkeRecord {
     pub count: u16,
     pub addresses: [Address; 16],
     pub unknown: u32,
-}
-
-// The lowest place with this SPI, or 32 where there is none; of SPI 0, the lowest free place.
-pub fn ike_place(records: [IkeRecord; 32], spi: u64) -> usize
-    ensures { λ r. ⌜ r ≡ placeOf ikeSpi spi records ⌝ }
-{
-    let mut i = 0;
-    while i < 32 {
-        if records[i].spi == spi {
-            return i;
-        }
-        i += 1;
-    }
-    32
 }
 
 // A record with no marks, an empty list and no tally.
@@ -50,4 +35,18 @@ pub fn new_ike(spi: u64, mobike: bool, pair: Pair) -> IkeRecord
         addresses: [none; 16],
         unknown: 0,
     }
+}
+
+// A place that is closed.
+pub fn no_ike() -> IkeRecord
+    ensures { λ r. ⌜ r ≡ noIke ⌝ }
+{
+    let pair = Pair {
+        family: 0,
+        source: [0u8; 16],
+        destination: [0u8; 16],
+        source_port: 0,
+        destination_port: 0,
+    };
+    new_ike(0, false, pair)
 }

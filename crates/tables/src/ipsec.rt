@@ -1,29 +1,13 @@
-// IPsec records: the lowest place with an SPI, and closing those of an owner.
+// IPsec records: a closed one, and what becomes of one when its owner is closed or moves.
 use address::pair::Pair;
 ghost use mathlib.Core.Path.{_≡_};
-ghost use mathlib.Core.List.{map};
-ghost use Rattle.octets.specs.Lists.{placeOf};
-ghost use Rattle.tables.specs.Records.{ipsecSpi, noIpsec, released, follows};
+ghost use Rattle.tables.specs.Records.{noIpsec, released, follows};
 
 #[repr(C)]
 pub struct IpsecRecord {
     pub spi: u32,
     pub owner: u64,
     pub pair: Pair,
-}
-
-// The lowest place with this SPI, or 128 where there is none; of SPI 0, the lowest free place.
-pub fn ipsec_place(records: [IpsecRecord; 128], spi: u32) -> usize
-    ensures { λ r. ⌜ r ≡ placeOf ipsecSpi spi records ⌝ }
-{
-    let mut i = 0;
-    while i < 128 {
-        if records[i].spi == spi {
-            return i;
-        }
-        i += 1;
-    }
-    128
 }
 
 // A place that is closed.
@@ -57,21 +41,6 @@ pub fn release(entry: IpsecRecord, owner: u64) -> IpsecRecord
     entry
 }
 
-// Closes every record that is in use and has this owner.
-pub fn release_all(records: [IpsecRecord; 128], owner: u64) -> [IpsecRecord; 128]
-    ensures { λ r. ⌜ r ≡ map (released owner) records ⌝ }
-{
-    let mut out = records;
-    let mut i = 0;
-    while i < 128 {
-        let r = out[i];
-        let s = release(r, owner);
-        out[i] = s;
-        i += 1;
-    }
-    out
-}
-
 // The record, moved to a pair if it is in use and has this owner.
 pub fn follow(held: IpsecRecord, owner: u64, pair: Pair) -> IpsecRecord
     ensures { λ r. ⌜ r ≡ follows owner pair held ⌝ }
@@ -87,19 +56,4 @@ pub fn follow(held: IpsecRecord, owner: u64, pair: Pair) -> IpsecRecord
         };
     }
     held
-}
-
-// Moves every record that is in use and has this owner.
-pub fn follow_all(records: [IpsecRecord; 128], owner: u64, pair: Pair) -> [IpsecRecord; 128]
-    ensures { λ r. ⌜ r ≡ map (follows owner pair) records ⌝ }
-{
-    let mut out = records;
-    let mut i = 0;
-    while i < 128 {
-        let h = out[i];
-        let moved = follow(h, owner, pair);
-        out[i] = moved;
-        i += 1;
-    }
-    out
 }

@@ -9,7 +9,8 @@ use reference::reader;
 
 pub fn run(case: Case, faults: Faults, detail: Detail) -> Verdict {
     let ours = ours::reader::read(case.first, &case.body);
-    let reference = Outcome::of(&reader::read(case.first, &case.body, faults));
+    let reading = reader::read(case.first, &case.body, faults);
+    let reference = Outcome::of(&reading, &case.body, faults);
     Verdict::of(ours == reference, detail, || {
         let mut lines = report::chain(case.first, &case.body);
         lines.extend(report::compared(&ours.fields(), &reference.fields(), detail));

@@ -54,3 +54,8 @@ pub fn side_by_side([one, other]: [(&str, &Fields); 2], detail: Detail) -> Vec<S
     }
     lines
 }
+
+/// A line where the library changed records around those that it was lent.
+pub fn around(is_kept: bool) -> Option<String> {
+    (!is_kept).then(|| "* records around those lent: ours changed".to_string())
+}

@@ -29,6 +29,8 @@ pub fn run(case: Case, faults: Faults, detail: Detail) -> Verdict {
 pub struct Step<'a> {
     pub ours: Handled<'a>,
     pub our_tables: Tables,
+    /// Whether the records around those lent to the library are kept.
+    kept_around: bool,
     reference: Handled<'a>,
     reference_tables: Tables,
 }
@@ -36,13 +38,14 @@ pub struct Step<'a> {
 impl<'a> Step<'a> {
     pub fn take(request: &'a Request, tables: &Tables, faults: Faults) -> Self {
         let (mut our_tables, mut reference_tables) = (tables.clone(), tables.clone());
-        let ours = ours::requests::handle(request, &mut our_tables);
+        let (ours, kept_around) = ours::requests::handle(request, &mut our_tables);
         let reference = handler::handle(request, &mut reference_tables, faults);
-        Step { ours, our_tables, reference, reference_tables }
+        Step { ours, our_tables, kept_around, reference, reference_tables }
     }
 
     pub fn agrees(&self) -> bool {
-        self.ours == self.reference && self.our_tables == self.reference_tables
+        let same_tables = self.our_tables == self.reference_tables;
+        self.ours == self.reference && same_tables && self.kept_around
     }
 
     /// The request, and what is to be shown of both replies and of the tables.
@@ -53,6 +56,7 @@ impl<'a> Step<'a> {
         if detail == Detail::AllFields {
             lines.extend(changes(before, &self.reference_tables));
         }
+        lines.extend(report::around(self.kept_around));
         let [ours, reference] = of_differing_places(&self.our_tables, &self.reference_tables);
         lines.extend(report::compared(&ours, &reference, Detail::DifferingFields));
         lines

@@ -24,6 +24,8 @@ struct Programs {
 /// What each program gave back.
 struct Replies {
     ours: u8,
+    /// Whether the records around those lent to the library are kept.
+    kept_around: bool,
     reference: u8,
 }
 
@@ -33,16 +35,15 @@ impl Programs {
     }
 
     fn make(&mut self, call: &Call, faults: Faults) -> Replies {
-        Replies {
-            ours: ours::tables::make(call, &mut self.ours),
-            reference: call.make(&mut self.reference, faults),
-        }
+        let (ours, kept_around) = ours::tables::make(call, &mut self.ours);
+        Replies { ours, kept_around, reference: call.make(&mut self.reference, faults) }
     }
 }
 
 impl Replies {
     fn agrees(&self, programs: &Programs) -> bool {
-        self.ours == self.reference && programs.ours == programs.reference
+        let same_number = self.ours == self.reference;
+        same_number && self.kept_around && programs.ours == programs.reference
     }
 
     fn line(&self) -> String {
@@ -69,6 +70,7 @@ fn show(case: &Case, faults: Faults, detail: Detail) -> String {
         }
         if !replies.agrees(&programs) {
             let [ours, reference] = of_differing_places(&programs.ours, &programs.reference);
+            lines.extend(report::around(replies.kept_around));
             lines.extend(report::compared(&ours, &reference, Detail::DifferingFields));
             break;
         }

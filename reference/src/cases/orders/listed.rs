@@ -24,13 +24,15 @@ pub fn all() -> Vec<Case> {
     cases
 }
 
-/// All acceptable, none, IPv6 alone, and a twin above the record that is meant.
+/// All acceptable, none, IPv6 alone, a twin above the record that is meant, and IPsec lists of other
+/// lengths.
 fn tables() -> Vec<Tables> {
     let mut ipv6_only = setting::tables();
     ipv6_only.policy.rules[0].family = 6;
     let mut twin = setting::tables();
     twin.ike_mut()[20].spi = setting::spi();
-    vec![setting::tables(), setting::closed_tables(), ipv6_only, twin]
+    let others = [0, 127, 129].map(|length| setting::tables().with_ipsec_length(length));
+    [vec![setting::tables(), setting::closed_tables(), ipv6_only, twin], others.to_vec()].concat()
 }
 
 fn lists() -> Vec<[Request; 3]> {

@@ -3,6 +3,7 @@ mod listed;
 mod sequences;
 
 use super::requests::starts;
+use super::tables::lengths;
 use crate::cases::seeded::{Kinded, Seeded};
 use crate::orders::Order;
 use crate::request::Request;
@@ -40,6 +41,7 @@ fn random(rng: &mut Rng) -> Case {
         starts::open(&mut tables.policy);
     }
     let requests = sequences::requests(rng, &mut tables);
+    lengths::vary(rng, &mut tables);
     let mut chance: Order = (0..requests.len()).collect();
     rng.shuffle(&mut chance);
     Case { tables, requests, chance }

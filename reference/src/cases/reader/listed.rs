@@ -27,6 +27,7 @@ pub fn all() -> Vec<Case> {
         notify_types(),
         first_types(),
         spi_sizes(),
+        cookies_alike(),
     ]
     .concat()
 }
@@ -265,4 +266,20 @@ fn spi_sizes() -> Vec<Case> {
             .map(|notify| chain_of(vec![notify]))
         })
         .collect()
+}
+
+/// Octets before the cookie that are alike, and cookies at the end of the body and before it.
+fn cookies_alike() -> Vec<Case> {
+    let mut cases = Vec::new();
+    for size in [8, 9, 63, 64] {
+        let data: Vec<u8> = (1..=size).collect();
+        let cookie = Draft::notify(NotifyType::COOKIE2, &data);
+        for before in
+            [Draft::payload(SKIPPED, 0, data.clone()), Draft::notify(UNKNOWN_STATUS, &data)]
+        {
+            cases.push(chain_of(vec![before.clone(), cookie.clone()]));
+            cases.push(chain_of(vec![before.clone(), cookie.clone(), before]));
+        }
+    }
+    cases
 }

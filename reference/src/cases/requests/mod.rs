@@ -4,6 +4,7 @@ mod chains;
 pub(super) mod listed;
 pub(super) mod starts;
 
+use super::tables::lengths;
 use crate::cases::seeded::{Kinded, Seeded};
 use crate::request::Request;
 use crate::rng::Rng;
@@ -36,6 +37,7 @@ fn random(rng: &mut Rng) -> Case {
         starts::agree(&mut tables, spi);
     }
     let request = arguments::request(rng, &tables, spi);
+    lengths::vary(rng, &mut tables);
     Case { tables, request }
 }
 

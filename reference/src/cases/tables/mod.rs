@@ -1,4 +1,5 @@
 // The tables' cases: tables as they may stand, and calls, each made on what the one before left.
+pub(super) mod lengths;
 pub(super) mod listed;
 pub(super) mod pairs;
 pub(super) mod rules;
@@ -43,7 +44,8 @@ pub type TablesCases = Seeded<Case>;
 
 fn random(rng: &mut Rng) -> Case {
     let shape = rng.pick_weighted(&WEIGHTS);
-    let tables = shape.tables(rng);
+    let mut tables = shape.tables(rng);
+    lengths::vary(rng, &mut tables);
     let calls = scripts::calls(rng, &tables);
     Case { tables, calls }
 }

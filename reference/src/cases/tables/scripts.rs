@@ -75,7 +75,7 @@ fn ipsec_spi(rng: &mut Rng, tables: &Tables, in_use: usize) -> u32 {
 
 /// The SPI of some record.
 fn spi_in_use<R: Record>(rng: &mut Rng, records: &[R]) -> Option<u64> {
-    let start = rng.below(records.len());
+    let start = rng.below(records.len().max(1));
     let mut turned = records[start..].iter().chain(&records[..start]);
     turned.find(|record| record.is_in_use()).map(Record::spi)
 }

@@ -1,4 +1,5 @@
 // The verified library: its C interface, and its answers in the form in which they are compared.
+pub mod cookie;
 pub mod judge;
 pub mod reader;
 pub mod requests;

@@ -1,5 +1,7 @@
 // The library's reader: its C interface, and its readings in the form in which they are compared.
+use super::cookie::hand_out;
 use reference::address::{Address, AddressPair};
+use reference::cookie::handed_out;
 use reference::outcome::{Outcome, Place};
 use std::mem::{offset_of, size_of};
 
@@ -77,6 +79,7 @@ fn outcome<'a>(
 ) -> Outcome<'a> {
     let seen = reading.seen;
     let place = |offset, length| Place::in_body(body, usize::from(offset), usize::from(length));
+    let cookie = place(seen.cookie, seen.cookie_len);
     Outcome {
         number: reading.number,
         offset: usize::from(reading.offset),
@@ -89,7 +92,8 @@ fn outcome<'a>(
         no_additional: seen.no_additional,
         nat_source: nat_detection(body, seen.nat_source),
         nat_destination: nat_detection(body, seen.nat_destination),
-        cookie: place(seen.cookie, seen.cookie_len),
+        cookie,
+        handed_out: handed_out(body, cookie, |at, length| hand_out(body, at, length)),
         no_nats: place(seen.no_nats, seen.no_nats_len),
         no_nats_pair,
         addresses: usize::from(seen.addresses),

@@ -1,12 +1,13 @@
 // The library's request handler: its C interface, and its replies as they are compared.
+use super::cookie::hand_out;
 use reference::address::AddressPair;
+use reference::lent::{LentTables, NO_SPI_GIVEN};
 use reference::outcome::Place;
 use reference::policy::Policy;
 use reference::reply::{Handled, Reply};
 use reference::request::Request;
-use reference::tables::{IkeTable, IpsecTable, Tables};
+use reference::tables::{IkeRecord, IpsecRecord, Tables};
 use std::mem::{offset_of, size_of};
-use std::rc::Rc;
 
 #[repr(C)]
 struct CReply {
@@ -22,22 +23,14 @@ struct CReply {
     length: u16,
 }
 
-#[repr(C)]
-struct CHandled {
-    reply: CReply,
-    ike: IkeTable,
-    ipsec: IpsecTable,
-}
-
 const _: () = assert!(size_of::<CReply>() == 16 && offset_of!(CReply, left_off) == 4);
-const _: () = assert!(offset_of!(CHandled, ike) == 16);
-const _: () = assert!(size_of::<CHandled>() == 16 + 32 * 344 + 128 * 56);
 
 #[link(name = "host", kind = "static")]
 extern "C" {
     fn unmavreth_request(
-        ike: IkeTable,
-        ipsec: IpsecTable,
+        ike: *mut IkeRecord,
+        ipsec: *mut IpsecRecord,
+        ipsec_len: usize,
         policy: Policy,
         spi: u64,
         id: u32,
@@ -51,19 +44,24 @@ extern "C" {
         body_len: usize,
         out: *mut u8,
         out_len: usize,
-    ) -> CHandled;
+    ) -> CReply;
 }
 
-/// Handles the request by the library, which changes the tables.
-pub fn handle<'a>(request: &'a Request, tables: &mut Tables) -> Handled<'a> {
+/// Handles the request by the library, which changes the tables; also whether the records around
+/// the lent ones are kept.
+pub fn handle<'a>(request: &'a Request, tables: &mut Tables) -> (Handled<'a>, bool) {
     let Request { spi, id, pair, nat_source, nat_destination, first, body, output } = request;
     let mut output = output.clone();
-    // SAFETY: each start and length are those of a slice that outlives the call, and no two of the
-    // slices overlap; the rest goes by value, and any is allowed.
-    let handled = unsafe {
+    let mut lent = LentTables::new(tables, *spi, NO_SPI_GIVEN);
+    let ipsec_length = lent.ipsec().len();
+    // SAFETY: each start and length are those of a slice that outlives the call, that of the IKE
+    // records has its 32, and no two of the slices overlap; the rest goes by value, and any is
+    // allowed.
+    let told = unsafe {
         unmavreth_request(
-            *tables.ike,
-            *tables.ipsec,
+            lent.ike().as_mut_ptr(),
+            lent.ipsec().as_mut_ptr(),
+            ipsec_length,
             tables.policy,
             *spi,
             *id,
@@ -79,9 +77,7 @@ pub fn handle<'a>(request: &'a Request, tables: &mut Tables) -> Handled<'a> {
             output.len(),
         )
     };
-    tables.ike = Rc::new(handled.ike);
-    tables.ipsec = Rc::new(handled.ipsec);
-    Handled { reply: reply(handled.reply, body), output }
+    (Handled { reply: reply(told, body), output }, lent.give_back(tables))
 }
 
 fn reply(reply: CReply, body: &[u8]) -> Reply<'_> {
@@ -93,6 +89,7 @@ fn reply(reply: CReply, body: &[u8]) -> Reply<'_> {
         payloads: usize::from(reply.payloads),
         offset: usize::from(reply.offset),
         cookie: Place::in_body(body, usize::from(reply.cookie), usize::from(reply.cookie_len)),
+        handed_out: hand_out(body, reply.cookie, reply.cookie_len),
         first: reply.first,
         length: usize::from(reply.length),
     }

@@ -1,29 +1,10 @@
-// The library's table calls: its C interface, which takes and gives the tables by value.
+// The library's table calls: its C interface, which is lent the tables and changes them in place.
 use reference::address::AddressPair;
 use reference::calls::Call;
+use reference::lent::{LentTables, NO_SPI_GIVEN};
 use reference::policy::{Policy, Rule, RuleList};
-use reference::tables::{IkeRecord, IkeTable, IpsecRecord, IpsecTable, Tables};
+use reference::tables::{IkeRecord, IpsecRecord, Tables};
 use std::mem::{offset_of, size_of};
-use std::rc::Rc;
-
-#[repr(C)]
-struct CIkeAnswer {
-    number: u8,
-    ike: IkeTable,
-}
-
-#[repr(C)]
-struct CIpsecAnswer {
-    number: u8,
-    ipsec: IpsecTable,
-}
-
-#[repr(C)]
-struct CCloseAnswer {
-    number: u8,
-    ike: IkeTable,
-    ipsec: IpsecTable,
-}
 
 #[repr(C)]
 struct CPolicyAnswer {
@@ -36,58 +17,83 @@ const _: () = assert!(offset_of!(IkeRecord, pair) == 10 && offset_of!(IkeRecord,
 const _: () = assert!(offset_of!(IpsecRecord, owner) == 8 && offset_of!(IpsecRecord, pair) == 16);
 const _: () = assert!(size_of::<Rule>() == 35 && offset_of!(Rule, source_length) == 33);
 const _: () = assert!(size_of::<Policy>() == 562 && offset_of!(Policy, rules) == 2);
-const _: () = assert!(size_of::<CCloseAnswer>() == 8 + 32 * 344 + 128 * 56);
 const _: () = assert!(size_of::<CPolicyAnswer>() == 564);
 
+// Each start of IKE records is that of 32.
 #[link(name = "host", kind = "static")]
 extern "C" {
-    fn unmavreth_open_ike(ike: IkeTable, spi: u64, mobike: bool, pair: AddressPair) -> CIkeAnswer;
-    fn unmavreth_open_ipsec(ike: IkeTable, ipsec: IpsecTable, spi: u32, owner: u64)
-        -> CIpsecAnswer;
-    fn unmavreth_close_ike(ike: IkeTable, ipsec: IpsecTable, spi: u64) -> CCloseAnswer;
-    fn unmavreth_close_ipsec(ipsec: IpsecTable, spi: u32) -> CIpsecAnswer;
+    fn unmavreth_open_ike(ike: *mut IkeRecord, spi: u64, mobike: bool, pair: AddressPair) -> u8;
+    fn unmavreth_open_ipsec(
+        ike: *const IkeRecord,
+        ipsec: *mut IpsecRecord,
+        ipsec_len: usize,
+        spi: u32,
+        owner: u64,
+    ) -> u8;
+    fn unmavreth_close_ike(
+        ike: *mut IkeRecord,
+        ipsec: *mut IpsecRecord,
+        ipsec_len: usize,
+        spi: u64,
+    ) -> u8;
+    fn unmavreth_close_ipsec(ipsec: *mut IpsecRecord, ipsec_len: usize, spi: u32) -> u8;
     fn unmavreth_set_policy(policy: Policy, count: u16, rules: RuleList) -> CPolicyAnswer;
     /// Given back as an octet, so that any value may be looked at.
     fn unmavreth_acceptable(policy: Policy, pair: AddressPair) -> u8;
 }
 
-/// Makes the call on the tables by the library; what it gives back is as for `Call::make`.
-pub fn make(call: &Call, tables: &mut Tables) -> u8 {
+/// Makes the call on the tables by the library; what it gives back is as for `Call::make`, with
+/// whether the records around the lent ones are kept.
+pub fn make(call: &Call, tables: &mut Tables) -> (u8, bool) {
+    let (spi, ipsec_spi) = spis(call);
+    let mut lent = LentTables::new(tables, spi, ipsec_spi);
+    let number = make_on(call, &mut lent, &mut tables.policy);
+    (number, lent.give_back(tables))
+}
+
+/// The SPIs that the call gives, of an IKE and of an IPsec record.
+fn spis(call: &Call) -> (u64, u32) {
+    let none = u64::from(NO_SPI_GIVEN);
+    match *call {
+        Call::OpenIke { spi, .. } | Call::CloseIke { spi } => (spi, NO_SPI_GIVEN),
+        Call::OpenIpsec { spi, owner } => (owner, spi),
+        Call::CloseIpsec { spi } => (none, spi),
+        Call::SetPolicy { .. } | Call::Acceptable { .. } => (none, NO_SPI_GIVEN),
+    }
+}
+
+fn make_on(call: &Call, lent: &mut LentTables, policy: &mut Policy) -> u8 {
+    let ike = lent.ike().as_mut_ptr();
+    let ipsec_length = lent.ipsec().len();
+    let ipsec = lent.ipsec().as_mut_ptr();
     match call {
         &Call::OpenIke { spi, mobike, pair } => {
-            // SAFETY: all arguments go by value, and any is allowed.
-            let answer = unsafe { unmavreth_open_ike(*tables.ike, spi, mobike, pair) };
-            tables.ike = Rc::new(answer.ike);
-            answer.number
+            // SAFETY: each start and length are those of a slice that outlives the call, that of
+            // the IKE records has its 32, and no two of the slices overlap; the rest goes by value,
+            // and any is allowed.
+            unsafe { unmavreth_open_ike(ike, spi, mobike, pair) }
         }
         &Call::OpenIpsec { spi, owner } => {
             // SAFETY: as above.
-            let answer = unsafe { unmavreth_open_ipsec(*tables.ike, *tables.ipsec, spi, owner) };
-            tables.ipsec = Rc::new(answer.ipsec);
-            answer.number
+            unsafe { unmavreth_open_ipsec(ike, ipsec, ipsec_length, spi, owner) }
         }
         &Call::CloseIke { spi } => {
             // SAFETY: as above.
-            let answer = unsafe { unmavreth_close_ike(*tables.ike, *tables.ipsec, spi) };
-            tables.ike = Rc::new(answer.ike);
-            tables.ipsec = Rc::new(answer.ipsec);
-            answer.number
+            unsafe { unmavreth_close_ike(ike, ipsec, ipsec_length, spi) }
         }
         &Call::CloseIpsec { spi } => {
             // SAFETY: as above.
-            let answer = unsafe { unmavreth_close_ipsec(*tables.ipsec, spi) };
-            tables.ipsec = Rc::new(answer.ipsec);
-            answer.number
+            unsafe { unmavreth_close_ipsec(ipsec, ipsec_length, spi) }
         }
         Call::SetPolicy { count, rules } => {
-            // SAFETY: as above.
-            let answer = unsafe { unmavreth_set_policy(tables.policy, *count, **rules) };
-            tables.policy = answer.policy;
+            // SAFETY: all arguments go by value, and any is allowed.
+            let answer = unsafe { unmavreth_set_policy(*policy, *count, **rules) };
+            *policy = answer.policy;
             answer.number
         }
         &Call::Acceptable { pair } => {
             // SAFETY: as above.
-            unsafe { unmavreth_acceptable(tables.policy, pair) }
+            unsafe { unmavreth_acceptable(*policy, pair) }
         }
     }
 }

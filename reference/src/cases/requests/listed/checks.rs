@@ -9,6 +9,7 @@ use crate::chain::NOTIFY;
 use crate::reader::MAX_BODY;
 use crate::request::Request;
 use crate::tables::IKE_PLACES;
+use std::rc::Rc;
 
 pub fn all() -> Vec<Case> {
     [together(), pairs(), lent_values(), outputs(), listed_chains()].concat()
@@ -16,6 +17,12 @@ pub fn all() -> Vec<Case> {
 
 /// An argument that is passed or fails its checks.
 type Choice = Box<dyn Fn(&mut Case)>;
+
+/// An IPsec list of this length, made once.
+fn with_list(length: usize) -> Choice {
+    let list = setting::tables().with_ipsec_length(length).ipsec;
+    Box::new(move |case| case.tables.ipsec = Rc::clone(&list))
+}
 
 fn on_request(change: impl Fn(&mut Request) + 'static) -> Choice {
     Box::new(move |case| change(&mut case.request))
@@ -25,6 +32,7 @@ fn on_request(change: impl Fn(&mut Request) + 'static) -> Choice {
 fn choices() -> Vec<Vec<Choice>> {
     let absent = spis::ike(IKE_PLACES);
     vec![
+        [128, 0, 127, 129, 300].map(with_list).into(),
         vec![
             on_request(|_| {}),
             on_request(|request| request.spi = 0),

@@ -1,5 +1,6 @@
 // The requests every run begins with: the papers' rows, each check, mark, list and record.
 mod checks;
+mod lengths;
 mod lists;
 mod marks;
 mod no_nats;
@@ -21,6 +22,7 @@ pub fn all() -> Vec<Case> {
         tallies::all(),
         responses::all(),
         records::all(),
+        lengths::all(),
     ]
     .concat()
 }

@@ -1,11 +1,8 @@
 // Closings: every place, every owned place, twins, orphans, and free places that name an owner.
 use super::super::{spis, Case};
-use super::contents::{self, ike_record, ipsec_record};
+use super::contents::{self, ike_record, ipsec_record, NEW_IPSEC};
 use crate::calls::Call;
 use crate::tables::{Tables, IKE_PLACES, IPSEC_PLACES};
-
-/// An SPI that no place of `contents` has.
-const NEW_IPSEC: u32 = u32::MAX - 1;
 
 pub fn all() -> Vec<Case> {
     [

@@ -2,9 +2,15 @@
 use super::super::spis;
 use crate::address::{Address, AddressPair};
 use crate::policy::{Policy, Rule};
-use crate::tables::{IkeRecord, IkeTable, IpsecRecord, IpsecTable, Tables, IKE_PLACES};
+use crate::tables::{
+    IkeRecord, IkeTable, IpsecRecord, IpsecTable, Tables, IKE_PLACES, IPSEC_PLACES,
+};
 use std::array;
 use std::rc::Rc;
+
+/// SPIs that no place has.
+pub const NEW_IKE: u64 = u64::MAX - 1;
+pub const NEW_IPSEC: u32 = u32::MAX - 1;
 
 /// Sixteen octets that differ from place to place.
 fn octets(place: usize) -> [u8; 16] {
@@ -57,7 +63,7 @@ fn tables(ike_spi: impl Fn(usize) -> u64, ipsec_spi: impl Fn(usize) -> u32) -> T
     let ipsec = |place| ipsec_record(place, ipsec_spi(place), spis::ike(place % IKE_PLACES));
     Tables {
         ike: Rc::new(IkeTable { records: array::from_fn(ike) }),
-        ipsec: Rc::new(IpsecTable { records: array::from_fn(ipsec) }),
+        ipsec: Rc::new(IpsecTable { records: (0..IPSEC_PLACES).map(ipsec).collect() }),
         policy: policy(),
     }
 }

@@ -1,13 +1,9 @@
 // Openings: every family and tail, failing checks together, every free place, SPIs nearly alike.
 use super::super::{spis, Case};
-use super::contents::{self, ike_record, ipsec_record};
+use super::contents::{self, ike_record, ipsec_record, NEW_IKE, NEW_IPSEC};
 use crate::address::AddressPair;
 use crate::calls::Call;
 use crate::tables::{Tables, IKE_PLACES, IPSEC_PLACES};
-
-/// SPIs that no place of `contents` has.
-const NEW_IKE: u64 = u64::MAX - 1;
-const NEW_IPSEC: u32 = u32::MAX - 1;
 
 pub fn all() -> Vec<Case> {
     [

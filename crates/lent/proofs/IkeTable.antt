@@ -1,0 +1,41 @@
+-- The lent IKE table as the walks have it: its type, its parameter's slot, how a record's machine value is spelled, and a place within the table or past its end.
+use Prim.Native.Nat.{ℕ, _<_, _≤_, _*_, _^_}
+use mathlib.Core.Path.{_≡_}
+use native.Mathlib.Omega.{arith}
+use mathlib.Core.Bool.{not}
+use mathlib.Core.List.{List}
+use lib.Dec.{T, ltb, ltb→lt, nltb→le}
+use lib.ListN.{length}
+use mir.Val.{Val}
+use denote.RattleType.{RattleType}
+use denote.Memory.{mem}
+use denote.Array.{Array}
+use denote.Builtin.{ArrayOf}
+use denote.Signature.{Slot, plain}
+use denote.Struct.Laws as LL
+use Rattle.tables.specs.declared.ike.IkeRecord.{IkeRecord}
+use Rattle.tables.proofs.ike.IkeRecord as S
+use Rattle.tables.proofs.ike.IkeRecord.Laws as S′
+
+abbrev pub R : RattleType
+R = S.the-row
+
+abbrev pub Q : RattleType
+Q = Array R 32
+
+abbrev pub table-slot : Slot 1
+table-slot = ArrayOf (plain (λ _. R)) (λ κs. tt) 32
+
+abbrev pub rec-vals : IkeRecord → List Val
+rec-vals = LL.vals S.the-type S′.the-laws
+
+module _ (i : ℕ) where
+  pub at-fits : T (ltb i 32) → i * mem R .size < 2 ^ 64
+  at-fits less = let h = ltb→lt i 32 less in omega arith
+
+  module _ (xs : List IkeRecord) (long : length xs ≡ 32) where
+    pub within : T (ltb i 32) → i < length xs
+    within less = let h = ltb→lt i 32 less in omega arith
+
+    pub past : T (not (ltb i 32)) → length xs ≤ i
+    past over = let h = nltb→le i 32 over in omega arith

@@ -1,0 +1,89 @@
+-- Each table call is one change: the number that is told, and one record stored at a place, past the end where nothing is stored.
+use Prim.Native.Nat.{ℕ}
+use mathlib.Core.Path.{_≡_, refl}
+use mathlib.Core.List.{List, map}
+use mathlib.Core.Bool.{Bool, true, false, cond, _||_, not}
+use native.Mathlib.Omega.{arith}
+use lib.Dec.{eqb, ltb}
+use lib.ListN.{length, getD, set}
+use lib.Seq.{set-out}
+use Rattle.octets.specs.Lists.{placeOf}
+use Rattle.address.specs.Address.{pairFits}
+use Rattle.address.specs.declared.pair.Pair.{Pair}
+use Rattle.tables.specs.Records.{ikeSpi, ipsecSpi, newIke, noIke, newIpsec, noIpsec, released}
+use Rattle.tables.specs.Calls.{ikeAnswer, ipsecAnswer, closeAnswer, hasIpsec, openIke, openIpsec, closeIke, closeIpsec}
+use Rattle.tables.specs.Changes.{openingNumber, closingNumber, ikeOpening, ipsecOpening, ikeClosing, ipsecClosing}
+use Rattle.tables.specs.declared.ike.IkeRecord.{IkeRecord}
+use Rattle.tables.specs.declared.ipsec.IpsecRecord.{IpsecRecord}
+
+-- nothing is stored past the end
+unstored : {A : Type 0} (xs : List A) (n : ℕ) (x : A) → length xs ≡ n → set xs n x ≡ xs
+unstored xs n x e = set-out xs n x (omega arith)
+
+module _ (ike : List IkeRecord) (long : length ike ≡ 32) where
+  pub opens-ike : (spi : ℕ) (mobike : Bool) (pair : Pair) → let c = ikeOpening spi mobike pair (placeOf ikeSpi spi ike) (placeOf ikeSpi 0 ike) in
+      (c .number ≡ openIke ike spi mobike pair .number) × (set ike (c .place) (c .entry) ≡ openIke ike spi mobike pair .ike)
+  unfolding openIke ikeOpening
+  opens-ike spi mobike pair =
+      rw long (go (eqb spi 0 || not (pairFits pair)) (ltb (placeOf ikeSpi spi ike) 32) (ltb (placeOf ikeSpi 0 ike) 32))
+    where
+      new : IkeRecord
+      new = newIke spi mobike pair
+
+      go : (a b c : Bool) → let r = cond a (ikeAnswer 1 ike) (cond b (ikeAnswer 11 ike) (cond c (ikeAnswer 0 (set ike (placeOf ikeSpi 0 ike) new)) (ikeAnswer 10 ike))) in
+          let n = openingNumber a true b c in (n ≡ r .number) × (set ike (cond (eqb n 0) (placeOf ikeSpi 0 ike) 32) new ≡ r .ike)
+      go true b c = (refl, unstored ike 32 new long)
+      go false true c = (refl, unstored ike 32 new long)
+      go false false true = (refl, refl)
+      go false false false = (refl, unstored ike 32 new long)
+
+  module _ (ipsec : List IpsecRecord) where
+    pub opens-ipsec : (spi owner : ℕ)
+        → let c = ipsecOpening (length ipsec) spi owner (placeOf ikeSpi owner ike) (getD ike (placeOf ikeSpi owner ike) noIke .pair) (placeOf ipsecSpi spi ipsec) (placeOf ipsecSpi 0 ipsec) in
+        (c .number ≡ openIpsec ike ipsec spi owner .number) × (set ipsec (c .place) (c .entry) ≡ openIpsec ike ipsec spi owner .ipsec)
+    unfolding openIpsec ipsecOpening
+    opens-ipsec spi owner =
+        rw long (go (not (eqb (length ipsec) 128)) (eqb spi 0) (eqb owner 0) (ltb (placeOf ikeSpi owner ike) 32) (hasIpsec spi ipsec) (hasIpsec 0 ipsec))
+      where
+        new : IpsecRecord
+        new = newIpsec spi owner (getD ike (placeOf ikeSpi owner ike) noIke .pair)
+
+        rest : (d e f : Bool) → let r = cond (not d) (ipsecAnswer 4 ipsec) (cond e (ipsecAnswer 11 ipsec) (cond f (ipsecAnswer 0 (set ipsec (placeOf ipsecSpi 0 ipsec) new)) (ipsecAnswer 10 ipsec))) in
+            let n = openingNumber false d e f in (n ≡ r .number) × (set ipsec (cond (eqb n 0) (placeOf ipsecSpi 0 ipsec) (length ipsec)) new ≡ r .ipsec)
+        rest false e f = (refl, unstored ipsec (length ipsec) new refl)
+        rest true true f = (refl, unstored ipsec (length ipsec) new refl)
+        rest true false true = (refl, refl)
+        rest true false false = (refl, unstored ipsec (length ipsec) new refl)
+
+        go : (a b c d e f : Bool)
+            → let r = cond (a || (b || c)) (ipsecAnswer 1 ipsec) (cond (not d) (ipsecAnswer 4 ipsec) (cond e (ipsecAnswer 11 ipsec) (cond f (ipsecAnswer 0 (set ipsec (placeOf ipsecSpi 0 ipsec) new)) (ipsecAnswer 10 ipsec)))) in
+            let n = openingNumber ((a || b) || c) d e f in (n ≡ r .number) × (set ipsec (cond (eqb n 0) (placeOf ipsecSpi 0 ipsec) (length ipsec)) new ≡ r .ipsec)
+        go true b c d e f = (refl, unstored ipsec (length ipsec) new refl)
+        go false true c d e f = (refl, unstored ipsec (length ipsec) new refl)
+        go false false true d e f = (refl, unstored ipsec (length ipsec) new refl)
+        go false false false d e f = rest d e f
+
+    pub closes-ike : (spi : ℕ) → let c = ikeClosing (length ipsec) spi (placeOf ikeSpi spi ike) in
+        (c .number ≡ closeIke ike ipsec spi .number) × (set ike (c .place) (c .entry) ≡ closeIke ike ipsec spi .ike)
+        × (cond (eqb (c .number) 0) (map (released spi) ipsec) ipsec ≡ closeIke ike ipsec spi .ipsec)
+    unfolding closeIke ikeClosing
+    closes-ike spi = rw long (go (not (eqb (length ipsec) 128) || eqb spi 0) (ltb (placeOf ikeSpi spi ike) 32))
+      where
+        go : (a b : Bool)
+            → let r = cond a (closeAnswer 1 ike ipsec) (cond b (closeAnswer 0 (set ike (placeOf ikeSpi spi ike) noIke) (map (released spi) ipsec)) (closeAnswer 4 ike ipsec)) in
+            let n = closingNumber a b in
+            (n ≡ r .number) × (set ike (cond (eqb n 0) (placeOf ikeSpi spi ike) 32) noIke ≡ r .ike) × (cond (eqb n 0) (map (released spi) ipsec) ipsec ≡ r .ipsec)
+        go true b = (refl, unstored ike 32 noIke long, refl)
+        go false true = (refl, refl, refl)
+        go false false = (refl, unstored ike 32 noIke long, refl)
+
+pub closes-ipsec : (ipsec : List IpsecRecord) (spi : ℕ) → let c = ipsecClosing (length ipsec) spi (placeOf ipsecSpi spi ipsec) in
+    (c .number ≡ closeIpsec ipsec spi .number) × (set ipsec (c .place) (c .entry) ≡ closeIpsec ipsec spi .ipsec)
+unfolding closeIpsec ipsecClosing
+closes-ipsec ipsec spi = go (not (eqb (length ipsec) 128) || eqb spi 0) (hasIpsec spi ipsec)
+  where
+    go : (a b : Bool) → let r = cond a (ipsecAnswer 1 ipsec) (cond b (ipsecAnswer 0 (set ipsec (placeOf ipsecSpi spi ipsec) noIpsec)) (ipsecAnswer 4 ipsec)) in
+        let n = closingNumber a b in (n ≡ r .number) × (set ipsec (cond (eqb n 0) (placeOf ipsecSpi spi ipsec) (length ipsec)) noIpsec ≡ r .ipsec)
+    go true b = (refl, unstored ipsec (length ipsec) noIpsec refl)
+    go false true = (refl, refl)
+    go false false = (refl, unstored ipsec (length ipsec) noIpsec refl)

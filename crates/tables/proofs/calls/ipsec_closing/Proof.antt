@@ -1,0 +1,17 @@
+-- `tables::calls::ipsec_closing` meets its contract.
+-- Assumes nothing.
+use borrow.Author.Needs.{needs}
+use Rattle.tables.specs.Changes.{ipsecClosing}
+use Rattle.tables.proofs.calls.ipsec_closing.Statement.{statement}
+use Rattle.tables.proofs.calls.ipsec_closing.Tie as tie
+
+pub ipsec-closing-spec : {M : Type 1} → statement M
+unfolding ipsecClosing
+ipsec-closing-spec =
+    tie.close
+    (tie.spec
+    (λ c κs. search needs)
+    (λ c κs. search needs)
+    (λ c κs. search needs)
+    (λ c κs. search needs)
+    (λ c. rw (c .place-if .ensures, c .before .no-ipsec .ensures, c .before .before .closing-number .ensures, c .before .before .before .is-bad-list .ensures)))

@@ -1,0 +1,16 @@
+-- `tables::calls::ipsec_opening` meets its contract.
+-- Assumes nothing.
+use borrow.Author.Needs.{needs}
+use Rattle.tables.specs.Changes.{ipsecOpening}
+use Rattle.tables.proofs.calls.ipsec_opening.Statement.{statement}
+use Rattle.tables.proofs.calls.ipsec_opening.Tie as tie
+
+pub ipsec-opening-spec : {M : Type 1} → statement M
+unfolding ipsecOpening
+ipsec-opening-spec =
+    tie.close
+    (tie.spec
+    (λ c κs. search needs)
+    (λ c κs. search needs)
+    (λ c κs. search needs)
+    (λ c. rw (c .place-if .ensures, c .before .before .opening-number .ensures, c .before .before .before .is-bad-opening .ensures)))

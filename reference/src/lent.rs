@@ -1,0 +1,114 @@
+// Tables as they are lent to the library: each list is the middle of a longer one, and the records
+// around it must stay as they are.
+use crate::address::AddressPair;
+use crate::tables::{IkeRecord, IkeTable, IpsecRecord, IpsecTable, Record, Tables};
+use std::rc::Rc;
+
+/// So many records stand on each side of a list.
+const AROUND: usize = 2;
+
+/// Stands in for an SPI that a call doesn't give.
+pub const NO_SPI_GIVEN: u32 = 1;
+
+/// What the records around have, so that any change shows.
+const PAIR: AddressPair = AddressPair {
+    family: 6,
+    source: [0xa5; 16],
+    destination: [0x5a; 16],
+    source_port: 0xa55a,
+    destination_port: 0x5aa5,
+};
+
+/// A list between records that are known.
+struct Lent<R> {
+    all: Vec<R>,
+    /// One that the call would mean, then one that it would take as free.
+    around: [R; AROUND],
+}
+
+impl<R: Record + Copy + PartialEq> Lent<R> {
+    /// The record that the call would mean stands next to the list, on each side.
+    fn new(list: &[R], meant: R) -> Self {
+        let around = [meant, R::FREE];
+        let [next, far] = around;
+        Lent { all: [&[far, next], list, &[next, far]].concat(), around }
+    }
+
+    fn list(&mut self) -> &mut [R] {
+        let end = self.all.len() - AROUND;
+        &mut self.all[AROUND..end]
+    }
+
+    fn is_kept_around(&self) -> bool {
+        let [next, far] = self.around;
+        self.all.starts_with(&[far, next]) && self.all.ends_with(&[next, far])
+    }
+}
+
+/// Both tables, lent for one call.
+pub struct LentTables {
+    ike: Lent<IkeRecord>,
+    ipsec: Lent<IpsecRecord>,
+}
+
+impl LentTables {
+    /// The tables, for a call that gives these SPIs of an IKE and of an IPsec record.
+    pub fn new(tables: &Tables, spi: u64, ipsec_spi: u32) -> Self {
+        let ike = IkeRecord { spi, mobike: 1, pair: PAIR, ..IkeRecord::FREE };
+        let ipsec = IpsecRecord { spi: ipsec_spi, owner: spi, pair: PAIR };
+        LentTables {
+            ike: Lent::new(&tables.ike.records, ike),
+            ipsec: Lent::new(&tables.ipsec.records, ipsec),
+        }
+    }
+
+    pub fn ike(&mut self) -> &mut [IkeRecord] {
+        self.ike.list()
+    }
+
+    pub fn ipsec(&mut self) -> &mut [IpsecRecord] {
+        self.ipsec.list()
+    }
+
+    /// Puts the lists as they are now into the tables; whether the records around them are kept.
+    pub fn give_back(mut self, tables: &mut Tables) -> bool {
+        let records = self.ike().try_into().expect("the table has its places");
+        tables.ike = Rc::new(IkeTable { records });
+        tables.ipsec = Rc::new(IpsecTable { records: self.ipsec().to_vec() });
+        self.ike.is_kept_around() && self.ipsec.is_kept_around()
+    }
+}
+
+#[cfg(test)]
+mod tests {
+    use super::*;
+
+    fn lent() -> (Tables, LentTables) {
+        let tables = Tables::empty();
+        let lent = LentTables::new(&tables, 7, 9);
+        (tables, lent)
+    }
+
+    #[test]
+    fn what_is_changed_in_the_lists_comes_back() {
+        let (mut tables, mut lent) = lent();
+        lent.ike()[31].spi = 1;
+        lent.ipsec()[127].owner = 2;
+        assert!(lent.give_back(&mut tables));
+        assert_eq!((tables.ike.records[31].spi, tables.ipsec.records[127].owner), (1, 2));
+    }
+
+    #[test]
+    fn a_change_around_the_lists_is_noticed() {
+        for place in [0, 1, 34, 35] {
+            let (mut tables, mut lent) = lent();
+            lent.ike.all[place].unknown += 1;
+            assert!(!lent.give_back(&mut tables));
+        }
+        for place in [0, 1, 130, 131] {
+            let (mut tables, mut lent) = lent();
+            lent.ipsec.all[place].pair.destination_port ^= 1;
+            assert!(!lent.give_back(&mut tables));
+        }
+    }
+}
