@@ -6,16 +6,11 @@ use mathlib.Core.Bool.{Bool, true, false, cond, _&&_, not}
 use native.Mathlib.Omega.{arith}
 use native.Mathlib.Decide.{ℕ-discrete}
 use borrow.Author.Tests.{eq-eqb, ne-eqb}
-use lib.Dec.{eqb, leb, ltb}
+use lib.Dec.{eqb, ltb}
 use lib.ListN.{length, getD, replicate, length-append}
 use Rattle.octets.specs.Lists.{sameAt}
 use Rattle.octets.proofs.Small.{both, chosen}
 use Rattle.address.specs.Address.{noPair}
-use Rattle.address.specs.declared.address.Address.{Address}
-use Rattle.address.specs.declared.pair.Pair.{Pair}
-use Rattle.findings.specs.declared.seen.Seen.{Seen}
-use Rattle.findings.specs.declared.values.NoNats.{NoNats}
-use Rattle.policy.specs.Policy.{acceptable}
 use Rattle.policy.specs.declared.rules.Policy.{Policy}
 use Rattle.tables.specs.Calls.{hasIke, listFits}
 use Rattle.tables.specs.declared.ike.IkeRecord.{IkeRecord}
@@ -24,11 +19,10 @@ use Rattle.writing.specs.Notify.{Notification, notification, notifyOctets, firs
 use Rattle.writing.proofs.Placed.{length-notify}
 use Rattle.writing.proofs.Chained.{chained-one}
 use Rattle.reader.specs.Chain.{reading}
-use Rattle.responder.specs.Decide.{marked, moved, unaltered, verdict, hasList, listDecided, updateDecided, decided}
 use Rattle.responder.specs.Respond.{nextFor, cookieNotify, doneResponse}
-use Rattle.responder.specs.Core.{Asked, firstOf, cookieIn, wantsNats, decisionOn, decidedOctets, coreResult, coreResponse}
+use Rattle.responder.specs.Core.{firstOf, cookieIn, wantsNats, decisionOn, decidedOctets, coreResult, coreResponse}
 use Rattle.responder.specs.Handle.{Request as Received, meant, recordNumber, checkedNumber, earlyNumber, handled, handledResponse}
-use Rattle.responder.specs.declared.decide.Decision.{Decision}
+use Rattle.responder.proofs.Refused.{decision-of}
 use Rattle.responder.proofs.Checks.{passed, lent-fit}
 use Rattle.requests.specs.Request.{Request, request, ifAsked, natNotifies, cookieNotifies, requested, requestFits, requestOctets, cookieFits}
 use Rattle.requests.specs.declared.request.Written.{Written}
@@ -51,33 +45,6 @@ early-other fit room octets ike spi =
     (λ e. chosen Other (ltb 4096 octets) (λ e. omega arith)
     (λ e. chosen Other (hasIke spi ike) (λ e. chosen Other (meant ike spi .mobike) (λ e. omega arith) (λ e. omega arith)) (λ e. omega arith))))
     (λ e. omega arith)
-
-abbrev Fine : Decision → Type 0
-Fine d = Other (d .number)
-
-verdict-other : (policy : Policy) (n : NoNats) (p : Pair) → Other (verdict policy n p)
-unfolding verdict
-verdict-other policy n p = chosen Other (unaltered n p) (λ e. chosen Other (acceptable policy p) (λ e. omega arith) (λ e. omega arith)) (λ e. omega arith)
-
-list-fine : (s : Seen) (addresses : List Address) (id update : ℕ) (r : IkeRecord) → Fine (listDecided s addresses id update r)
-unfolding listDecided
-list-fine s addresses id update r =
-    chosen Fine (hasList s) (λ e. chosen Fine (leb (r .«list_mark») id) (λ e. omega arith) (λ e. omega arith)) (λ e. omega arith)
-
-update-fine : (number : ℕ) (s : Seen) (addresses : List Address) (p : Pair) (id : ℕ) (r : IkeRecord) → Other number
-    → Fine (updateDecided number s addresses p id r)
-unfolding updateDecided
-update-fine number s addresses p id r o =
-    chosen Fine (s .update)
-    (λ e. chosen Fine (leb (r .«update_mark») id)
-    (λ e. chosen Fine (eqb number 0) (λ e. list-fine s addresses id 1 (moved p (marked id r))) (λ e. o))
-    (λ e. list-fine s addresses id 2 r))
-    (λ e. list-fine s addresses id 0 r)
-
-module _ (policy : Policy) (q : Asked) (entry : IkeRecord) where
-  decision-fine : Fine (decisionOn policy q entry)
-  unfolding decided
-  decision-fine = update-fine _ _ _ _ _ _ (verdict-other policy _ (q .pair))
 
 -- a chain's first type is 0 exactly if it has no octets
 type-of : (xs : List Notification) → firstOf (length (chained xs 0)) ≡ firstType xs 0
@@ -167,7 +134,7 @@ module _ (q : Request) (z : Sized q) (fits : requestFits q ≡ true) (policy : P
   module _ (entry : IkeRecord) where
     core-fine : Other (coreResult policy (r .asks) entry .reply .number)
     unfolding coreResult
-    core-fine = rw (eq-eqb (reading (r .asks .first) (r .asks .body) .number) 0 (back .number)) (decision-fine policy (r .asks) entry)
+    core-fine = rw (eq-eqb (reading (r .asks .first) (r .asks .body) .number) 0 (back .number)) (decision-of Other (omega arith) (omega arith) (omega arith) policy (r .asks) entry)
 
     module _ (s : length (r .asks .nat-source) ≡ 20) (d : length (r .asks .nat-destination) ≡ 20) where
       core-accepted : coreResult policy (r .asks) entry .reply .number ≡ 0

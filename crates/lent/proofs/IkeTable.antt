@@ -1,17 +1,6 @@
 -- The lent IKE table as the walks have it: its type, its parameter's slot, how a record's machine value is spelled, and a place within the table or past its end.
-use Prim.Native.Nat.{ℕ, _<_, _≤_, _*_, _^_}
-use mathlib.Core.Path.{_≡_}
-use native.Mathlib.Omega.{arith}
-use mathlib.Core.Bool.{not}
-use mathlib.Core.List.{List}
-use lib.Dec.{T, ltb, ltb→lt, nltb→le}
-use lib.ListN.{length}
-use mir.Val.{Val}
-use denote.RattleType.{RattleType}
-use denote.Memory.{mem}
-use denote.Array.{Array}
-use denote.Builtin.{ArrayOf}
-use denote.Signature.{Slot, plain}
+use Rattle.lent.proofs.Kit.{Ty, named, tyInt, tyRef, w64, pointee, ℕ, _<_, _≤_, _*_, _^_, _≡_, arith, not, List, T, ltb, ltb→lt, nltb→le, length, Val, RattleType, mem, Array, ArrayOf, Slot, plain}
+use mir.Syntax.{Mutability}
 use denote.Struct.Laws as LL
 use Rattle.tables.specs.declared.ike.IkeRecord.{IkeRecord}
 use Rattle.tables.proofs.ike.IkeRecord as S
@@ -26,8 +15,18 @@ Q = Array R 32
 abbrev pub table-slot : Slot 1
 table-slot = ArrayOf (plain (λ _. R)) (λ κs. tt) 32
 
+-- a number's local, and the parameter's
+abbrev pub word : Ty
+word = tyInt w64
+
+abbrev pub table : Mutability → Ty
+table m = tyRef (named 0) m (pointee (Q .written))
+
 abbrev pub rec-vals : IkeRecord → List Val
 rec-vals = LL.vals S.the-type S′.the-laws
+
+abbrev pub rec-val : IkeRecord → Val
+rec-val = LL.val S.the-type S′.the-laws
 
 module _ (i : ℕ) where
   pub at-fits : T (ltb i 32) → i * mem R .size < 2 ^ 64

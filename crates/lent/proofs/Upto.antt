@@ -1,15 +1,8 @@
 -- A list whose first i elements have been replaced by f of them: what a loop over a slice has made of it after i turns. And the loop's variant: i, at most the length, ordered by what is left.
 -- Assumes nothing.
-use mathlib.Core.Path.{_≡_, refl, sym, ap, _∙_, subst}
-use mathlib.Core.Bool.{Bool, true, false, not}
-use mathlib.Core.List.{List, [], _∷_, map}
-use mathlib.Core.WellFounded.{WellFounded, InvImage·wf}
-use Prim.Native.Nat.{ℕ, zero, suc, _+_, _-_, _≤_, _<_}
+use Rattle.lent.proofs.Kit.{_≡_, refl, sym, ap, _∙_, subst, Bool, true, false, not, List, [], _∷_, map, WellFounded, InvImage·wf, ℕ, zero, suc, _+_, _-_, _≤_, _<_, add-one-le, Nat·lt-wfRel, T, ltb, ltb→lt, nltb→le, length, set, getD}
 use native.Mathlib.Nat.{not-suc-le-zero, le-of-suc-le-suc, le-antisymm}
-use native.Mathlib.Numerals.{add-one, add-one-le}
-use lib.WfN.{Nat·lt-wfRel}
-use lib.Dec.{T, ltb, ltb→lt, nltb→le}
-use lib.ListN.{length, set, getD}
+use native.Mathlib.Numerals.{add-one}
 
 module _ {X : Type 0} (f : X → X) where
   abbrev pub upto : ℕ → List X → List X

@@ -3,4 +3,5 @@ pub mod Lengths
 pub mod Ways
 pub mod Checks
 pub mod Looked
+pub mod Refused
 pub mod Rows
