@@ -46,7 +46,7 @@ impl Call {
             Call::CloseIke { spi } => close_ike(tables, *spi, faults),
             Call::CloseIpsec { spi } => close_ipsec(tables, *spi, faults),
             Call::SetPolicy { count, rules } => tables.policy.set(*count, rules, faults),
-            Call::Acceptable { pair } => return u8::from(tables.policy.accepts(pair, faults)),
+            Call::Acceptable { pair } => return u8::from(tables.policy.asked(pair, faults)),
         };
         result.map_or_else(|refusal| refusal as u8, |()| 0)
     }

@@ -32,6 +32,14 @@ pub enum Fault {
     CookieEndWraps,
     CookieToEnd,
     CookieAlike,
+    CriticalNextType,
+    MalformedTypeTold,
+    ListPastCount,
+    ListOver16Empty,
+    AddressCut,
+    AddressAtEnd,
+    OtherFamilyRead,
+    PastEndNoFamily,
 
     SourceTailOnly,
     Spi32Bits,
@@ -72,6 +80,10 @@ pub enum Fault {
     ListAfterRecord,
     OtherListOpened,
     OtherListClosed,
+    RefusedEmpties,
+    RefusedHalfSet,
+    OldRulesStay,
+    AskedCountCut,
 
     MarkWhenApplied,
     OneMark,
@@ -122,6 +134,7 @@ pub enum Fault {
     OtherListServed,
     RefusedCookieTold,
     FlawedCookieHandedOut,
+    ServedCountCut,
 
     AnySequence,
     DoneIsSound,
@@ -210,7 +223,7 @@ pub enum Fault {
     PlainNeedsUpdate,
 }
 
-const OF_READER: [(Fault, &str); 28] = [
+const OF_READER: [(Fault, &str); 36] = [
     (Fault::LastFlaw, "last-flaw"),
     (Fault::CriticalSkipped, "critical-skipped"),
     (Fault::CriticalKnown, "critical-known"),
@@ -239,9 +252,17 @@ const OF_READER: [(Fault, &str); 28] = [
     (Fault::CookieEndWraps, "cookie-end-wraps"),
     (Fault::CookieToEnd, "cookie-to-end"),
     (Fault::CookieAlike, "cookie-alike"),
+    (Fault::CriticalNextType, "critical-next-type"),
+    (Fault::MalformedTypeTold, "malformed-type-told"),
+    (Fault::ListPastCount, "list-past-count"),
+    (Fault::ListOver16Empty, "list-over-16-empty"),
+    (Fault::AddressCut, "address-cut"),
+    (Fault::AddressAtEnd, "address-at-end"),
+    (Fault::OtherFamilyRead, "other-family-read"),
+    (Fault::PastEndNoFamily, "past-end-no-family"),
 ];
 
-const OF_TABLES: [(Fault, &str); 39] = [
+const OF_TABLES: [(Fault, &str); 43] = [
     (Fault::SourceTailOnly, "source-tail-only"),
     (Fault::Spi32Bits, "spi-32-bits"),
     (Fault::HighestTwin, "highest-twin"),
@@ -281,9 +302,13 @@ const OF_TABLES: [(Fault, &str); 39] = [
     (Fault::ListAfterRecord, "list-after-record"),
     (Fault::OtherListOpened, "other-list-opened"),
     (Fault::OtherListClosed, "other-list-closed"),
+    (Fault::RefusedEmpties, "refused-empties"),
+    (Fault::RefusedHalfSet, "refused-half-set"),
+    (Fault::OldRulesStay, "old-rules-stay"),
+    (Fault::AskedCountCut, "asked-count-cut"),
 ];
 
-const OF_REQUESTS: [(Fault, &str); 49] = [
+const OF_REQUESTS: [(Fault, &str); 50] = [
     (Fault::MarkWhenApplied, "mark-when-applied"),
     (Fault::OneMark, "one-mark"),
     (Fault::ListAppended, "list-appended"),
@@ -333,6 +358,7 @@ const OF_REQUESTS: [(Fault, &str); 49] = [
     (Fault::OtherListServed, "other-list-served"),
     (Fault::RefusedCookieTold, "refused-cookie-told"),
     (Fault::FlawedCookieHandedOut, "flawed-cookie-handed-out"),
+    (Fault::ServedCountCut, "served-count-cut"),
 ];
 
 const OF_ORDERS: [(Fault, &str); 8] = [

@@ -1,6 +1,8 @@
-// Tables as they are lent to the library: each list is the middle of a longer one, and the records
-// around it must stay as they are.
+// Tables as they are lent to the library: each list is the middle of a longer one, the policy stands
+// between rules, and what is around them must stay as it is.
 use crate::address::AddressPair;
+use crate::lent_rules::BetweenRules;
+use crate::policy::Policy;
 use crate::tables::{IkeRecord, IkeTable, IpsecRecord, IpsecTable, Record, Tables};
 use std::rc::Rc;
 
@@ -45,10 +47,11 @@ impl<R: Record + Copy + PartialEq> Lent<R> {
     }
 }
 
-/// Both tables, lent for one call.
+/// Both tables and the policy, lent for one call.
 pub struct LentTables {
     ike: Lent<IkeRecord>,
     ipsec: Lent<IpsecRecord>,
+    policy: BetweenRules<Policy>,
 }
 
 impl LentTables {
@@ -59,6 +62,7 @@ impl LentTables {
         LentTables {
             ike: Lent::new(&tables.ike.records, ike),
             ipsec: Lent::new(&tables.ipsec.records, ipsec),
+            policy: BetweenRules::new(tables.policy),
         }
     }
 
@@ -70,12 +74,19 @@ impl LentTables {
         self.ipsec.list()
     }
 
-    /// Puts the lists as they are now into the tables; whether the records around them are kept.
+    pub fn policy(&mut self) -> *mut Policy {
+        self.policy.start()
+    }
+
+    /// Puts all as it is now into the tables, what was lent for reading too, so that a change of it
+    /// is compared; whether what is around is kept.
     pub fn give_back(mut self, tables: &mut Tables) -> bool {
         let records = self.ike().try_into().expect("the table has its places");
         tables.ike = Rc::new(IkeTable { records });
         tables.ipsec = Rc::new(IpsecTable { records: self.ipsec().to_vec() });
-        self.ike.is_kept_around() && self.ipsec.is_kept_around()
+        tables.policy = self.policy.lent();
+        let kept_records = self.ike.is_kept_around() && self.ipsec.is_kept_around();
+        kept_records && self.policy.is_kept_around()
     }
 }
 
@@ -94,8 +105,10 @@ mod tests {
         let (mut tables, mut lent) = lent();
         lent.ike()[31].spi = 1;
         lent.ipsec()[127].owner = 2;
+        lent.policy = BetweenRules::new(Policy { count: 3, ..Policy::EMPTY });
         assert!(lent.give_back(&mut tables));
         assert_eq!((tables.ike.records[31].spi, tables.ipsec.records[127].owner), (1, 2));
+        assert_eq!(tables.policy.count, 3);
     }
 
     #[test]

@@ -2,6 +2,7 @@
 use crate::address::{Address, AddressPair};
 use crate::cookie::{hand_out, handed_out, HandedOut};
 use crate::faults::Faults;
+use crate::given_list::{give, given_lists, GivenList, SeenList};
 use crate::reader::Reading;
 use crate::show;
 use crate::summary::{Part, MAX_KEPT};
@@ -19,6 +20,8 @@ pub struct Place<'a> {
 pub struct Outcome<'a> {
     pub number: u8,
     pub offset: usize,
+    /// The type of the payload that 7 is about, else 0.
+    pub critical_type: u8,
     pub payloads: usize,
     pub unknown_payloads: usize,
     pub unknown_notifies: usize,
@@ -38,6 +41,8 @@ pub struct Outcome<'a> {
     pub address_offsets: [usize; MAX_KEPT],
     pub address_families: [u8; MAX_KEPT],
     pub address_list: [Address; MAX_KEPT],
+    /// The lists that are given for hostile changes of what was told.
+    pub given_lists: Vec<GivenList>,
 }
 
 impl<'a> Outcome<'a> {
@@ -48,6 +53,7 @@ impl<'a> Outcome<'a> {
         let mut outcome = Outcome {
             number: reading.answer.number(),
             offset: reading.answer.offset(),
+            critical_type: reading.critical_type,
             payloads: summary.payloads,
             unknown_payloads: summary.unknown_payloads,
             unknown_notifies: summary.unknown_notifies,
@@ -69,7 +75,18 @@ impl<'a> Outcome<'a> {
             outcome.address_families[place] = kept.address.family;
             outcome.address_list[place] = kept.address;
         }
+        let told = outcome.told_list();
+        outcome.given_lists = given_lists(body, told, |seen| give(body, seen, faults));
         outcome
+    }
+
+    /// The additional addresses in the numbers in which they are told.
+    fn told_list(&self) -> SeenList {
+        SeenList {
+            count: self.addresses as u16,
+            places: self.address_offsets.map(|offset| offset as u16),
+            families: self.address_families,
+        }
     }
 
     /// Every field by name, to be shown.
@@ -77,6 +94,7 @@ impl<'a> Outcome<'a> {
         let numbers = [
             ("number", usize::from(self.number)),
             ("offset", self.offset),
+            ("critical type", usize::from(self.critical_type)),
             ("payloads", self.payloads),
             ("unknown payloads", self.unknown_payloads),
             ("unknown notifies", self.unknown_notifies),
@@ -106,6 +124,7 @@ impl<'a> Outcome<'a> {
             fields
                 .push((format!("address list {place}"), show::address(&self.address_list[place])));
         }
+        fields.extend(self.given_lists.iter().map(GivenList::field));
         fields
     }
 }

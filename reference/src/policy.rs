@@ -106,8 +106,29 @@ impl Policy {
         })
     }
 
+    /// The same of a policy that is lent to be asked, which only a fault changes.
+    pub fn asked(&mut self, pair: &AddressPair, faults: Faults) -> bool {
+        if faults.on(Fault::AskedCountCut) {
+            self.cut_count();
+        }
+        self.accepts(pair, faults)
+    }
+
+    /// Writes a count over 16 as it reads, which only faults do.
+    pub fn cut_count(&mut self) {
+        self.count = self.count.min(RULE_PLACES as u16);
+    }
+
     /// Replaces the whole list, unless it is refused.
     pub fn set(&mut self, count: u16, list: &RuleList, faults: Faults) -> Result<(), Refusal> {
+        let replaced = self.replace(count, list, faults);
+        if replaced.is_err() {
+            self.leave_refused(count, list, faults);
+        }
+        replaced
+    }
+
+    fn replace(&mut self, count: u16, list: &RuleList, faults: Faults) -> Result<(), Refusal> {
         if faults.on(Fault::CountLast) {
             check_rules(&list.rules[..usize::from(count).min(RULE_PLACES)], faults)?;
         }
@@ -117,12 +138,30 @@ impl Policy {
         if faults.on(Fault::JunkKept) {
             kept.rules = list.rules;
         }
+        if faults.on(Fault::OldRulesStay) {
+            kept.rules = self.rules;
+        }
         kept.rules[..given.len()].copy_from_slice(given);
         if faults.on(Fault::PrefixMasked) {
             kept.rules.iter_mut().for_each(mask);
         }
         *self = kept;
         Ok(())
+    }
+
+    /// What a refused setting leaves: all as it was, but for faults.
+    fn leave_refused(&mut self, count: u16, list: &RuleList, faults: Faults) {
+        if faults.on(Fault::RefusedEmpties) {
+            *self = Policy::EMPTY;
+        }
+        if faults.on(Fault::RefusedHalfSet) {
+            let given = list.rules.iter().take(usize::from(count));
+            let allowed =
+                given.take_while(|rule| rule.is_sound(faults) && rule.has_allowed_lengths());
+            for (rule, new) in self.rules.iter_mut().zip(allowed) {
+                *rule = *new;
+            }
+        }
     }
 }
 
@@ -181,13 +220,14 @@ mod tests {
 
     #[test]
     fn setting_checks_the_count_then_1_then_the_lengths() {
-        let mut set = Policy::EMPTY;
+        let before = Policy { count: 17, rules: [TOO_LONG; RULE_PLACES] };
+        let mut set = before;
         let mut setting = |count, first: &[Rule]| set.set(count, &list(first), Faults::NONE);
         assert_eq!(setting(17, &[ALL_IPV4; 16]), Err(Refusal::Policy));
         assert_eq!(setting(17, &[UNSOUND]), Err(Refusal::Policy));
         assert_eq!(setting(2, &[TOO_LONG, UNSOUND]), Err(Refusal::Argument));
         assert_eq!(setting(2, &[ALL_IPV4, TOO_LONG]), Err(Refusal::Policy));
-        assert_eq!(set, Policy::EMPTY);
+        assert_eq!(set, before);
     }
 
     #[test]

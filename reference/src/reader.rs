@@ -1,6 +1,7 @@
 // The payload reader: the answer to a first payload type and a body, with what the chain says.
 use crate::chain;
 use crate::cookie;
+use crate::critical;
 use crate::faults::{Fault, Faults};
 use crate::flaws::{self, Flaw};
 use crate::summary::{summarise, Summary};
@@ -34,13 +35,15 @@ impl Answer {
 #[derive(Debug)]
 pub struct Reading<'a> {
     pub answer: Answer,
+    /// The type of the payload that 7 is about, else 0.
+    pub critical_type: u8,
     /// Empty unless the chain was read.
     pub summary: Summary<'a>,
 }
 
 impl Reading<'_> {
     fn refused(answer: Answer) -> Self {
-        Reading { answer, summary: Summary::default() }
+        Reading { answer, critical_type: 0, summary: Summary::default() }
     }
 }
 
@@ -53,12 +56,13 @@ pub fn read(first: u8, body: &[u8], faults: Faults) -> Reading<'_> {
     match flaws::told(&chain, faults) {
         Some(flaw) => {
             let mut reading = Reading::refused(Answer::Flawed(flaw));
+            reading.critical_type = critical::told_type(flaw, &chain, faults);
             if faults.on(Fault::FlawedCookieTold) {
                 reading.summary.cookie = cookie::of_refused(first, body, faults);
             }
             reading
         }
-        None => Reading { answer: Answer::Read, summary: summarise(&chain, faults) },
+        None => Reading { summary: summarise(&chain, faults), ..Reading::refused(Answer::Read) },
     }
 }
 
@@ -123,6 +127,15 @@ mod tests {
     #[test]
     fn row_g_unknown_critical() {
         assert_eq!(answer(200, &[0, 0x80, 0, 4]), (7, 0));
+    }
+
+    #[test]
+    fn only_7_tells_a_type() {
+        let told = |first, body| read(first, body, Faults::NONE).critical_type;
+        assert_eq!(told(33, &[199, 0, 0, 4, 41, 0x80, 0, 4]), 199);
+        assert_eq!(told(199, &[0, 0x80, 0, 5]), 0);
+        assert_eq!(told(199, &[0, 0, 0, 4]), 0);
+        assert_eq!(told(199, &[0; 4097]), 0);
     }
 
     #[test]

@@ -86,6 +86,9 @@ pub fn update(
     tables: &mut Tables,
     faults: Faults,
 ) -> Result<Effect, Unfit> {
+    if faults.on(Fault::ServedCountCut) {
+        tables.policy.cut_count();
+    }
     let fit = is_fit(request, passed, tables, faults);
     if !passed.summary.update {
         let altered = fit == Err(Unfit::Altered) && faults.on(Fault::NoNatsAlone);

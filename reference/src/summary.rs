@@ -107,7 +107,8 @@ impl<'a> Summary<'a> {
     }
 }
 
-fn padded(address: &[u8]) -> AddressOctets {
+/// At most sixteen octets as they are held, with zeros after.
+pub fn padded(address: &[u8]) -> AddressOctets {
     let mut octets = [0; 16];
     octets[..address.len()].copy_from_slice(address);
     octets

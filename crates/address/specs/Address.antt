@@ -4,7 +4,7 @@ use mathlib.Core.List.{List, map, zipWith}
 use mathlib.Core.Bool.{Bool, cond, _&&_, not}
 use lib.Dec.{eqb}
 use lib.ListN.{drop, replicate}
-use Rattle.octets.specs.Lists.{all}
+use Rattle.octets.specs.Lists.{all, firstOnly}
 use Rattle.address.specs.declared.address.Address.{Address}
 use Rattle.address.specs.declared.pair.Pair.{Pair}
 
@@ -15,9 +15,14 @@ widthOf family = cond (eqb family 4) 4 (cond (eqb family 6) 16 0)
 abbrev pub addressOf : ℕ → List ℕ → Address
 addressOf family octets = record { family = family; octets = octets }
 
--- 01: "an additional address is family and octets".
-abbrev pub addressesOf : List ℕ → List (List ℕ) → List Address
-addressesOf families octets = zipWith addressOf families octets
+-- a place of a list that holds no address
+abbrev pub noAddress : Address
+noAddress = addressOf 0 (replicate 16 0)
+
+-- 01: "an additional address is family and octets". The first n: "Places past a list's count ... aren't looked at; in a list newly
+-- kept or given they are 0."
+abbrev pub addressesOf : ℕ → List ℕ → List (List ℕ) → List Address
+addressesOf n families octets = firstOnly noAddress n (zipWith addressOf families octets)
 
 abbrev pub familiesOf : List Address → List ℕ
 familiesOf addresses = map (λ (a : Address). a .family) addresses
@@ -38,6 +43,3 @@ pairFits p = addressFits (p .family) (p .source) && addressFits (p .family) (p .
 -- a place that is closed or was never used
 abbrev pub noPair : Pair
 noPair = record { family = 0; source = replicate 16 0; destination = replicate 16 0; «source_port» = 0; «destination_port» = 0 }
-
-abbrev pub noAddress : Address
-noAddress = addressOf 0 (replicate 16 0)

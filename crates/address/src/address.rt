@@ -24,9 +24,10 @@ pub fn width_of(family: u8) -> u16
     0
 }
 
-// The list as it is stored: each address with its family.
-pub fn addresses_of(families: [u8; 16], octets: [[u8; 16]; 16]) -> [Address; 16]
-    ensures { λ r. ⌜ r ≡ addressesOf families octets ⌝ }
+// The list as it is stored: each of the first n addresses with its family, and nothing in the places after them.
+pub fn addresses_of(families: [u8; 16], octets: [[u8; 16]; 16], n: usize) -> [Address; 16]
+    requires { ⌜ n ≤ 16 ⌝ }
+    ensures { λ r. ⌜ r ≡ addressesOf n families octets ⌝ }
 {
     let none = Address {
         family: 0,
@@ -34,7 +35,7 @@ pub fn addresses_of(families: [u8; 16], octets: [[u8; 16]; 16]) -> [Address; 16]
     };
     let mut out = [none; 16];
     let mut i = 0;
-    while i < 16 {
+    while i < n {
         let o = octets[i];
         out[i] = Address {
             family: families[i],

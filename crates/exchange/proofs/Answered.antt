@@ -13,14 +13,16 @@ use Rattle.octets.proofs.Small.{both, chosen}
 use Rattle.address.specs.Address.{noPair}
 use Rattle.policy.specs.declared.rules.Policy.{Policy}
 use Rattle.tables.specs.Calls.{hasIke, listFits}
+use Rattle.tables.specs.Records.{marksIn}
 use Rattle.tables.specs.declared.ike.IkeRecord.{IkeRecord}
+use Rattle.tables.specs.declared.ike.Marks.{Marks}
 use Rattle.tables.specs.declared.ipsec.IpsecRecord.{IpsecRecord}
 use Rattle.writing.specs.Notify.{Notification, notification, notifyOctets, firstType, chained}
 use Rattle.writing.proofs.Placed.{length-notify}
 use Rattle.writing.proofs.Chained.{chained-one}
 use Rattle.reader.specs.Chain.{reading}
 use Rattle.responder.specs.Respond.{nextFor, cookieNotify, doneResponse}
-use Rattle.responder.specs.Core.{firstOf, cookieIn, wantsNats, decisionOn, decidedOctets, coreResult, coreResponse}
+use Rattle.responder.specs.Core.{firstOf, cookieIn, wantsNats, decisionOn, decidedOctets, coreAnswer, coreResponse}
 use Rattle.responder.specs.Handle.{Request as Received, meant, recordNumber, checkedNumber, earlyNumber, handled, handledResponse}
 use Rattle.responder.proofs.Refused.{decision-of}
 use Rattle.responder.proofs.Checks.{passed, lent-fit}
@@ -131,15 +133,15 @@ module _ (q : Request) (z : Sized q) (fits : requestFits q ≡ true) (policy : P
   back : GivenBack q (r .asks .first) (r .asks .body)
   back = rw (first, body) (given-back q z fits)
 
-  module _ (entry : IkeRecord) where
-    core-fine : Other (coreResult policy (r .asks) entry .reply .number)
-    unfolding coreResult
-    core-fine = rw (eq-eqb (reading (r .asks .first) (r .asks .body) .number) 0 (back .number)) (decision-of Other (omega arith) (omega arith) (omega arith) policy (r .asks) entry)
+  module _ (m : Marks) where
+    core-fine : Other (coreAnswer policy (r .asks) m .reply .number)
+    unfolding coreAnswer
+    core-fine = rw (eq-eqb (reading (r .asks .first) (r .asks .body) .number) 0 (back .number)) (decision-of Other (omega arith) (omega arith) (omega arith) policy (r .asks) m)
 
     module _ (s : length (r .asks .nat-source) ≡ 20) (d : length (r .asks .nat-destination) ≡ 20) where
-      core-accepted : coreResult policy (r .asks) entry .reply .number ≡ 0
-          → Accepted (assessment (q .cookie) (coreResult policy (r .asks) entry .reply .first) (coreResponse policy (r .asks) entry))
-      unfolding coreResult coreResponse decidedOctets
+      core-accepted : coreAnswer policy (r .asks) m .reply .number ≡ 0
+          → Accepted (assessment (q .cookie) (coreAnswer policy (r .asks) m .reply .first) (coreResponse policy (r .asks) m))
+      unfolding coreAnswer coreResponse decidedOctets
       core-accepted e =
           let read = eq-eqb (reading (r .asks .first) (r .asks .body) .number) 0 (back .number) in
           let seen = reading (r .asks .first) (r .asks .body) .seen in
@@ -148,8 +150,8 @@ module _ (q : Request) (z : Sized q) (fits : requestFits q ≡ true) (policy : P
           let k : cookieIn (r .asks .body) seen ≡ q .cookie = ap (λ (x : Request). x .cookie) (back .values) in
           let cf = fitting q fits .cookie in
           let g = given-back p (reply-sized w _ _ _) (reply-fits w _ _ _ (λ e. (s, d)) cf) in
-          let done : decisionOn policy (r .asks) entry .number ≡ 0 = rw read at e in
-          rw (read, eq-eqb (decisionOn policy (r .asks) entry .number) 0 done, k, reply-octets w (r .asks .nat-source) (r .asks .nat-destination) (q .cookie), type-of (requested p))
+          let done : decisionOn policy (r .asks) m .number ≡ 0 = rw read at e in
+          rw (read, eq-eqb (decisionOn policy (r .asks) m .number) 0 done, k, reply-octets w (r .asks .nat-source) (r .asks .nat-destination) (q .cookie), type-of (requested p))
           (taken (q .cookie) (firstType (requested p) 0) (length (requested p)) (requestOctets p) cf (g .number) (g .tally) (ap (λ (x : Request). x .cookie) (g .values)))
 
   module _ (ike : List IkeRecord) (ipsec : List IpsecRecord) where
@@ -162,11 +164,11 @@ module _ (q : Request) (z : Sized q) (fits : requestFits q ≡ true) (policy : P
       where
         go : Dec (early ≡ 0) → Understood q (handled policy ike ipsec r .reply) (handledResponse policy ike ipsec r)
         go (yes e) =
-            let o = core-fine (meant ike (r .spi)) in
+            let o = core-fine (marksIn (meant ike (r .spi))) in
             let f = passed _ _ _ _ e .fits in
             let l = lent-fit (r .spi) (r .asks .pair) (r .asks .nat-source) (r .asks .nat-destination) (both (listFits ipsec) _ f .1) in
             rw (eq-eqb early 0 e)
-            (record { not-malformed = o .0; not-critical = o .1; accepted = core-accepted (meant ike (r .spi)) (l .0) (l .1) })
+            (record { not-malformed = o .0; not-critical = o .1; accepted = core-accepted (marksIn (meant ike (r .spi))) (l .0) (l .1) })
         go (no n) =
             let o = early-other _ (r .room) (length (r .asks .body)) ike (r .spi) in
             rw (ne-eqb early 0 n) (record { not-malformed = o .0; not-critical = o .1; accepted = λ e. absurd (n e) })

@@ -1,7 +1,7 @@
 -- The first round trip: reading a written request gives back what was asked for.
 use Prim.Native.Nat.{ℕ, _≤_}
 use mathlib.Core.Path.{_≡_, refl, _∙_}
-use mathlib.Core.List.{List, [], zipWith}
+use mathlib.Core.List.{List, []}
 use mathlib.Core.Bool.{Bool, true, false, cond}
 use native.Mathlib.Nat.{zero-add}
 use native.Mathlib.Omega.{arith}
@@ -30,7 +30,6 @@ module _ (q : Request) (z : Sized q) (fits : requestFits q ≡ true) where
 
   -- before anything is seen nothing was asked for
   start : givenBy Body nothingSeen ≡ upTo q false false false false false 0 []
-  unfolding zipWith
   start = rw (part-none Body)
 
   pub given-back : GivenBack q (firstType (requested q) 0) Body
@@ -38,7 +37,7 @@ module _ (q : Request) (z : Sized q) (fits : requestFits q ≡ true) where
   given-back =
       let leads = request-leads q z fits in
       let clear : Clear (givenBy Body nothingSeen) (requested q) = rw start (leads .clear) in
-      let found = scan-gives Body (requested q) [] refl (leads .fits) nothingSeen 0 clear refl (λ e. refl) in
+      let found = scan-gives Body (requested q) [] refl (leads .fits) nothingSeen 0 clear refl (λ e. refl) (refl, refl) in
       let read : reading (firstType (requested q) 0) Body ≡ answer Whole (scanned nothingSeen (notifyChain 0 (requested q)) .seen) =
       rw (le-ltb 4096 (length Body) (omega (arith, request-length q z fits)), chain-of (requested q) (leads .fits) [], found .whole) in
       record {

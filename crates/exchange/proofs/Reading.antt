@@ -6,14 +6,17 @@ use mathlib.Core.Bool.{true, false, false≢true}
 use native.Mathlib.Omega.{arith}
 use borrow.Author.Tests.{eqb-true, eq-eqb, ne-eqb, le-leb, leb-true, not-false}
 use lib.Dec.{eqb}
-use lib.ListN.{length, set, length-append}
+use lib.ListN.{length, set, replicate, length-append, length-set}
 use lib.Seq.{drop-append-add, take-append-seam}
-use Rattle.octets.proofs.Small.{both}
+use Rattle.octets.proofs.Pad.{put-last}
+use Rattle.octets.proofs.Small.{both, chosen}
+use Rattle.octets.proofs.Zip.{length-zip}
 use Rattle.payload.specs.Notify.{kindOf, dataFits}
 use Rattle.payload.specs.declared.notify.NotifyKind.{NotifyKind}
 use Rattle.payload.specs.declared.notify.NotifyKind.the-variants.{NatDetectionSource, NatDetectionDestination, MobikeSupported, AdditionalIp4, AdditionalIp6, NoAdditionalAddresses, UpdateSaAddresses, Cookie2, NoNatsAllowed, Unknown}
-use Rattle.findings.specs.Seen.{noted, contentNoted, repeats, counted, withTally}
-use Rattle.findings.specs.Values.{partOf, addressAt}
+use Rattle.findings.specs.Seen.{is, listed, noted, contentNoted, repeats, counted, withTally}
+use Rattle.findings.specs.Values.{partOf, addressAt, additionalOf}
+use Rattle.findings.specs.declared.seen.Places.{Places}
 use Rattle.findings.specs.declared.seen.Seen.{Seen}
 use Rattle.findings.specs.declared.seen.Tally.{Tally}
 use Rattle.writing.specs.Notify.{Notification, notifyOctets, firstType, chained}
@@ -49,15 +52,35 @@ zip-set f (a ∷ xs) [] (suc i) x y = refl
 zip-set f (a ∷ xs) (b ∷ ys) zero x y = refl
 zip-set f (a ∷ xs) (b ∷ ys) (suc i) x y = ap (λ l. f a b ∷ l) (zip-set f xs ys i x y)
 
+-- a list of sixteen places and families
+abbrev pub Sixteen : Places → Type 0
+Sixteen l = (length (l .places) ≡ 16) × (length (l .families) ≡ 16)
+
+pub noted-sixteen : (s : Seen) (k : NotifyKind) (number place len : ℕ) → Sixteen (s .list) → Sixteen (noted s k number place len .list)
+unfolding noted
+noted-sixteen s k number place len h =
+    chosen Sixteen (is k AdditionalIp4) (λ e. more 4) (λ e. chosen Sixteen (is k AdditionalIp6) (λ e. more 6) (λ e. h))
+  where
+    more : (family : ℕ) → Sixteen (listed (s .list) family place)
+    more family = (length-set (s .list .places) (s .list .count) place ∙ h .0, length-set (s .list .families) (s .list .count) family ∙ h .1)
+
 -- where no cookie is handed out none was seen
 abbrev NoneSeen : List ℕ → Seen → Type 0
 NoneSeen body s = length (givenBy body s .cookie) ≡ 0 → s .cookie ≡ 0
 
 -- A notification noted: its data stands at `place`, and what it asks for was not asked for before.
 module _ (body : List ℕ) (s : Seen) (t : Tally) (number place : ℕ) (octets : List ℕ) (later : place ≡ 0 → ⊥)
-    (there : partOf body place (length octets) ≡ octets) (cookies : NoneSeen body s) where
+    (there : partOf body place (length octets) ≡ octets) (cookies : NoneSeen body s) (sized : Sixteen (s .list)) where
   part : (n : ℕ) → eqb (length octets) n ≡ true → partOf body place n ≡ octets
   part n e = rw (eqb-true (length octets) n e) at there
+
+  -- one address more, behind those counted so far, whatever stood there
+  listed-more : (family : ℕ) → additionalOf body (listed (s .list) family place) ≡ set (additionalOf body (s .list)) (s .list .count) (addressAt body place family)
+  listed-more family =
+      let l = s .list in
+      let at = addressAt body in
+      let long = length-zip at (l .places) (l .families) (sized .0 ∙ sym (sized .1)) ∙ sized .0 in
+      rw (zip-set at) (sym (put-last (replicate 16 0) (zipWith at (l .places) (l .families)) 16 (l .count) long (at place family)))
 
   abbrev Noted : NotifyKind → Seen → Type 0
   Noted k next =
@@ -70,8 +93,8 @@ module _ (body : List ℕ) (s : Seen) (t : Tally) (number place : ℕ) (octets :
       (refl, refl, rw (not-false (eqb (s .«nat_source») 0) c, ne-eqb place 0 later, part 20 f), cookies)
   one-noted NatDetectionDestination f c = (c, refl, rw (ne-eqb place 0 later, part 20 f), cookies)
   one-noted MobikeSupported f c = (refl, refl, refl, cookies)
-  one-noted AdditionalIp4 f c = (c, refl, rw (zip-set (addressAt body), part 4 f), cookies)
-  one-noted AdditionalIp6 f c = (c, refl, rw (zip-set (addressAt body), part 16 f), cookies)
+  one-noted AdditionalIp4 f c = (c, refl, rw (listed-more 4, part 4 f), cookies)
+  one-noted AdditionalIp6 f c = (c, refl, rw (listed-more 6, part 16 f), cookies)
   one-noted NoAdditionalAddresses f c = (c, refl, refl, cookies)
   one-noted UpdateSaAddresses f c = (c, refl, refl, cookies)
   one-noted Cookie2 f c = (
@@ -92,19 +115,19 @@ pub record Scanned (body : List ℕ) (found : Scan) (r : Request) (n : ℕ) : Ty
 module _ (body : List ℕ) where
   -- a whole chain, behind `front`: by induction, one notification noted at each step
   pub scan-gives : (xs : List Notification) (front : List ℕ) → body ≡ front ++ chained xs 0 → AllFit xs
-      → (s : Seen) (n : ℕ) → Clear (givenBy body s) xs → s .tally ≡ allKnown n → NoneSeen body s
+      → (s : Seen) (n : ℕ) → Clear (givenBy body s) xs → s .tally ≡ allKnown n → NoneSeen body s → Sixteen (s .list)
       → Scanned body (scanned s (notifyChain (length front) xs)) (gatherAll (givenBy body s) xs) (n + length xs)
   unfolding chained scanned contentNoted
-  scan-gives [] front e fits s n clear known cookies =
+  scan-gives [] front e fits s n clear known cookies sized =
       record { whole = refl; values = refl; tally = known ∙ ap allKnown (omega arith) }
-  scan-gives (x ∷ xs) front e fits s n clear known cookies =
+  scan-gives (x ∷ xs) front e fits s n clear known cookies sized =
       let first = notifyOctets (firstType xs 0) (x .number) (x .octets) in
       let more : length front + (8 + length (x .octets)) ≡ length (front ++ first) = simp (length-append, length-notify) in
       let place = length front + 8 in
       let k = kindOf (x .number) in
       let there : partOf body place (length (x .octets)) ≡ x .octets = rw e (part-at front (firstType xs 0) (x .number) (x .octets) (chained xs 0)) in
-      let step = one-noted body s (counted (s .tally) 0) (x .number) place (x .octets) (omega arith) there cookies k (fits .0) (clear .0) in
+      let step = one-noted body s (counted (s .tally) 0) (x .number) place (x .octets) (omega arith) there cookies sized k (fits .0) (clear .0) in
       let count : n + suc (length xs) ≡ n + 1 + length xs = omega arith in
       rw (step .0, more, ← step .2, count)
       (scan-gives xs (front ++ first) (e ∙ sym (append-assoc front first (chained xs 0))) (fits .1)
-      _ (n + 1) (rw (step .2) (clear .1)) (rw (step .1, known)) (step .3))
+      _ (n + 1) (rw (step .2) (clear .1)) (rw (step .1, known)) (step .3) (noted-sixteen _ k (x .number) place (length (x .octets)) sized))

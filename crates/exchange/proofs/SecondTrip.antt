@@ -1,19 +1,17 @@
 -- The second round trip: a chain is plainly read exactly if writing what it gave writes it again.
-use Prim.Native.Nat.{ℕ}
+use Prim.Native.Nat.{ℕ, min}
 use mathlib.Core.Path.{_≡_, refl, sym, ap, ap₂, _∙_}
-use mathlib.Core.List.{List, []}
+use mathlib.Core.List.{List, [], zipWith}
 use mathlib.Core.Bool.{true}
 use native.Mathlib.Omega.{arith}
-use lib.ListN.{length, getD, length-set}
+use lib.ListN.{length, getD, replicate}
+use Rattle.octets.proofs.Pad.{length-copied, copied-at}
 use Rattle.octets.proofs.Zip.{length-zip, getD-zip}
-use Rattle.octets.proofs.Small.{chosen}
 use Rattle.address.specs.Address.{widthOf}
-use Rattle.payload.specs.declared.notify.NotifyKind.the-variants.{AdditionalIp4, AdditionalIp6}
 use Rattle.payload.specs.declared.payload.Content.{Content}
 use Rattle.payload.specs.declared.payload.Content.the-variants.{Skipped, Unknown as UnknownPayload, Notify}
-use Rattle.findings.specs.Seen.{is, listed, noted, contentNoted}
+use Rattle.findings.specs.Seen.{contentNoted}
 use Rattle.findings.specs.Values.{partOf, addressAt}
-use Rattle.findings.specs.declared.seen.Places.{Places}
 use Rattle.findings.specs.declared.seen.Seen.{Seen}
 use Rattle.writing.specs.Notify.{firstType}
 use Rattle.reader.specs.Chain.{reading}
@@ -24,25 +22,18 @@ use Rattle.requests.specs.declared.request.Written.{Written}
 use Rattle.exchange.specs.Plain.{plainlyRead}
 use Rattle.exchange.specs.RoundTrips.{given, Sized, Octets, WrittenAgain, WritingRead}
 use Rattle.exchange.proofs.Payloads.{chain-of}
+use Rattle.exchange.proofs.Reading.{Sixteen, noted-sixteen}
 use Rattle.exchange.proofs.Staged.{request-fits}
 use Rattle.exchange.proofs.FirstTrip.{given-back, fits-written, number-zero}
 use Rattle.exchange.proofs.Data.{length-padded, pair-sized}
 use Rattle.exchange.proofs.Plainly.{plain-request}
 use Rattle.exchange.proofs.Ordered.{plain-again}
 
--- a list of sixteen places and families
-abbrev Sixteen : Places → Type 0
-Sixteen l = (length (l .places) ≡ 16) × (length (l .families) ≡ 16)
-
 content-sixteen : (s : Seen) (content : Content) (place : ℕ) → Sixteen (s .list) → DataFits content → Sixteen (contentNoted s content place .list)
-unfolding contentNoted noted
+unfolding contentNoted
 content-sixteen s Skipped place h f = h
 content-sixteen s UnknownPayload place h f = h
-content-sixteen s (Notify k number len) place h f =
-    chosen Sixteen (is k AdditionalIp4) (λ e. more 4) (λ e. chosen Sixteen (is k AdditionalIp6) (λ e. more 6) (λ e. h))
-  where
-    more : (family : ℕ) → Sixteen (listed (s .list) family place)
-    more family = (length-set (s .list .places) (s .list .count) place ∙ h .0, length-set (s .list .families) (s .list .count) family ∙ h .1)
+content-sixteen s (Notify k number len) place h f = noted-sixteen _ k number place len h
 
 module _ (first : ℕ) (body : List ℕ) where
   sixteen : Sixteen (reading first body .seen .list)
@@ -52,16 +43,19 @@ module _ (first : ℕ) (body : List ℕ) where
   given-sized =
       let l = reading first body .seen .list in
       let at = addressAt body in
+      let all = zipWith at (l .places) (l .families) in
+      let long : length all ≡ 16 = length-zip at (l .places) (l .families) (sixteen .0 ∙ sym (sixteen .1)) ∙ sixteen .0 in
       let pair = pair-sized (partOf body (reading first body .seen .«no_nats») (reading first body .seen .«no_nats_len»)) in
       record {
         source = pair .0;
         destination = pair .1;
         families = sixteen .1;
-        addresses = length-zip at (l .places) (l .families) (sixteen .0 ∙ sym (sixteen .1)) ∙ sixteen .0;
+        addresses = length-copied (replicate 16 0) all 16 (l .count) long;
         octets =
             λ i h.
-            ap length (getD-zip at (l .places) (l .families) i 0 0 [] (omega (arith, sixteen .0)) (omega (arith, sixteen .1)))
-            ∙ length-padded (partOf body (getD (l .places) i 0) (widthOf (getD (l .families) i 0)));
+            copied-at (replicate 16 0) (λ a. length a ≡ 16) [] refl all 16 (min (l .count) 16) i h (omega (arith, long))
+            (ap length (getD-zip at (l .places) (l .families) i 0 0 [] (omega (arith, sixteen .0)) (omega (arith, sixteen .1)))
+            ∙ length-padded (partOf body (getD (l .places) i 0) (widthOf (getD (l .families) i 0))));
       }
 
   -- what a plainly read chain gave is the request that writes it

@@ -1,11 +1,12 @@
 -- The two round trips of demand 2, about the calls' own definitions: "Reading a written request gives back what was asked for;
 -- writing a plainly read one gives back its octets."
-use Prim.Native.Nat.{ℕ, _-_, _≤_, _<_}
+use Prim.Native.Nat.{ℕ, _≤_, _<_}
 use mathlib.Core.Path.{_≡_}
-use mathlib.Core.List.{List, [], _++_}
+use mathlib.Core.List.{List, []}
 use mathlib.Core.Bool.{true, cond, not}
 use lib.Dec.{eqb}
-use lib.ListN.{length, take, getD, replicate}
+use lib.ListN.{length, getD, replicate}
+use Rattle.octets.specs.Lists.{firstOnly}
 use Rattle.address.specs.Address.{noPair}
 use Rattle.address.specs.declared.pair.Pair.{Pair}
 use Rattle.findings.specs.Values.{partOf, natValue, noNatsSeen, additionalOf}
@@ -35,7 +36,7 @@ givenBy body s =
           };
       pair = pairOf (noNatsSeen body s);
       families = s .list .families;
-      addresses = additionalOf body (s .list .places) (s .list .families);
+      addresses = additionalOf body (s .list);
       source = natValue body (s .«nat_source»);
       destination = natValue body (s .«nat_destination»);
       cookie = partOf body (s .cookie) (s .«cookie_len»);
@@ -45,18 +46,14 @@ givenBy body s =
 abbrev pub given : ℕ → List ℕ → Request
 given first body = givenBy body (reading first body .seen)
 
--- the first n of sixteen, and `none` in the places past them
-abbrev pub firstOnes : {A : Type 0} → A → ℕ → List A → List A
-firstOnes none n xs = take n xs ++ replicate (16 - n) none
-
 -- What was asked for, with 0 or nothing for what was not.
 abbrev pub askedFor : Request → Request
 askedFor q =
     record {
       ask = q .ask;
       pair = cond (q .ask .«no_nats») (q .pair) noPair;
-      families = firstOnes 0 (q .ask .count) (q .families);
-      addresses = firstOnes (replicate 16 0) (q .ask .count) (q .addresses);
+      families = firstOnly 0 (q .ask .count) (q .families);
+      addresses = firstOnly (replicate 16 0) (q .ask .count) (q .addresses);
       source = cond (q .ask .«nat_source») (q .source) [];
       destination = cond (q .ask .«nat_source») (q .destination) [];
       cookie = q .cookie;

@@ -76,6 +76,11 @@ ordinal Unknown = 9
 abbrev pub is : NotifyKind → NotifyKind → Bool
 is a b = eqb (ordinal a) (ordinal b)
 
+-- What a notification adds to the list of additional addresses.
+abbrev pub notifyListed : Places → NotifyKind → ℕ → Places
+notifyListed l k place =
+    cond (is k AdditionalIp4) (listed l 4 place) (cond (is k AdditionalIp6) (listed l 6 place) l)
+
 -- What a notification adds to what was seen, its data at `place`. Of several NAT_DETECTION_SOURCE_IP the first is handed
 -- out, a choice that 01 leaves free; of the others that hand out data a second one is a fault.
 unfoldable pub noted : Seen → NotifyKind → ℕ → ℕ → ℕ → Seen
@@ -90,9 +95,7 @@ noted s k number place len =
       «no_nats_len» = cond (is k NoNatsAllowed) len (s .«no_nats_len»);
       cookie = cond (is k Cookie2) place (s .cookie);
       «cookie_len» = cond (is k Cookie2) len (s .«cookie_len»);
-      list =
-          cond (is k AdditionalIp4) (listed (s .list) 4 place)
-          (cond (is k AdditionalIp6) (listed (s .list) 6 place) (s .list));
+      list = notifyListed (s .list) k place;
     }
 
 abbrev pub withTally : Seen → Tally → Seen
@@ -110,11 +113,32 @@ withTally s t =
       list = s .list;
     }
 
+abbrev pub withList : Seen → Places → Seen
+withList s l =
+    record {
+      tally = s .tally;
+      update = s .update;
+      «no_additional» = s .«no_additional»;
+      «nat_source» = s .«nat_source»;
+      «nat_destination» = s .«nat_destination»;
+      «no_nats» = s .«no_nats»;
+      «no_nats_len» = s .«no_nats_len»;
+      cookie = s .cookie;
+      «cookie_len» = s .«cookie_len»;
+      list = l;
+    }
+
 -- What a payload adds: it is counted, and a Notify is noted too.
 unfoldable pub contentNoted : Seen → Content → ℕ → Seen
 contentNoted s Skipped place = withTally s (counted (s .tally) 0)
 contentNoted s UnknownPayload place = withTally s (counted (s .tally) 1)
 contentNoted s (Notify k number len) place = noted (withTally s (counted (s .tally) 0)) k number place len
+
+-- What a payload adds to the list, which the code keeps apart (`apart` in proofs/Apart.antt).
+abbrev pub listNoted : Places → Content → ℕ → Places
+listNoted l Skipped place = l
+listNoted l UnknownPayload place = l
+listNoted l (Notify k number len) place = notifyListed l k place
 
 -- 01: "a second UPDATE_SA_ADDRESSES, NO_ADDITIONAL_ADDRESSES, COOKIE2, NO_NATS_ALLOWED or NAT_DETECTION_DESTINATION_IP;
 -- NO_ADDITIONAL_ADDRESSES together with an ADDITIONAL address".

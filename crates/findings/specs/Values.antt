@@ -1,11 +1,14 @@
 -- The values that a reading hands out.
-use Prim.Native.Nat.{ℕ, _+_}
+use Prim.Native.Nat.{ℕ, _+_, min}
 use mathlib.Core.List.{List, [], zipWith}
 use mathlib.Core.Bool.{cond}
 use lib.Dec.{eqb, leb}
 use lib.ListN.{length, take, drop, replicate}
+use Rattle.octets.specs.Lists.{firstOnly}
 use Rattle.octets.specs.Octets.{be16, padded}
-use Rattle.address.specs.Address.{widthOf}
+use Rattle.address.specs.Address.{widthOf, addressesOf}
+use Rattle.address.specs.declared.address.Address.{Address}
+use Rattle.findings.specs.declared.seen.Places.{Places}
 use Rattle.findings.specs.declared.seen.Seen.{Seen}
 use Rattle.findings.specs.declared.values.NoNats.{NoNats}
 
@@ -41,6 +44,10 @@ noNatsSeen body seen = noNatsOf (partOf body (seen .«no_nats») (seen .«no_nat
 abbrev pub addressAt : List ℕ → ℕ → ℕ → List ℕ
 addressAt body place family = padded (partOf body place (widthOf family))
 
--- 01: "sixteen to a list"; "in a list newly kept or given [places past the count] are 0": their family is 0, of no octets.
-abbrev pub additionalOf : List ℕ → List ℕ → List ℕ → List (List ℕ)
-additionalOf body places families = zipWith (addressAt body) places families
+-- 01: "The first 16 are kept"; "Places past a list's count ... aren't looked at; in a list newly kept or given they are 0."
+abbrev pub additionalOf : List ℕ → Places → List (List ℕ)
+additionalOf body l = firstOnly (replicate 16 0) (min (l .count) 16) (zipWith (addressAt body) (l .places) (l .families))
+
+-- the additional addresses with their families, as a record keeps them
+abbrev pub addressesIn : List ℕ → Places → List Address
+addressesIn body l = addressesOf (min (l .count) 16) (l .families) (additionalOf body l)

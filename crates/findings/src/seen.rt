@@ -3,7 +3,7 @@ use payload::notify::NotifyKind;
 use payload::payload::Content;
 ghost use mathlib.Core.Path.{_≡_};
 ghost use Prim.Native.Nat.{_<_};
-ghost use Rattle.findings.specs.Seen.{nothingSeen, counted, unknownNotify, listed, noted, contentNoted, repeats, conflicts, Counted};
+ghost use Rattle.findings.specs.Seen.{nothingSeen, counted, unknownNotify, listed, noted, withList, contentNoted, listNoted, repeats, conflicts, Counted};
 
 // How many payloads there were, and how many of them are not known here.
 #[repr(C)]
@@ -111,10 +111,10 @@ pub fn one_listed(l: Places, family: u8, place: u16) -> Places
     n
 }
 
-// What a notification of `kind` adds, its `len` octets of data at `place`.
+// What a notification of `kind` adds but to the list, its `len` octets of data at `place`.
 pub fn notify_noted(seen: Seen, kind: NotifyKind, number: u16, place: u16, len: u16) -> Seen
     requires { ⌜ Counted 4097 seen ⌝ }
-    ensures { λ r. ⌜ r ≡ noted seen kind number place len ⌝ }
+    ensures { λ r. ⌜ r ≡ withList (noted seen kind number place len) (seen .list) ⌝ }
 {
     let mut s = seen;
     match kind {
@@ -127,16 +127,8 @@ pub fn notify_noted(seen: Seen, kind: NotifyKind, number: u16, place: u16, len: 
             s.nat_destination = place;
         }
         NotifyKind::MobikeSupported => {}
-        NotifyKind::AdditionalIp4 => {
-            let l = seen.list;
-            let more = one_listed(l, 4, place);
-            s.list = more;
-        }
-        NotifyKind::AdditionalIp6 => {
-            let l = seen.list;
-            let more = one_listed(l, 6, place);
-            s.list = more;
-        }
+        NotifyKind::AdditionalIp4 => {}
+        NotifyKind::AdditionalIp6 => {}
         NotifyKind::NoAdditionalAddresses => {
             s.no_additional = true;
         }
@@ -160,10 +152,10 @@ pub fn notify_noted(seen: Seen, kind: NotifyKind, number: u16, place: u16, len: 
     s
 }
 
-// What a payload adds; a Notify's data is at `place`.
+// What a payload adds but to the list; a Notify's data is at `place`.
 pub fn content_noted(seen: Seen, content: Content, place: u16) -> Seen
     requires { ⌜ Counted 4096 seen ⌝ }
-    ensures { λ r. ⌜ r ≡ contentNoted seen content place ⌝ }
+    ensures { λ r. ⌜ r ≡ withList (contentNoted seen content place) (seen .list) ⌝ }
 {
     let mut s = seen;
     let t = seen.tally;
@@ -184,6 +176,33 @@ pub fn content_noted(seen: Seen, content: Content, place: u16) -> Seen
             notify_noted(s, kind, number, place, len)
         }
     }
+}
+
+// What a payload adds to the list, which is large: a caller that keeps it apart writes it only where there is an address.
+pub fn list_noted(l: Places, content: Content, place: u16) -> Places
+    requires { ⌜ l .count < 65535 ⌝ }
+    ensures { λ r. ⌜ r ≡ listNoted l content place ⌝ }
+{
+    match content {
+        Content::Skipped => l,
+        Content::Unknown => l,
+        Content::Notify(kind, _, _) => {
+            match kind {
+                NotifyKind::AdditionalIp4 => one_listed(l, 4, place),
+                NotifyKind::AdditionalIp6 => one_listed(l, 6, place),
+                _ => l,
+            }
+        }
+    }
+}
+
+// The same with another list.
+pub fn with_list(seen: Seen, list: Places) -> Seen
+    ensures { λ r. ⌜ r ≡ withList seen list ⌝ }
+{
+    let mut s = seen;
+    s.list = list;
+    s
 }
 
 // Whether a notification of `kind` may not stand after what was seen.

@@ -1,13 +1,15 @@
 // The values that a reading hands out: parts of the lent body, and the addresses in it.
 use crate::seen::Places;
 use crate::seen::Seen;
+use address::address::Address;
+use address::address::addresses_of;
 use address::address::width_of;
 use octets::be16_at;
 use octets::padded_to_16;
 ghost use mathlib.Core.Path.{_≡_};
-ghost use Prim.Native.Nat.{_+_, _≤_};
+ghost use Prim.Native.Nat.{_+_, _≤_, min};
 ghost use lib.ListN.{length};
-ghost use Rattle.findings.specs.Values.{partOf, natValue, noNatsIn, noNatsOf, noNatsSeen, absent, addressAt, additionalOf};
+ghost use Rattle.findings.specs.Values.{partOf, natValue, noNatsIn, noNatsOf, noNatsSeen, absent, addressAt, additionalOf, addressesIn};
 
 // The `len` octets at `at`; none where they would run past the end.
 pub fn part(body: &[u8], at: u16, len: u16) -> &[u8]
@@ -105,18 +107,35 @@ pub fn address_at(body: &[u8], place: u16, family: u8) -> [u8; 16]
     padded_to_16(part(body, place, width_of(family)))
 }
 
-// The additional addresses, the first sixteen, with zeros in unused places.
-pub fn additional(body: &[u8], list: Places) -> [[u8; 16]; 16]
-    ensures { λ r. ⌜ r ≡ additionalOf (now (body .entry)) (list .places) (list .families) ⌝ }
+// How many of so many additional addresses are kept: the first sixteen.
+pub fn kept_count(count: u16) -> u16
+    ensures { λ r. ⌜ r ≡ min count 16 ⌝ }
 {
+    if count < 16 { count } else { 16 }
+}
+
+// The additional addresses that are kept, with zeros in the places after them.
+pub fn additional(body: &[u8], list: Places) -> [[u8; 16]; 16]
+    ensures { λ r. ⌜ r ≡ additionalOf (now (body .entry)) list ⌝ }
+{
+    let n = kept_count(list.count) as usize;
     let places = list.places;
     let families = list.families;
     let mut out = [[0u8; 16]; 16];
     let mut i = 0;
-    while i < 16 {
+    while i < n {
         let a = address_at(body, places[i], families[i]);
         out[i] = a;
         i += 1;
     }
     out
+}
+
+// The same with their families, as a record keeps them.
+pub fn addresses_in(body: &[u8], list: Places) -> [Address; 16]
+    ensures { λ r. ⌜ r ≡ addressesIn (now (body .entry)) list ⌝ }
+{
+    let octets = additional(body, list);
+    let families = list.families;
+    addresses_of(families, octets, kept_count(list.count) as usize)
 }

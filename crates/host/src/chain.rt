@@ -1,14 +1,12 @@
 // The reader's calls.
 use address::address::Address;
-use address::address::addresses_of;
 use findings::seen::Seen;
 use findings::values::NoNats;
-use findings::values::additional;
+use findings::values::addresses_in;
 use reader::read::Reading;
 ghost use mathlib.Core.Path.{_≡_};
-ghost use Rattle.address.specs.Address.{addressesOf};
 ghost use Rattle.reader.specs.Chain.{ReadAs};
-ghost use Rattle.findings.specs.Values.{partOf, noNatsSeen, additionalOf};
+ghost use Rattle.findings.specs.Values.{partOf, noNatsSeen, addressesIn};
 
 #[repr(C)]
 pub struct AddressList {
@@ -42,11 +40,9 @@ pub extern "C" fn unmavreth_no_nats(body: &[u8], seen: Seen) -> NoNats
 // The first sixteen additional addresses, from the body that was read and what was seen in it.
 #[no_mangle]
 pub extern "C" fn unmavreth_addresses(body: &[u8], seen: Seen) -> AddressList
-    ensures { λ r. ⌜ r .list ≡ addressesOf (seen .list .families) (additionalOf (now (body .entry)) (seen .list .places) (seen .list .families)) ⌝ }
+    ensures { λ r. ⌜ r .list ≡ addressesIn (now (body .entry)) (seen .list) ⌝ }
 {
-    let l = seen.list;
-    let octets = additional(body, l);
-    let families = l.families;
-    let list = addresses_of(families, octets);
-    AddressList { list }
+    AddressList {
+        list: addresses_in(body, seen.list),
+    }
 }

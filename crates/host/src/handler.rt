@@ -1,15 +1,18 @@
-// The call that handles a request, on lent tables: the record that the SPI means is looked up, answered and stored, and what it owns
-// follows.
+// The call that handles a request, on lent tables: the record that the SPI means is looked up, the request answered by its marks, and what
+// changes in it stored; what it owns follows.
 use address::pair::Pair;
 use lent::ike::ike_at;
 use lent::ike::ike_place;
 use lent::ike::ike_store;
 use lent::owned::follow_if;
 use lent::owned::ipsec_count;
+use lent::rules::policy_of;
 use policy::rules::Policy;
 use responder::core::Reply;
+use responder::core::changed;
 use responder::handle::answer;
 use tables::ike::IkeRecord;
+use tables::ike::marks_of;
 use tables::ipsec::IpsecRecord;
 ghost use mathlib.Core.Path.{_≡_};
 ghost use lib.ListN.{length};
@@ -22,7 +25,7 @@ ghost use Rattle.responder.specs.Handle.{request, handled, handledResponse};
 pub extern "C" fn unmavreth_request(
     ike: &mut [IkeRecord; 32],
     ipsec: &mut [IpsecRecord],
-    policy: Policy,
+    policy: &Policy,
     spi: u64,
     id: u32,
     pair: Pair,
@@ -32,19 +35,21 @@ pub extern "C" fn unmavreth_request(
     body: &[u8],
     out: &mut [u8],
 ) -> Reply
-    ensures { λ r. ⌜ r ≡ handled policy (now (ike .entry)) (now (ipsec .entry)) (request spi (asked id pair (now (source .entry)) (now (destination .entry)) first (now (body .entry))) (length (now (out .entry)))) .reply ⌝ }
-    ensures { λ _. ⌜ now (ike .exit) ≡ handled policy (now (ike .entry)) (now (ipsec .entry)) (request spi (asked id pair (now (source .entry)) (now (destination .entry)) first (now (body .entry))) (length (now (out .entry)))) .ike ⌝ }
-    ensures { λ _. ⌜ now (ipsec .exit) ≡ handled policy (now (ike .entry)) (now (ipsec .entry)) (request spi (asked id pair (now (source .entry)) (now (destination .entry)) first (now (body .entry))) (length (now (out .entry)))) .ipsec ⌝ }
-    ensures { λ _. ⌜ now (out .exit) ≡ placed (now (out .entry)) 0 (handledResponse policy (now (ike .entry)) (now (ipsec .entry)) (request spi (asked id pair (now (source .entry)) (now (destination .entry)) first (now (body .entry))) (length (now (out .entry))))) ⌝ }
+    ensures { λ r. ⌜ r ≡ handled (now (policy .entry)) (now (ike .entry)) (now (ipsec .entry)) (request spi (asked id pair (now (source .entry)) (now (destination .entry)) first (now (body .entry))) (length (now (out .entry)))) .reply ⌝ }
+    ensures { λ _. ⌜ now (ike .exit) ≡ handled (now (policy .entry)) (now (ike .entry)) (now (ipsec .entry)) (request spi (asked id pair (now (source .entry)) (now (destination .entry)) first (now (body .entry))) (length (now (out .entry)))) .ike ⌝ }
+    ensures { λ _. ⌜ now (ipsec .exit) ≡ handled (now (policy .entry)) (now (ike .entry)) (now (ipsec .entry)) (request spi (asked id pair (now (source .entry)) (now (destination .entry)) first (now (body .entry))) (length (now (out .entry)))) .ipsec ⌝ }
+    ensures { λ _. ⌜ now (out .exit) ≡ placed (now (out .entry)) 0 (handledResponse (now (policy .entry)) (now (ike .entry)) (now (ipsec .entry)) (request spi (asked id pair (now (source .entry)) (now (destination .entry)) first (now (body .entry))) (length (now (out .entry))))) ⌝ }
 {
     let size = ipsec_count(ipsec);
     let place = ike_place(ike, spi);
     let entry = ike_at(ike, place);
+    let marks = marks_of(entry);
+    let rules = policy_of(policy);
     let c = answer(
         size,
         place,
-        entry,
-        policy,
+        marks,
+        rules,
         spi,
         id,
         pair,
@@ -54,7 +59,8 @@ pub extern "C" fn unmavreth_request(
         body,
         out,
     );
-    ike_store(ike, place, c.entry);
+    let new = changed(entry, c, pair, body);
+    ike_store(ike, place, new);
     follow_if(ipsec, c.moves, spi, pair);
     c.reply
 }

@@ -8,9 +8,13 @@ use lent::owned::ipsec_count;
 use lent::owned::release_if;
 use lent::places::ipsec_place;
 use lent::places::ipsec_store;
+use lent::rules::policy_of;
+use lent::rules::policy_store;
+use lent::rules::rules_of;
 use policy::rules::Policy;
-use policy::rules::PolicyAnswer;
 use policy::rules::Rule;
+use policy::rules::is_acceptable;
+use policy::rules::set_policy;
 use tables::calls::ike_closing;
 use tables::calls::ike_opening;
 use tables::calls::ipsec_closing;
@@ -20,11 +24,6 @@ use tables::ipsec::IpsecRecord;
 ghost use mathlib.Core.Path.{_≡_};
 ghost use Rattle.policy.specs.Policy.{acceptable, setPolicy};
 ghost use Rattle.tables.specs.Calls.{openIke, openIpsec, closeIke, closeIpsec};
-
-#[repr(C)]
-pub struct RuleList {
-    pub rules: [Rule; 16],
-}
 
 // Opens an IKE record at the lowest free place.
 #[no_mangle]
@@ -92,17 +91,23 @@ pub extern "C" fn unmavreth_close_ipsec(ipsec: &mut [IpsecRecord], spi: u32) -> 
     c.number
 }
 
+// Sets the whole policy, or refuses and leaves it.
 #[no_mangle]
-pub extern "C" fn unmavreth_set_policy(policy: Policy, count: u16, rules: RuleList) -> PolicyAnswer
-    ensures { λ r. ⌜ r ≡ setPolicy policy count (rules .rules) ⌝ }
+pub extern "C" fn unmavreth_set_policy(policy: &mut Policy, count: u16, rules: &[Rule; 16]) -> u8
+    ensures { λ r. ⌜ (r ≡ setPolicy (now (policy .entry)) count (now (rules .entry)) .number) × (now (policy .exit) ≡ setPolicy (now (policy .entry)) count (now (rules .entry)) .policy) ⌝ }
 {
-    let list = rules.rules;
-    policy::rules::set_policy(policy, count, list)
+    let old = policy_of(policy);
+    let list = rules_of(rules);
+    let a = set_policy(old, count, list);
+    policy_store(policy, a.policy);
+    a.number
 }
 
+// Whether some rule of the policy accepts the pair.
 #[no_mangle]
-pub extern "C" fn unmavreth_acceptable(policy: Policy, pair: Pair) -> bool
-    ensures { λ r. ⌜ r ≡ acceptable policy pair ⌝ }
+pub extern "C" fn unmavreth_acceptable(policy: &Policy, pair: Pair) -> bool
+    ensures { λ r. ⌜ r ≡ acceptable (now (policy .entry)) pair ⌝ }
 {
-    policy::rules::is_acceptable(policy, pair)
+    let p = policy_of(policy);
+    is_acceptable(p, pair)
 }

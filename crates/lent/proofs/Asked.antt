@@ -1,23 +1,31 @@
 -- The calls on the lent list and the lent table that several walks make, each as one step, known by the callee's contract alone. At the head of the context stand what the reference owns and its token, and while the operands are read two items in their stead; what is passed for good leaves what says its last value, behind one item.
 --     counts, finds-ipsec, stores-ipsec      a `&mut [IpsecRecord]` to `ipsec_count`, to `ipsec_place`, and for good to `ipsec_store`
---     finds-ike, stores-ike                  a `&mut [IkeRecord; 32]` to `ike_place`, and for good to `ike_store`
+--     finds-ike, reads-ike, stores-ike       a `&mut [IkeRecord; 32]` to `ike_place`, to `ike_at`, and for good to `ike_store`
+--     reads-policy, reads-lent, stores-policy      a `&Policy` to `policy_of`, a `&mut Policy` to it, and for good to `policy_store`.        reads-rules      a `&[Rule; 16]` to `rules_of`
 -- Assumes `Given`, and that the table of calls is monotone under a frame.
-use Rattle.lent.proofs.Kit.{_≡_, refl, ℕ, _<_, _^_, List, [], _∷_, length, set, URA, fullShare, Place, Body, erased, w32, w64, seq, call, vunit, vint, vptr, SProp, id⊢, Lft, Share, flft, fres, Memory, Routine, Heap, Env, Calls, Loops, Atoms, Fun, Given, Item, ‵, Post, runs, lands, Seq}
-use Rattle.lent.proofs.Kit.{Step, step, _$_, Opds, FmC, Is, uint-makes, uint-vals, uint-tells, nothing-tells, u32, u64, usize, RefT, MutRef, ptr-vals, MutSlice, Room, slice-vals, finally, only, Triple}
+use Rattle.lent.proofs.Kit.{_≡_, refl, ℕ, _<_, _^_, List, [], _∷_, length, getD, set, URA, fullShare, Place, Body, erased, w32, w64, seq, call, vunit, vint, vptr, SProp, id⊢, Lft, Share, flft, fres, Memory, Routine, Heap, Env, Calls, Loops, Atoms, Fun, Given, Item, ‵, Post, runs, lands, Seq}
+use Rattle.lent.proofs.Kit.{Step, step, _$_, move, Opds, FmC, Is, uint-makes, uint-vals, uint-tells, nothing-tells, u32, u64, usize, RefT, MutRef, ShrRef, ptr-vals, MutSlice, Room, slice-vals, finally, only, Triple}
 use mir.Syntax.{Opd as Operand}
 use denote.Struct.Laws as LL
 use Rattle.octets.specs.Lists.{placeOf}
-use Rattle.tables.specs.Records.{ikeSpi, ipsecSpi}
+use Rattle.policy.specs.declared.rules.Policy.{Policy}
+use Rattle.policy.specs.declared.rules.Rule.{Rule}
+use Rattle.policy.proofs.rules.Policy as Y
+use Rattle.policy.proofs.rules.Policy.Laws as Y′
+use Rattle.tables.specs.Records.{ikeSpi, ipsecSpi, noIke}
 use Rattle.tables.specs.declared.ike.IkeRecord.{IkeRecord}
 use Rattle.tables.specs.declared.ipsec.IpsecRecord.{IpsecRecord}
 use Rattle.tables.proofs.ike.IkeRecord as I
 use Rattle.tables.proofs.ike.IkeRecord.Laws as I′
 use Rattle.tables.proofs.ipsec.IpsecRecord as S
 use Rattle.tables.proofs.ipsec.IpsecRecord.Laws as S′
-use Rattle.lent.proofs.Calls.{_&_, Told, list-last, ref-last, gives, calls-for, calls-to}
-use Rattle.lent.proofs.Loans.{renamed, lent-list, list-over, lent-array, array-over}
+use Rattle.lent.proofs.Calls.{_&_, Told, no-token, list-last, ref-last, gives, calls-for, calls-to}
+use Rattle.lent.proofs.Loans.{renamed, lent-list, list-over, lent-array, lent-ref, ref-over, copies-ref}
 use Rattle.lent.proofs.IkeTable as Ike
 use Rattle.lent.proofs.IpsecTable.{R, rec-vals}
+use Rattle.lent.proofs.PolicyTypes as Kept
+use Rattle.lent.proofs.ike.ike_at as at
+use Rattle.lent.proofs.ike.ike_at.Symbol as at-def
 use Rattle.lent.proofs.ike.ike_place as home
 use Rattle.lent.proofs.ike.ike_place.Symbol as home-def
 use Rattle.lent.proofs.ike.ike_store as put
@@ -28,6 +36,12 @@ use Rattle.lent.proofs.places.ipsec_place as place
 use Rattle.lent.proofs.places.ipsec_place.Symbol as place-def
 use Rattle.lent.proofs.places.ipsec_store as store
 use Rattle.lent.proofs.places.ipsec_store.Symbol as store-def
+use Rattle.lent.proofs.rules.policy_of as read
+use Rattle.lent.proofs.rules.policy_of.Symbol as read-def
+use Rattle.lent.proofs.rules.policy_store as keep
+use Rattle.lent.proofs.rules.policy_store.Symbol as keep-def
+use Rattle.lent.proofs.rules.rules_of as list
+use Rattle.lent.proofs.rules.rules_of.Symbol as list-def
 
 module _ {M : Type 1} {𝓤 : URA M} {H : Heap 𝓤} {A : Atoms 𝓤} {K : Type 0} {W : Given 𝓤 H A} {Γ : List (Item 𝓤)} {E : Env 𝓤 H} {C : Calls 𝓤 H} {Λ : Loops 𝓤 H} {p : Post 𝓤 H} {d : Place} {ops : List Operand} {rest : Body} (t : K) (fm : FmC 𝓤 H (W .laws) C) (at-mem : Memory → SProp 𝓤) (run : Routine → Fun 𝓤) where
   module _ {κ : Lft} {q : Share} (x : RefT (List IpsecRecord)) where
@@ -53,10 +67,37 @@ module _ {M : Type 1} {𝓤 : URA M} {H : Heap 𝓤} {A : Atoms 𝓤} {K : Type 
         → (length (x .now) ≡ 32 → placeOf ikeSpi k (x .now) < 2 ^ 64 → Seq K W (‵ (MutRef erased κ Ike.Q .own x (ptr-vals x)) ∷ ‵ (flft κ q) ∷ Γ) (lands C Λ E d (vint w64 (placeOf ikeSpi k (x .now))) rest p)) → Seq K W (‵ (MutRef erased κ Ike.Q .own x (ptr-vals x)) ∷ ‵ (flft κ q) ∷ Γ) (runs C Λ E (seq (call home-def.name ops d) rest) p)
     finds-ike known k fits os s = lent-array t tt Ike.R x (u64 ∷ []) (uint-makes 𝓤 H A W w64, tt) (k, tt) (uint-vals w64 k, tt) ((refl, fits), tt) 32 tt (λ ν δ long.
         calls-for t fm home.ended (home.clauses 𝓤 H A at-mem run) known (((ν ∷ [], tt), (fullShare, tt), tt, (renamed δ x, (k, tt)), (ptr-vals x, (uint-vals w64 k, tt))), tt) (id⊢ 𝓤 _) (os _ _)
-        (uint-vals w64) (uint-tells w64) (placeOf ikeSpi k (x .now)) (λ r ws. id⊢ 𝓤 _) (λ is. array-over t tt Ike.R x 32 $ s long (is .1)))
+        (uint-vals w64) (uint-tells w64) (placeOf ikeSpi k (x .now)) (λ r ws. id⊢ 𝓤 _) (λ is. ref-over t tt Ike.Q x $ s long (is .1)))
+
+    pub reads-ike : Triple 𝓤 (C at-def.name) (Told 𝓤 H A at.ended (at.clauses 𝓤 H A at-mem run)) → (i : ℕ) → i < 2 ^ 64 → ((j k : Item 𝓤) → Opds K W (j ∷ k ∷ Γ) E ops (vptr (x .ptr .0) (x .ptr .1) ∷ vint w64 i ∷ []))
+        → (Is Ike.R (getD (x .now) i noIke) (Ike.rec-vals (getD (x .now) i noIke)) → Seq K W (‵ (MutRef erased κ Ike.Q .own x (ptr-vals x)) ∷ ‵ (flft κ q) ∷ Γ) (lands C Λ E d (Ike.rec-val (getD (x .now) i noIke)) rest p)) → Seq K W (‵ (MutRef erased κ Ike.Q .own x (ptr-vals x)) ∷ ‵ (flft κ q) ∷ Γ) (runs C Λ E (seq (call at-def.name ops d) rest) p)
+    reads-ike known i fits os s = lent-ref t tt Ike.Q x (usize ∷ []) (uint-makes 𝓤 H A W w64, tt) (i, tt) (uint-vals w64 i, tt) ((refl, fits), tt) (λ ν δ.
+        calls-for t fm at.ended (at.clauses 𝓤 H A at-mem run) known (((ν ∷ [], tt), (fullShare, tt), tt, (renamed δ x, (i, tt)), (ptr-vals x, (uint-vals w64 i, tt))), tt) (id⊢ 𝓤 _) (os _ _)
+        Ike.rec-vals (LL.tells I.the-type I′.the-laws) (getD (x .now) i noIke) (λ r ws. id⊢ 𝓤 _) (λ is. ref-over t tt Ike.Q x $ s is))
 
     pub stores-ike : Triple 𝓤 (C put-def.name) (Told 𝓤 H A put.ended (put.clauses 𝓤 H A at-mem run)) → (i : ℕ) (new : IkeRecord) → Is usize i (uint-vals w64 i) → Is Ike.R new (Ike.rec-vals new) → ((j : Item 𝓤) → Opds K W (j ∷ Γ) E ops (vptr (x .ptr .0) (x .ptr .1) ∷ vint w64 i ∷ only (Ike.rec-vals new) ∷ []))
         → ((zs : List IkeRecord) → zs ≡ set (x .now) i new → Seq K W (‵ (fres (x .name) (Ike.Q .coded .code zs)) ∷ ‵ (flft κ q) ∷ Γ) (lands C Λ E d vunit rest p)) → Seq K W (‵ (MutRef erased κ Ike.Q .own x (ptr-vals x)) ∷ ‵ (flft κ q) ∷ Γ) (runs C Λ E (seq (call put-def.name ops d) rest) p)
     stores-ike known i new i-is new-is os s = gives t (usize ∷ Ike.R ∷ []) (uint-makes 𝓤 H A W w64 & LL.makes I.the-type I′.the-plain 𝓤 H A & tt) (i, (new, tt)) (uint-vals w64 i, (Ike.rec-vals new, tt)) (i-is, (new-is, tt)) $
         calls-to t fm put.ended (put.clauses 𝓤 H A at-mem run) known (((κ, tt), (q, tt), tt, (x, (i, (new, tt))), (ptr-vals x, (uint-vals w64 i, (Ike.rec-vals new, tt)))), tt) (id⊢ 𝓤 _) (os _)
         nothing-tells (λ ws. ws .0 ≡ set (x .now) i new) (λ r ws. id⊢ 𝓤 _) (λ ws e. ref-last t $ s (ws .0) e)
+
+  module _ {κ : Lft} {q : Share} (x : RefT Policy) where
+    module _ (known : Triple 𝓤 (C read-def.name) (Told 𝓤 H A read.ended (read.clauses 𝓤 H A at-mem run))) (os : (i j : Item 𝓤) → Opds K W (i ∷ j ∷ Γ) E ops (ptr-vals x)) where
+      pub reads-policy : (Is Kept.R (x .now) (Kept.policy-vals (x .now)) → Seq K W (‵ (ShrRef erased κ Kept.R .own x (ptr-vals x)) ∷ ‵ (flft κ q) ∷ Γ) (lands C Λ E d (only (Kept.policy-vals (x .now))) rest p)) → Seq K W (‵ (ShrRef erased κ Kept.R .own x (ptr-vals x)) ∷ ‵ (flft κ q) ∷ Γ) (runs C Λ E (seq (call read-def.name ops d) rest) p)
+      reads-policy s = copies-ref t tt Kept.R x [] tt tt tt tt $ calls-for t fm read.ended (read.clauses 𝓤 H A at-mem run) known (((κ, tt), (q, tt), tt, (x, tt), (ptr-vals x, tt)), tt) (id⊢ 𝓤 _) (os _ _)
+          Kept.policy-vals (LL.tells Y.the-type Y′.the-laws) (x .now) (λ r ws. id⊢ 𝓤 _) (λ is. no-token t $ move t (1 ∷ []) $ s is)
+
+      pub reads-lent : (Is Kept.R (x .now) (Kept.policy-vals (x .now)) → Seq K W (‵ (MutRef erased κ Kept.R .own x (ptr-vals x)) ∷ ‵ (flft κ q) ∷ Γ) (lands C Λ E d (only (Kept.policy-vals (x .now))) rest p)) → Seq K W (‵ (MutRef erased κ Kept.R .own x (ptr-vals x)) ∷ ‵ (flft κ q) ∷ Γ) (runs C Λ E (seq (call read-def.name ops d) rest) p)
+      reads-lent s = lent-ref t tt Kept.R x [] tt tt tt tt (λ ν δ. calls-for t fm read.ended (read.clauses 𝓤 H A at-mem run) known (((ν ∷ [], tt), (fullShare, tt), tt, (renamed δ x, tt), (ptr-vals x, tt)), tt) (id⊢ 𝓤 _) (os _ _)
+          Kept.policy-vals (LL.tells Y.the-type Y′.the-laws) (x .now) (λ r ws. id⊢ 𝓤 _) (λ is. ref-over t tt Kept.R x $ s is))
+
+    pub stores-policy : Triple 𝓤 (C keep-def.name) (Told 𝓤 H A keep.ended (keep.clauses 𝓤 H A at-mem run)) → (new : Policy) → Is Kept.R new (Kept.policy-vals new) → ((j : Item 𝓤) → Opds K W (j ∷ Γ) E ops (vptr (x .ptr .0) (x .ptr .1) ∷ only (Kept.policy-vals new) ∷ []))
+        → ((z : Policy) → z ≡ new → Seq K W (‵ (fres (x .name) (Kept.R .coded .code z)) ∷ ‵ (flft κ q) ∷ Γ) (lands C Λ E d vunit rest p)) → Seq K W (‵ (MutRef erased κ Kept.R .own x (ptr-vals x)) ∷ ‵ (flft κ q) ∷ Γ) (runs C Λ E (seq (call keep-def.name ops d) rest) p)
+    stores-policy known new new-is os s = gives t (Kept.R ∷ []) (LL.makes Y.the-type Y′.the-plain 𝓤 H A, tt) (new, tt) (Kept.policy-vals new, tt) (new-is, tt) $
+        calls-to t fm keep.ended (keep.clauses 𝓤 H A at-mem run) known (((κ, tt), (q, tt), tt, (x, (new, tt)), (ptr-vals x, (Kept.policy-vals new, tt))), tt) (id⊢ 𝓤 _) (os _)
+        nothing-tells (λ ws. ws .0 ≡ new) (λ r ws. id⊢ 𝓤 _) (λ ws e. ref-last t $ s (ws .0) e)
+
+  pub reads-rules : {κ : Lft} {q : Share} (x : RefT (List Rule)) → Triple 𝓤 (C list-def.name) (Told 𝓤 H A list.ended (list.clauses 𝓤 H A at-mem run)) → ((i j : Item 𝓤) → Opds K W (i ∷ j ∷ Γ) E ops (ptr-vals x))
+      → (Is Kept.Q (x .now) (Kept.rules-vals (x .now)) → Seq K W (‵ (ShrRef erased κ Kept.Q .own x (ptr-vals x)) ∷ ‵ (flft κ q) ∷ Γ) (lands C Λ E d (only (Kept.rules-vals (x .now))) rest p)) → Seq K W (‵ (ShrRef erased κ Kept.Q .own x (ptr-vals x)) ∷ ‵ (flft κ q) ∷ Γ) (runs C Λ E (seq (call list-def.name ops d) rest) p)
+  reads-rules {κ} {q} x known os s = copies-ref t tt Kept.Q x [] tt tt tt tt $ calls-for t fm list.ended (list.clauses 𝓤 H A at-mem run) known (((κ, tt), (q, tt), tt, (x, tt), (ptr-vals x, tt)), tt) (id⊢ 𝓤 _) (os _ _)
+      Kept.rules-vals Kept.rules-tells (x .now) (λ r ws. id⊢ 𝓤 _) (λ is. no-token t $ move t (1 ∷ []) $ s is)

@@ -1,16 +1,18 @@
 -- A call of a function that is known by its contract, as a step of a walk, whatever the function. The callee requires nothing; x is what its triple binds; the tokens of its lifetimes and what its arguments own stand at the head.
 --     Told             the function's contract.        tokens           the tokens of a signature's lifetimes, as an entry of the context.        plainly       plain arguments are owned for nothing.        beside, gives      the same beside a reference; its token goes along
---     calls-told       the call: once it has returned v, the tokens are back, with what the result owns, what says the last values, and what is ensured.
 --     calls-for        a call whose contract fixes its result r₀: the tokens are back, and r₀'s machine value is stored
+--     calls-both       a call whose contract fixes its result and says φ of the last values: the caller has what says them, and the tokens
 --     calls-to, calls-to-last      a call that returns nothing, and whose contract says φ of the last values: the caller has what says them, and the tokens; the latter ends a block
 --     Token, token, no-token       the tokens of one lifetime, put together and taken apart.        list-last, ref-last      after a call that a `&mut [T]` or a `&mut T` went to for good: what says its last value, and its token
+--     spares           what one of some arguments owns is had once more: of the first, which is Copy (`spare-first`), or of one behind the first (`spare-next`)
 --     _&_              a long tuple in a row.        copied           a local is read, entry n of the context.        ends-local       a local is freed, whatever it holds.        says4       the four facts that four `ensures` state are shown
 -- Assumes `Given`, and that the table of calls is monotone under a frame.
 use Rattle.lent.proofs.Kit.{_≡_, refl, ap, sym, subst, _∙_, ℕ, zero, suc, List, [], _∷_, URA, fullShare, Name, Place, Body, Ty, seq, call, copy, place, Val, vunit, SProp, ent, sep, emp, id⊢, via, Lft, Share, Fml, ftrue, flft, fsep, fat, fdies, Heap, Env, Calls, Loops, spotOf, Atoms, FmC}
 use Rattle.lent.proofs.Kit.{Lfts, Shares, fact, Goal, Soaks, Post, Given, Item, ‵, raw, _⊛_, some, later, prop, runs, lands, frees, Seq, Step, step, _$_, move, use0, use1, split, join, pick, drop, fsplit, fjoin, feqL, await, Opds, look, stop, from, load, forget, free1, RattleType, Denots}
 use Rattle.lent.proofs.Kit.{Valss, owns, Is, Are, Ises, Makess, Tells, shows, typeAt, typesAt, facts, heard, only, Res, Contract, Triple, calls-at, calls-at-last, tripleOf, Clauses, Ended, Lasts, atExit, lasts, closing}
 use mir.Syntax.{Opd as Operand}
-use base.Logic.{monoL, monoR, comm∗, emp∗}
+use base.Logic.{monoL, monoR, comm∗, assoc∗, assoc′, emp∗}
+use ghost.Atoms.{sem}
 use base.Fml.{feq}
 use contract.Lifetimes.{toks}
 use contract.Monad.{factI}
@@ -43,6 +45,16 @@ module _ {M : Type 1} (𝓤 : URA M) (H : Heap 𝓤) (A : Atoms 𝓤) where
   alive-in : (n : ℕ) (κs : Lfts n) (qs : Shares n) → ent 𝓤 (mean 𝓤 H A (tokens 𝓤 n κs qs)) (toks 𝓤 A n κs qs)
   alive-in zero κs qs = id⊢ 𝓤 _
   alive-in (suc n) κs qs = monoR 𝓤 (A .lft (κs .0) (qs .0)) (alive-in n (κs .1) (qs .1))
+
+  -- X is had beside P, which stays
+  pub record Spare (P X : Fml) : Type 1 where
+    pub had : ent 𝓤 (sem 𝓤 H A P) (sep 𝓤 (sem 𝓤 H A P) (sem 𝓤 H A X))
+
+  pub spare-first : {F P : Fml} → ent 𝓤 (sem 𝓤 H A F) (sep 𝓤 (sem 𝓤 H A F) (sem 𝓤 H A F)) → Spare (fsep F P) F
+  spare-first {F} {P} h = record { had = via 𝓤 _ (monoL 𝓤 (sem 𝓤 H A P) h) (via 𝓤 _ (assoc∗ 𝓤 (sem 𝓤 H A F) (sem 𝓤 H A F) (sem 𝓤 H A P)) (via 𝓤 _ (monoR 𝓤 (sem 𝓤 H A F) (comm∗ 𝓤 (sem 𝓤 H A F) (sem 𝓤 H A P))) (assoc′ 𝓤 (sem 𝓤 H A F) (sem 𝓤 H A P) (sem 𝓤 H A F)))) }
+
+  pub spare-next : {F P X : Fml} → Spare P X → Spare (fsep F P) X
+  spare-next {F} {P} {X} h = record { had = via 𝓤 _ (monoR 𝓤 (sem 𝓤 H A F) (h .had)) (assoc′ 𝓤 (sem 𝓤 H A F) (sem 𝓤 H A P) (sem 𝓤 H A X)) }
 
   module _ (T : Ended) (c : Clauses 𝓤 T) where
     abbrev pub Told : Contract 𝓤
@@ -79,6 +91,9 @@ module _ {M : Type 1} {𝓤 : URA M} {H : Heap 𝓤} {A : Atoms 𝓤} {K : Type 
   says4 t {P} {φ} {χ} {ψ} {ω} x y z w =
       let h = andI 𝓤 H A φ (and 𝓤 H A χ (and 𝓤 H A ψ (fact 𝓤 ω))) x (andI 𝓤 H A χ (and 𝓤 H A ψ (fact 𝓤 ω)) y (andI 𝓤 H A ψ (fact 𝓤 ω) z (factI 𝓤 ω (emp 𝓤) w))) in
       step (λ s. record { prf = via 𝓤 P (s .prf) (via 𝓤 (sep 𝓤 (emp 𝓤) P) (emp∗ 𝓤 P) (via 𝓤 (sep 𝓤 (and 𝓤 H A φ (and 𝓤 H A χ (and 𝓤 H A ψ (fact 𝓤 ω)))) P) (monoL 𝓤 P h) (comm∗ 𝓤 (and 𝓤 H A φ (and 𝓤 H A χ (and 𝓤 H A ψ (fact 𝓤 ω)))) P))) })
+
+  pub spares : {G : Goal 𝓤 H} → K → {P X : Fml} → Spare 𝓤 H A P X → Step K W (‵ P ∷ ‵ X ∷ Γ) G (‵ P ∷ Γ) G
+  spares t {P} {X} h = step (λ s. use1 W (‵ P ⊛ ‵ X) (h .had) $ split t $ s)
 
   module _ {G : Goal 𝓤 H} (t : K) {κ : Lft} {q : Share} where
     pub token : Step K W (Token 𝓤 κ q ∷ Γ) G (‵ (flft κ q) ∷ Γ) G
@@ -131,15 +146,23 @@ module _ {M : Type 1} {𝓤 : URA M} {H : Heap 𝓤} {A : Atoms 𝓤} {K : Type 
         told (z v) v (λ r ws. move t (3 ∷ []) $ use1 W (raw (fact 𝓤 (φ ws))) (said r ws) $ heard t (φ ws) (λ e. move t (1 ∷ []) $ facts t (Of 𝓤 H A T c x) (Is (Of 𝓤 H A T c x)) (shows 𝓤 H A (Of 𝓤 H A T c x)) r (v ∷ []) (λ is. move t (1 ∷ []) $
         subst (λ (u : Val). Seq K W (‵ (Last 𝓤 H A T c x ws) ∷ Toks 𝓤 H A T c x ∷ Γ) (G u)) (sym (ap only (tl r _ is))) (k ws e))))
 
+    both : (G : Val → Goal 𝓤 H) → ((v : Val) → Soaks (G v)) → (vals : Of 𝓤 H A T c x .Denot → List Val) → Tells (Of 𝓤 H A T c x) (Is (Of 𝓤 H A T c x)) vals → (r₀ : Of 𝓤 H A T c x .Denot) (φ : Ends 𝓤 H A T c x → Type 0)
+        → ((r : Of 𝓤 H A T c x .Denot) (ws : Ends 𝓤 H A T c x) → ent 𝓤 (Ensures 𝓤 H A T c x r ws) (and 𝓤 H A (r ≡ r₀) (fact 𝓤 (φ ws)))) → (Is (Of 𝓤 H A T c x) r₀ (vals r₀) → (ws : Ends 𝓤 H A T c x) → φ ws → Seq K W (‵ (Last 𝓤 H A T c x ws) ∷ Toks 𝓤 H A T c x ∷ Γ) (G (only (vals r₀))))
+        → (v : Val) → Seq K W (raw (Told 𝓤 H A T c .post x v) ∷ Γ) (G v)
+    both G z vals tl r₀ φ said k v =
+        told (z v) v (λ r ws. move t (3 ∷ []) $ use1 W (raw (fact 𝓤 (r ≡ r₀)) ⊛ raw (fact 𝓤 (φ ws))) (said r ws) $ split t $ heard t (r ≡ r₀) (λ e. heard t (φ ws) (λ e′. move t (1 ∷ []) $ facts t (Of 𝓤 H A T c x) (Is (Of 𝓤 H A T c x)) (shows 𝓤 H A (Of 𝓤 H A T c x)) r (v ∷ []) (λ is. move t (1 ∷ []) $
+        subst (λ (u : Val). Seq K W (‵ (Last 𝓤 H A T c x ws) ∷ Toks 𝓤 H A T c x ∷ Γ) (G u)) (sym (ap only (tl r _ is ∙ ap vals e))) (k (subst (λ (s : Of 𝓤 H A T c x .Denot). Is (Of 𝓤 H A T c x) s (vals r₀)) e (subst (Is (Of 𝓤 H A T c x) r) (tl r _ is ∙ ap vals e) is)) ws e′)))))
+
   module _ {E : Env 𝓤 H} {C : Calls 𝓤 H} {Λ : Loops 𝓤 H} {p : Post 𝓤 H} {d : Place} {f : Name} {xs : List Operand} (t : K) (fm : FmC 𝓤 H (W .laws) C)
       (T : Ended) (c : Clauses 𝓤 T) (known : Triple 𝓤 (C f) (Told 𝓤 H A T c)) (x : Told 𝓤 H A T c .Ghost) (req : ent 𝓤 (emp 𝓤) (c (x .0 .0) (x .0 .3) .requires (x .1))) (os : Opds K W (raw (Told 𝓤 H A T c .pre x) ∷ Γ) E xs (Told 𝓤 H A T c .args x)) where
-    pub calls-told : {rest : Body} → ((v : Val) (r : Of 𝓤 H A T c x .Denot) (ws : Ends 𝓤 H A T c x) → Seq K W (Toks 𝓤 H A T c x ∷ ‵ (Of 𝓤 H A T c x .own r (v ∷ [])) ∷ ‵ (Last 𝓤 H A T c x ws) ∷ raw (Ensures 𝓤 H A T c x r ws) ∷ Γ) (lands C Λ E d v rest p))
-        → Seq K W (Toks 𝓤 H A T c x ∷ ‵ (Argued 𝓤 H A T c x) ∷ Γ) (runs C Λ E (seq (call f xs d) rest) p)
-    calls-told k = asked t T c x req $ calls-at t fm (Told 𝓤 H A T c) known x os (λ v. told t T c x tt v (k v))
-
     pub calls-for : {rest : Body} (vals : Of 𝓤 H A T c x .Denot → List Val) → Tells (Of 𝓤 H A T c x) (Is (Of 𝓤 H A T c x)) vals → (r₀ : Of 𝓤 H A T c x .Denot) → ((r : Of 𝓤 H A T c x .Denot) (ws : Ends 𝓤 H A T c x) → ent 𝓤 (Ensures 𝓤 H A T c x r ws) (fact 𝓤 (r ≡ r₀)))
         → (Is (Of 𝓤 H A T c x) r₀ (vals r₀) → Seq K W (Toks 𝓤 H A T c x ∷ Γ) (lands C Λ E d (only (vals r₀)) rest p)) → Seq K W (Toks 𝓤 H A T c x ∷ ‵ (Argued 𝓤 H A T c x) ∷ Γ) (runs C Λ E (seq (call f xs d) rest) p)
     calls-for {rest} vals tl r₀ said k = asked t T c x req $ calls-at t fm (Told 𝓤 H A T c) known x os (fixed t T c x (λ v. lands C Λ E d v rest p) (λ v. tt) vals tl r₀ said k)
+
+    pub calls-both : {rest : Body} (vals : Of 𝓤 H A T c x .Denot → List Val) → Tells (Of 𝓤 H A T c x) (Is (Of 𝓤 H A T c x)) vals → (r₀ : Of 𝓤 H A T c x .Denot) (φ : Ends 𝓤 H A T c x → Type 0)
+        → ((r : Of 𝓤 H A T c x .Denot) (ws : Ends 𝓤 H A T c x) → ent 𝓤 (Ensures 𝓤 H A T c x r ws) (and 𝓤 H A (r ≡ r₀) (fact 𝓤 (φ ws)))) → (Is (Of 𝓤 H A T c x) r₀ (vals r₀) → (ws : Ends 𝓤 H A T c x) → φ ws → Seq K W (‵ (Last 𝓤 H A T c x ws) ∷ Toks 𝓤 H A T c x ∷ Γ) (lands C Λ E d (only (vals r₀)) rest p))
+        → Seq K W (Toks 𝓤 H A T c x ∷ ‵ (Argued 𝓤 H A T c x) ∷ Γ) (runs C Λ E (seq (call f xs d) rest) p)
+    calls-both {rest} vals tl r₀ φ said k = asked t T c x req $ calls-at t fm (Told 𝓤 H A T c) known x os (both t T c x (λ v. lands C Λ E d v rest p) (λ v. tt) vals tl r₀ φ said k)
 
     module _ (tl : Tells (Of 𝓤 H A T c x) (Is (Of 𝓤 H A T c x)) (λ _. vunit ∷ [])) (φ : Ends 𝓤 H A T c x → Type 0) (said : (r : Of 𝓤 H A T c x .Denot) (ws : Ends 𝓤 H A T c x) → ent 𝓤 (Ensures 𝓤 H A T c x r ws) (fact 𝓤 (φ ws))) where
       pub calls-to : {rest : Body} → ((ws : Ends 𝓤 H A T c x) → φ ws → Seq K W (‵ (Last 𝓤 H A T c x ws) ∷ Toks 𝓤 H A T c x ∷ Γ) (lands C Λ E d vunit rest p)) → Seq K W (Toks 𝓤 H A T c x ∷ ‵ (Argued 𝓤 H A T c x) ∷ Γ) (runs C Λ E (seq (call f xs d) rest) p)

@@ -56,3 +56,8 @@ chosen false u w h = absurd h
 pub left : {X : Type 0} (y : Bool) (u w : X) → T (not y) → w ≡ cond y u w
 left true u w h = absurd h
 left false u w h = refl
+
+-- what changes only a record in use that passes a test, where the test fails
+pub unchanged : {X : Type 0} (z y : Bool) (u w : X) → T (not y) → u ≡ cond z u (cond y w u)
+unchanged true y u w h = refl
+unchanged false y u w h = left y w u h

@@ -7,5 +7,7 @@ pub mod IkeTable
 pub mod IpsecTable
 pub mod Kit
 pub mod Loans
+pub mod PolicyTypes
 pub mod Upto
 pub mod Walk
+pub mod Whole

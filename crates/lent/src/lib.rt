@@ -2,3 +2,4 @@
 pub mod ike;
 pub mod owned;
 pub mod places;
+pub mod rules;

@@ -22,8 +22,10 @@ pub fn follow_all(records: &mut [IpsecRecord], owner: u64, pair: Pair)
 {
     let mut i = 0;
     while i < records.len() {
-        let x = records[i];
-        records[i] = follow(x, owner, pair);
+        if records[i].owner == owner {
+            let x = records[i];
+            records[i] = follow(x, owner, pair);
+        }
         i += 1;
     }
 }
@@ -34,8 +36,10 @@ pub fn release_all(records: &mut [IpsecRecord], owner: u64)
 {
     let mut i = 0;
     while i < records.len() {
-        let x = records[i];
-        records[i] = release(x, owner);
+        if records[i].owner == owner {
+            let x = records[i];
+            records[i] = release(x, owner);
+        }
         i += 1;
     }
 }

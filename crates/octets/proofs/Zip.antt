@@ -4,8 +4,7 @@ use mathlib.Core.Path.{_≡_, refl, sym, ap, _∙_}
 use mathlib.Core.List.{List, [], _∷_, zipWith}
 use native.Mathlib.Omega.{arith}
 use lib.ListN.{length, getD, set}
-use lib.Seq.{take-all}
-use Rattle.octets.proofs.Pad.{copied, stored, copied-all}
+use Rattle.octets.proofs.Pad.{copied, stored}
 
 module _ {A B C : Type 0} (f : A → B → C) where
   pub length-zip : (xs : List A) (ys : List B) → length xs ≡ length ys → length (zipWith f xs ys) ≡ length xs
@@ -36,6 +35,3 @@ module _ {A B C : Type 0} (f : A → B → C) where
       joins-one out i a b h e =
           rw (e, ← getD-zip xs ys i a b z (omega arith) (omega arith))
           (stored z (zipWith f xs ys) n i (omega (arith, long)) h z)
-
-      pub joins-all : (out : List C) (i : ℕ) → i ≡ n → out ≡ joined i → out ≡ zipWith f xs ys
-      joins-all out i h e = e ∙ copied-all z (zipWith f xs ys) n i h ∙ take-all n (zipWith f xs ys) (omega (arith, long))

@@ -1,9 +1,9 @@
--- Tests over the elements of a list, and the place of an element.
-use Prim.Native.Nat.{ℕ, zero, suc}
-use mathlib.Core.List.{List, [], _∷_}
+-- Tests over the elements of a list, the place of an element, and the first elements of a list of sixteen.
+use Prim.Native.Nat.{ℕ, zero, suc, _-_}
+use mathlib.Core.List.{List, [], _∷_, _++_}
 use mathlib.Core.Bool.{Bool, true, false, cond, _&&_, _||_}
 use lib.Dec.{eqb}
-use lib.ListN.{getD}
+use lib.ListN.{getD, take, replicate}
 
 module _ {A : Type 0} (f : A → Bool) where
   -- every element passes
@@ -33,3 +33,8 @@ sameAt a b i = eqb (getD a i 0) (getD b i 0)
 
 abbrev pub sameOctets : ℕ → List ℕ → List ℕ → Bool
 sameOctets n a b = allBelow (sameAt a b) n
+
+-- 01: "Places past a list's count ... aren't looked at; in a list newly kept or given they are 0": the first n of a list of
+-- sixteen, and `none` in the places after them.
+abbrev pub firstOnly : {A : Type 0} → A → ℕ → List A → List A
+firstOnly none n xs = take n xs ++ replicate (16 - n) none

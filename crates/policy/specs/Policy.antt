@@ -1,10 +1,10 @@
 -- The policy: which rules may be set, and which pairs they accept.
-use Prim.Native.Nat.{ℕ, _-_, _*_}
-use mathlib.Core.List.{List, _++_}
+use Prim.Native.Nat.{ℕ, _*_}
+use mathlib.Core.List.{List}
 use mathlib.Core.Bool.{Bool, cond, _&&_, not}
 use lib.Dec.{eqb, leb, ltb}
 use lib.ListN.{take, replicate}
-use Rattle.octets.specs.Lists.{all, any}
+use Rattle.octets.specs.Lists.{all, any, firstOnly}
 use Rattle.address.specs.Address.{widthOf, addressFits}
 use Rattle.address.specs.declared.pair.Pair.{Pair}
 use Rattle.policy.specs.Prefix.{prefixMatches}
@@ -41,7 +41,7 @@ noRule = record { family = 0; source = replicate 16 0; destination = replicate 1
 
 -- 01: "Places past a list's count ... aren't looked at; in a list newly kept or given they are 0".
 abbrev pub kept : List Rule → ℕ → List Rule
-kept rules n = take n rules ++ replicate (16 - n) noRule
+kept rules n = firstOnly noRule n rules
 
 abbrev pub policyAnswer : ℕ → Policy → PolicyAnswer
 policyAnswer number policy = record { number = number; policy = policy }

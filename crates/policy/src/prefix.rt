@@ -1,5 +1,6 @@
-// Prefixes of addresses, bit by bit.
+// Prefixes of addresses: whole octets, then the bits of the octet that the prefix ends in.
 ghost use mathlib.Core.Path.{_≡_};
+ghost use mathlib.Core.Bool.{true};
 ghost use Prim.Native.Nat.{_<_, _≤_};
 ghost use Rattle.policy.specs.Prefix.{bitAt, prefixMatches};
 
@@ -14,12 +15,12 @@ pub fn bit_at(octets: [u8; 16], i: u8) -> u8
     (octet >> shift) % 2
 }
 
-// Whether the first n bits are those of the prefix.
-pub fn prefix_matches(prefix: [u8; 16], n: u8, octets: [u8; 16]) -> bool
-    requires { ⌜ n ≤ 128 ⌝ }
+// Whether the first n bits are those of the prefix, where the first `start` are known to be.
+fn bits_match(prefix: [u8; 16], start: u8, n: u8, octets: [u8; 16]) -> bool
+    requires { ⌜ (start ≤ n) × (n ≤ 128) × (prefixMatches prefix start octets ≡ true) ⌝ }
     ensures { λ r. ⌜ r ≡ prefixMatches prefix n octets ⌝ }
 {
-    let mut i = 0;
+    let mut i = start;
     while i < n {
         if bit_at(prefix, i) != bit_at(octets, i) {
             return false;
@@ -27,4 +28,20 @@ pub fn prefix_matches(prefix: [u8; 16], n: u8, octets: [u8; 16]) -> bool
         i += 1;
     }
     true
+}
+
+// Whether the first n bits are those of the prefix.
+pub fn prefix_matches(prefix: [u8; 16], n: u8, octets: [u8; 16]) -> bool
+    requires { ⌜ n ≤ 128 ⌝ }
+    ensures { λ r. ⌜ r ≡ prefixMatches prefix n octets ⌝ }
+{
+    let whole = (n / 8) as usize;
+    let mut i = 0;
+    while i < whole {
+        if prefix[i] != octets[i] {
+            return false;
+        }
+        i += 1;
+    }
+    bits_match(prefix, n / 8 * 8, n, octets)
 }

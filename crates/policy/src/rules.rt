@@ -85,14 +85,13 @@ pub fn rule_matches(rule: Rule, pair: Pair) -> bool
 pub fn is_acceptable(policy: Policy, pair: Pair) -> bool
     ensures { λ r. ⌜ r ≡ acceptable policy pair ⌝ }
 {
-    let rules = policy.rules;
     let count = policy.count as usize;
     let mut i = 0;
     while i < 16 {
         if count <= i {
             return false;
         }
-        let rule = rules[i];
+        let rule = policy.rules[i];
         if rule_matches(rule, pair) {
             return true;
         }

@@ -1,13 +1,14 @@
 -- Laws of scanning: one for each way that a step can end.
 use Prim.Native.Nat.{ℕ, _+_, _≤_}
-use mathlib.Core.Path.{_≡_}
+use mathlib.Core.Path.{_≡_, refl}
 use mathlib.Core.List.{List}
-use mathlib.Core.Bool.{true, false}
+use mathlib.Core.Bool.{Bool, true, false, cond}
 use borrow.Author.Tests.{eq-eqb, ne-eqb}
+use lib.Dec.{eqb}
 use lib.ListN.{length, getD}
 use Rattle.payload.specs.Payload.{payloadAt}
 use Rattle.findings.specs.Seen.{contentNoted, conflicts}
-use Rattle.reader.specs.Chain.{chainAt, scanned, stopped}
+use Rattle.reader.specs.Chain.{ends, faulty, chainAt, endOf, scanned, stopped}
 use Rattle.payload.specs.declared.payload.Fault.{Fault}
 use Rattle.payload.specs.declared.payload.Fault.the-variants.{Leftover, Conflict}
 use Rattle.payload.specs.declared.payload.Content.{Content}
@@ -17,13 +18,13 @@ use Rattle.reader.specs.declared.read.Outcome.the-variants.{Whole, Broke
 use Rattle.reader.proofs.Chain.{chain-step}
 
 module _ (s : Seen) (first : ℕ) (body : List ℕ) (at : ℕ) (inside : at ≤ length body) where
-  pub at-end : first ≡ 0 → at ≡ length body → scanned s (chainAt body first at) ≡ stopped Whole s
+  pub at-end : first ≡ 0 → scanned s (chainAt body first at) ≡ stopped (endOf body at) s
   unfolding scanned
-  at-end z e = rw (chain-step first body at inside, eq-eqb first 0 z, eq-eqb at (length body) e)
-
-  pub at-leftover : first ≡ 0 → (at ≡ length body → ⊥) → scanned s (chainAt body first at) ≡ stopped (Broken Leftover at) s
-  unfolding scanned
-  at-leftover z e = rw (chain-step first body at inside, eq-eqb first 0 z, ne-eqb at (length body) e)
+  at-end z = rw (chain-step first body at inside, eq-eqb first 0 z) (either (eqb at (length body)))
+    where
+      either : (b : Bool) → scanned s (cond b ends (faulty Leftover at)) ≡ stopped (cond b Whole (Broken Leftover at)) s
+      either true = refl
+      either false = refl
 
   module _ (more : first ≡ 0 → ⊥) where
     pub at-fault : (f : Fault) → payloadAt first body at ≡ Faulty f → scanned s (chainAt body first at) ≡ stopped (Broken f at) s

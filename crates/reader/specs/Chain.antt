@@ -52,6 +52,10 @@ unfoldable pub chainAt : List ℕ → ℕ → ℕ → Chain
 unfolding chain
 chainAt body first at = chain (suc (length body - at)) body first at
 
+-- the end of a chain, as the outcome of its scan
+abbrev pub endOf : List ℕ → ℕ → Outcome
+endOf body at = cond (eqb at (length body)) Whole (Broken Leftover at)
+
 -- how a scan ended, and what was seen up to there
 abbrev pub stopped : Outcome → Seen → Scan
 stopped outcome s = record { outcome = outcome; seen = s }

@@ -1,13 +1,18 @@
 // The reader: a chain is checked payload by payload, from its front, to its end or its first fault.
+use findings::seen::Places;
 use findings::seen::Seen;
 use findings::seen::content_noted;
 use findings::seen::in_conflict;
+use findings::seen::list_noted;
 use findings::seen::nothing_seen;
+use findings::seen::with_list;
 use payload::payload::Fault;
 use payload::payload::Found;
 use payload::payload::payload_at;
 ghost use mathlib.Core.Path.{_≡_};
-ghost use Rattle.reader.specs.Chain.{chainAt, scanned, numberOf, typeOf, refused, ReadAs, Scanning};
+ghost use Prim.Native.Nat.{_≤_};
+ghost use Rattle.findings.specs.Seen.{withList};
+ghost use Rattle.reader.specs.Chain.{chainAt, endOf, stopped, scanned, numberOf, typeOf, refused, ReadAs, Scanning};
 
 // How scanning a chain ends: at its end, or at a fault and its offset.
 pub enum Outcome {
@@ -31,41 +36,66 @@ pub struct Reading {
     pub seen: Seen,
 }
 
+// How many payloads one call of `scan_from` checks. A body has room for 1,024 at most, so at most 33 calls stand on the
+// stack.
+pub const RUN: usize = 32;
+
+// The scan that stops with `outcome`, after what was seen with `list` for its list.
+pub fn stop(outcome: Outcome, seen: Seen, list: Places) -> Scan
+    ensures { λ r. ⌜ r ≡ stopped outcome (withList seen list) ⌝ }
+{
+    Scan {
+        outcome,
+        seen: with_list(seen, list),
+    }
+}
+
+// How a chain ends whose last payload ends at `place`.
+pub fn end_at(body: &[u8], place: usize) -> Outcome
+    requires { ⌜ place ≤ 4096 ⌝ }
+    ensures { λ r. ⌜ r ≡ endOf (now (body .entry)) place ⌝ }
+{
+    if place == body.len() {
+        Outcome::Whole
+    } else {
+        Outcome::Broken(Fault::Leftover, place as u16)
+    }
+}
+
 // The chain from `at` on, where a payload of type `first` stands, after what was seen. The octets left fall by at least
-// four with each call.
+// four with each payload, so with each call.
 pub fn scan_from(first: u8, body: &[u8], at: usize, seen: Seen) -> Scan
     requires { ⌜ Scanning (now body) at seen ⌝ }
     ensures { λ r. ⌜ r ≡ scanned seen (chainAt (now (body .entry)) first at) ⌝ }
 {
-    if first == 0 {
-        if at == body.len() {
-            return Scan {
-                outcome: Outcome::Whole,
-                seen,
-            };
+    let mut next = first;
+    let mut place = at;
+    // The list is most of what was seen: in a local of its own it is copied only where an address is added.
+    let mut so_far = seen;
+    let mut list = seen.list;
+    let mut n = 0;
+    while n < RUN {
+        if next == 0 {
+            return stop(end_at(body, place), so_far, list);
         }
-        return Scan {
-            outcome: Outcome::Broken(Fault::Leftover, at as u16),
-            seen,
-        };
-    }
-    let found = payload_at(first, body, at);
-    match found {
-        Found::Faulty(f) => Scan {
-            outcome: Outcome::Broken(f, at as u16),
-            seen,
-        },
-        Found::Payload(size, content) => {
-            if in_conflict(seen, content) {
-                return Scan {
-                    outcome: Outcome::Broken(Fault::Conflict, at as u16),
-                    seen,
-                };
+        let found = payload_at(next, body, place);
+        match found {
+            Found::Faulty(f) => {
+                return stop(Outcome::Broken(f, place as u16), so_far, list);
             }
-            let more = content_noted(seen, content, (at + 8) as u16);
-            scan_from(body[at], body, at + size as usize, more)
+            Found::Payload(size, content) => {
+                if in_conflict(with_list(so_far, list), content) {
+                    return stop(Outcome::Broken(Fault::Conflict, place as u16), so_far, list);
+                }
+                list = list_noted(list, content, (place + 8) as u16);
+                so_far = content_noted(so_far, content, (place + 8) as u16);
+                next = body[place];
+                place = place + size as usize;
+            }
         }
+        n += 1;
     }
+    scan_from(next, body, place, with_list(so_far, list))
 }
 
 // The number that 01 gives a fault.

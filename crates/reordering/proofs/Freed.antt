@@ -15,7 +15,7 @@ use Rattle.tables.specs.Reached.{Tables, tables}
 use Rattle.tables.specs.declared.ike.IkeRecord.{IkeRecord}
 use Rattle.tables.specs.declared.ipsec.IpsecRecord.{IpsecRecord}
 use Rattle.responder.specs.Decide.{tallied, hasList}
-use Rattle.responder.specs.Core.{listSeen}
+use Rattle.findings.specs.Values.{addressesIn}
 use Rattle.responder.specs.Handle.{Request, meant}
 use Rattle.reordering.specs.Requests.{step, seenIn}
 use Rattle.reordering.proofs.Steps.{early, place, entry, owners, step-taken, there}
@@ -60,7 +60,7 @@ advanced-agree q r d e =
       «update_mark» = agree u (idOf q + 1) (idOf r + 1) (e .«update_mark») i;
       «list_mark» = agree l (idOf q + 1) (idOf r + 1) (e .«list_mark») i;
       count = agree l (min (seenIn q .list .count) 16) (min (seenIn r .list .count) 16) (e .count) i;
-      addresses = agree l (listSeen (q .asks .body) (seenIn q)) (listSeen (r .asks .body) (seenIn r)) (e .addresses) i;
+      addresses = agree l (addressesIn (q .asks .body) (seenIn q .list)) (addressesIn (r .asks .body) (seenIn r .list)) (e .addresses) i;
       unknown = tally i;
     }
   where

@@ -8,14 +8,16 @@ use lib.Dec.{eqb, leb}
 use Rattle.octets.proofs.Small.{both}
 use Rattle.address.specs.declared.address.Address.{Address}
 use Rattle.address.specs.declared.pair.Pair.{Pair}
-use Rattle.findings.specs.Values.{noNatsSeen}
+use Rattle.findings.specs.Values.{noNatsSeen, addressesIn}
 use Rattle.findings.specs.declared.seen.Seen.{Seen}
 use Rattle.policy.specs.declared.rules.Policy.{Policy}
 use Rattle.reader.specs.Chain.{reading}
+use Rattle.tables.specs.Records.{marksIn, remarked, relisted}
 use Rattle.tables.specs.Reached.{Tables}
 use Rattle.tables.specs.declared.ike.IkeRecord.{IkeRecord}
-use Rattle.responder.specs.Decide.{tallied, verdict, counted, marked, moved, relisted, decision, leftOff, hasList, listDecided, updateDecided, decided}
-use Rattle.responder.specs.Core.{listSeen, wholeResult, brokenResult, coreResult}
+use Rattle.tables.specs.declared.ike.Marks.{Marks}
+use Rattle.responder.specs.Decide.{tallied, verdict, counted, marked, listMarked, decision, leftOff, hasList, listDecided, updateDecided, decided}
+use Rattle.responder.specs.Core.{decisionOn, coreAnswer, changedBy}
 use Rattle.responder.specs.Handle.{Request}
 use Rattle.responder.specs.declared.decide.Decision.{Decision}
 use Rattle.reordering.specs.Requests.{seenIn, sound}
@@ -34,33 +36,6 @@ lists q e = counts (hasList (seenIn q)) (idOf q) (e .«list_mark»)
 abbrev unknownIn : Request → ℕ
 unknownIn q = seenIn q .tally .«unknown_payloads» + seenIn q .tally .«unknown_notifies»
 
--- the record with these lists kept, if b
-abbrev listedIf : Bool → ℕ → ℕ → List Address → IkeRecord → IkeRecord
-listedIf b id n l r =
-    record {
-      spi = r .spi;
-      mobike = r .mobike;
-      pair = r .pair;
-      «update_mark» = r .«update_mark»;
-      «list_mark» = cond b (id + 1) (r .«list_mark»);
-      count = cond b (min n 16) (r .count);
-      addresses = cond b l (r .addresses);
-      unknown = r .unknown;
-    }
-
-list-entry : (s : Seen) (l : List Address) (id u : ℕ) (r : IkeRecord)
-    → (listDecided s l id u r .entry ≡ listedIf (counts (hasList s) id (r .«list_mark»)) id (s .list .count) l r) × (listDecided s l id u r .update ≡ u)
-unfolding listDecided
-list-entry s l id u r = go (hasList s) (leb (r .«list_mark») id)
-  where
-    chosen : Bool → Bool → Decision
-    chosen a b = cond a (cond b (decision 0 u 1 (leftOff (s .list .count)) (relisted id (s .list .count) l r)) (decision 0 u 2 0 r)) (decision 0 u 0 0 r)
-
-    go : (a b : Bool) → (chosen a b .entry ≡ listedIf (a && b) id (s .list .count) l r) × (chosen a b .update ≡ u)
-    go true true = (refl, refl)
-    go true false = (refl, refl)
-    go false b = (refl, refl)
-
 -- the record after a sound request
 abbrev pub advanced : Request → IkeRecord → IkeRecord
 advanced q e =
@@ -72,51 +47,56 @@ advanced q e =
       «update_mark» = cond (updates q e) (idOf q + 1) (e .«update_mark»);
       «list_mark» = cond (lists q e) (idOf q + 1) (e .«list_mark»);
       count = cond (lists q e) (min (s .list .count) 16) (e .count);
-      addresses = cond (lists q e) (listSeen (q .asks .body) s) (e .addresses);
+      addresses = cond (lists q e) (addressesIn (q .asks .body) (s .list)) (e .addresses);
       unknown = tallied (e .unknown) (unknownIn q);
     }
 
--- steps 1 to 3 where the verdict on an update is 0
-decided-sound : (s : Seen) (l : List Address) (p : Pair) (id v n : ℕ) (e : IkeRecord) → (s .update ≡ true → v ≡ 0)
-    → (updateDecided v s l p id (counted n e) .entry
-    ≡ listedIf (counts (hasList s) id (e .«list_mark»)) id (s .list .count) l
-    (cond (counts (s .update) id (e .«update_mark»)) (moved p (marked id (counted n e))) (counted n e)))
-    × (eqb (updateDecided v s l p id (counted n e) .update) 1 ≡ counts (s .update) id (e .«update_mark»))
-unfolding updateDecided
-decided-sound s l p id v n e z = go (s .update) (leb (e .«update_mark») id) (eqb v 0) (λ u. eq-eqb v 0 (z u))
+-- What a decision comes to where nothing is refused: `u` and `l` say whether the update and the list count.
+pub record Comes (u l : Bool) (id : ℕ) (m : Marks) (d : Decision) : Type 0 where
+  pub update-mark : d .marks .«update_mark» ≡ cond u (id + 1) (m .«update_mark»)
+  pub list-mark : d .marks .«list_mark» ≡ cond l (id + 1) (m .«list_mark»)
+  pub unknown : d .marks .unknown ≡ m .unknown
+  pub moves : eqb (d .update) 1 ≡ u
+  pub relists : eqb (d .list) 1 ≡ l
+
+-- steps 2 and 3 where the verdict on an update is 0, by the tests that they make
+decided-sound : (s : Seen) (id v : ℕ) (m : Marks) → (s .update ≡ true → v ≡ 0)
+    → Comes (counts (s .update) id (m .«update_mark»)) (counts (hasList s) id (m .«list_mark»)) id m (updateDecided v s id m)
+unfolding updateDecided listDecided
+decided-sound s id v m z = go (s .update) (leb (m .«update_mark») id) (eqb v 0) (hasList s) (leb (m .«list_mark») id) (λ u. eq-eqb v 0 (z u))
   where
-    still : IkeRecord
-    still = counted n e
+    third : Bool → Bool → ℕ → Marks → Decision
+    third x y u n = cond x (cond y (decision 0 u 1 (leftOff (s .list .count)) (listMarked id n)) (decision 0 u 2 0 n)) (decision 0 u 0 0 n)
 
-    new : IkeRecord
-    new = moved p (marked id (counted n e))
+    listed : (x y : Bool) (u : ℕ) (b : Bool) (n : Marks) → eqb u 1 ≡ b → n .«update_mark» ≡ cond b (id + 1) (m .«update_mark»)
+        → n .«list_mark» ≡ m .«list_mark» → n .unknown ≡ m .unknown → Comes b (x && y) id m (third x y u n)
+    listed true true u b n e i j k = record { update-mark = i; list-mark = refl; unknown = k; moves = e; relists = refl }
+    listed true false u b n e i j k = record { update-mark = i; list-mark = j; unknown = k; moves = e; relists = refl }
+    listed false y u b n e i j k = record { update-mark = i; list-mark = j; unknown = k; moves = e; relists = refl }
 
-    chosen : Bool → Bool → Bool → Decision
-    chosen a b c = cond a (cond b (cond c (listDecided s l id 1 new) (decision v 0 0 0 (marked id still))) (listDecided s l id 2 still)) (listDecided s l id 0 still)
+    go : (a b c x y : Bool) → (a ≡ true → c ≡ true)
+        → Comes (a && b) (x && y) id m (cond a (cond b (cond c (third x y 1 (marked id m)) (decision v 0 0 0 (marked id m))) (third x y 2 m)) (third x y 0 m))
+    go true true true x y h = listed x y 1 true (marked id m) refl refl refl refl
+    go true true false x y h = absurd (false≢true (h refl))
+    go true false c x y h = listed x y 2 false m refl refl refl refl
+    go false b c x y h = listed x y 0 false m refl refl refl refl
 
-    go : (a b c : Bool) → (a ≡ true → c ≡ true)
-        → (chosen a b c .entry ≡ listedIf (counts (hasList s) id (e .«list_mark»)) id (s .list .count) l (cond (a && b) new still))
-        × (eqb (chosen a b c .update) 1 ≡ a && b)
-    go true true true h = let x = list-entry s l id 1 new in (x .0, ap (λ (u : ℕ). eqb u 1) (x .1))
-    go true true false h = absurd (false≢true (h refl))
-    go true false c h = let x = list-entry s l id 2 still in (x .0, ap (λ (u : ℕ). eqb u 1) (x .1))
-    go false b c h = let x = list-entry s l id 0 still in (x .0, ap (λ (u : ℕ). eqb u 1) (x .1))
-
--- a record of the one field or the other, where both agree on the rest
-spread : (b : Bool) (p : Pair) (id n : ℕ) (e : IkeRecord) (c : Bool) (m : ℕ) (l : List Address)
-    → listedIf c id m l (cond b (moved p (marked id (counted n e))) (counted n e))
+-- the record after a decision that comes to that
+changed-sound : (u l : Bool) (id n : ℕ) (p : Pair) (list : List Address) (e : IkeRecord) (m : Marks) (moves relists : Bool) → moves ≡ u → relists ≡ l
+    → m .«update_mark» ≡ cond u (id + 1) (e .«update_mark») → m .«list_mark» ≡ cond l (id + 1) (e .«list_mark»)
+    → cond relists (relisted n list (remarked m moves p e)) (remarked m moves p e)
     ≡ record {
       spi = e .spi;
       mobike = e .mobike;
-      pair = cond b p (e .pair);
-      «update_mark» = cond b (id + 1) (e .«update_mark»);
-      «list_mark» = cond c (id + 1) (e .«list_mark»);
-      count = cond c (min m 16) (e .count);
-      addresses = cond c l (e .addresses);
-      unknown = tallied (e .unknown) n;
+      pair = cond u p (e .pair);
+      «update_mark» = cond u (id + 1) (e .«update_mark»);
+      «list_mark» = cond l (id + 1) (e .«list_mark»);
+      count = cond l n (e .count);
+      addresses = cond l list (e .addresses);
+      unknown = m .unknown;
     }
-spread true p id n e c m l = refl
-spread false p id n e c m l = refl
+changed-sound u true id n p list e m moves relists f g i j = rw (f, g, i, j)
+changed-sound u false id n p list e m moves relists f g i j = rw (f, g, i, j)
 
 module _ (policy : Policy) (q : Request) where
   pub record Sound : Type 0 where
@@ -124,16 +104,16 @@ module _ (policy : Policy) (q : Request) where
     pub fine : seenIn q .update ≡ true → verdict policy (noNatsSeen (q .asks .body) (seenIn q)) (q .asks .pair) ≡ 0
 
   pub core-sound : Sound → (e : IkeRecord) → (core policy q e .entry ≡ advanced q e) × (core policy q e .moves ≡ updates q e)
-  unfolding coreResult decided
+  unfolding coreAnswer changedBy decided
   core-sound w e =
       let s = seenIn q in
       let v = verdict policy (noNatsSeen (q .asks .body) s) (q .asks .pair) in
-      let d = decided-sound s (listSeen (q .asks .body) s) (q .asks .pair) (idOf q) v (unknownIn q) e (w .fine) in
-      let taken = eq-eqb (reading (q .asks .first) (q .asks .body) .number) 0 (w .whole) in (
-        ap (λ (b : Bool). cond b (wholeResult policy (q .asks) e) (brokenResult (q .asks) e) .entry) taken
-            ∙ d .0
-            ∙ spread (updates q e) (q .asks .pair) (idOf q) (unknownIn q) e (lists q e) (s .list .count) (listSeen (q .asks .body) s),
-        ap (λ (b : Bool). cond b (wholeResult policy (q .asks) e) (brokenResult (q .asks) e) .moves) taken ∙ d .1,
+      let d = decided-sound s (idOf q) v (counted (unknownIn q) (marksIn e)) (w .fine) in
+      let taken = eq-eqb (reading (q .asks .first) (q .asks .body) .number) 0 (w .whole) in
+      rw taken (
+        changed-sound (updates q e) (lists q e) (idOf q) (min (s .list .count) 16) (q .asks .pair) (addressesIn (q .asks .body) (s .list)) e (decisionOn policy (q .asks) (marksIn e) .marks) _ _ (d .moves) (d .relists) (d .update-mark) (d .list-mark)
+            ∙ (rw (d .unknown)),
+        d .moves,
       )
 
 -- 01's soundness on the starting tables, taken apart

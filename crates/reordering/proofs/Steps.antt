@@ -9,13 +9,12 @@ use lib.ListN.{length, set}
 use Rattle.octets.specs.Lists.{placeOf}
 use Rattle.policy.specs.declared.rules.Policy.{Policy}
 use Rattle.findings.specs.Values.{partOf}
-use Rattle.tables.specs.Records.{ikeSpi, follows}
+use Rattle.tables.specs.Records.{ikeSpi, marksIn, follows}
 use Rattle.tables.specs.Reached.{Tables, tables}
 use Rattle.tables.specs.declared.ike.IkeRecord.{IkeRecord}
 use Rattle.tables.specs.declared.ipsec.IpsecRecord.{IpsecRecord}
-use Rattle.responder.specs.Core.{refusalReply, coreResult, coreResponse}
+use Rattle.responder.specs.Core.{CoreResult, refusalReply, coreResult, coreResponse}
 use Rattle.responder.specs.Handle.{Request, meant, earlyNumber, handled, handledResponse}
-use Rattle.responder.specs.declared.core.CoreResult.{CoreResult}
 use Rattle.responder.proofs.Checks.{passed, record-there}
 use Rattle.reordering.specs.Requests.{step, Answer, answer}
 
@@ -44,7 +43,7 @@ module _ (policy : Policy) where
   abbrev pub answerAt : Request → ℕ → IkeRecord → Answer
   answerAt q n e =
       let r = cond (eqb n 0) (core q e .reply) (refusalReply n 0 0) in
-      record { reply = r; cookie = partOf (q .asks .body) (r .cookie) (r .«cookie_len»); octets = cond (eqb n 0) (coreResponse policy (q .asks) e) [] }
+      record { reply = r; cookie = partOf (q .asks .body) (r .cookie) (r .«cookie_len»); octets = cond (eqb n 0) (coreResponse policy (q .asks) (marksIn e)) [] }
 
   pub step-taken : (q : Request) (t : Tables) → early t q ≡ 0 → step policy q t ≡ changed (core q (entry t q)) q t
   unfolding step handled

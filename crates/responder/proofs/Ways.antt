@@ -2,7 +2,7 @@
 use Prim.Native.Nat.{ℕ}
 use mathlib.Core.Path.{_≡_}
 use mathlib.Core.List.{List}
-use mathlib.Core.Bool.{Bool, false}
+use mathlib.Core.Bool.{Bool}
 use borrow.Author.Tests.{eq-eqb, ne-eqb}
 use lib.Dec.{eqb}
 use lib.ListN.{length}
@@ -10,36 +10,37 @@ use Rattle.findings.specs.Values.{noNatsSeen}
 use Rattle.policy.specs.declared.rules.Policy.{Policy}
 use Rattle.reader.specs.Chain.{reading}
 use Rattle.reader.specs.declared.read.Reading.{Reading}
-use Rattle.tables.specs.declared.ike.IkeRecord.{IkeRecord}
+use Rattle.findings.specs.declared.seen.Places.{Places}
+use Rattle.tables.specs.declared.ike.Marks.{Marks}
 use Rattle.responder.specs.Decide.{decided}
-use Rattle.responder.specs.Core.{Asked, wantsNats, cookieIn, listSeen, chainError, refusalReply, decidedOctets, decidedReply, coreResult, coreResponse}
+use Rattle.responder.specs.Core.{Asked, wantsNats, cookieIn, chainError, refusalReply, decidedOctets, decidedReply, unchangedAnswer, coreAnswer, coreResponse}
 use Rattle.responder.specs.declared.decide.Decision.{Decision}
 use Rattle.responder.specs.declared.core.Reply.{Reply}
-use Rattle.responder.specs.declared.core.CoreResult.{CoreResult}
+use Rattle.responder.specs.declared.core.CoreAnswer.{CoreAnswer}
 
-abbrev result : Reply → IkeRecord → Bool → CoreResult
-result reply entry moves = record { reply = reply; entry = entry; moves = moves }
+abbrev result : Reply → Marks → Bool → Bool → Places → CoreAnswer
+result reply m moves relists list = record { reply = reply; marks = m; moves = moves; relists = relists; list = list }
 
-module _ (policy : Policy) (q : Asked) (entry : IkeRecord) (r : Reading) (read : r ≡ reading (q .first) (q .body)) where
+module _ (policy : Policy) (q : Asked) (m : Marks) (r : Reading) (read : r ≡ reading (q .first) (q .body)) where
   -- a chain that was read whole
   module _ (whole : r .number ≡ 0) (d : Decision) (w : Bool) (k : List ℕ)
-      (de : d ≡ decided policy (noNatsSeen (q .body) (r .seen)) (r .seen) (listSeen (q .body) (r .seen)) (q .pair) (q .id) entry)
+      (de : d ≡ decided policy (noNatsSeen (q .body) (r .seen)) (r .seen) (q .pair) (q .id) m)
       (we : w ≡ wantsNats (r .seen)) (ke : k ≡ cookieIn (q .body) (r .seen)) where
-    pub done-response : decidedOctets (d .number) w (q .nat-source) (q .nat-destination) k ≡ coreResponse policy q entry
+    pub done-response : decidedOctets (d .number) w (q .nat-source) (q .nat-destination) k ≡ coreResponse policy q m
     unfolding coreResponse
     done-response = rw (← read, eq-eqb (r .number) 0 whole, ← de, we, ke)
 
     pub done-result : (n : ℕ) (reply : Reply) → n ≡ length (decidedOctets (d .number) w (q .nat-source) (q .nat-destination) k)
-        → reply ≡ decidedReply d (r .seen) n → result reply (d .entry) (eqb (d .update) 1) ≡ coreResult policy q entry
-    unfolding coreResult
+        → reply ≡ decidedReply d (r .seen) n → result reply (d .marks) (eqb (d .update) 1) (eqb (d .list) 1) (r .seen .list) ≡ coreAnswer policy q m
+    unfolding coreAnswer
     done-result n reply ne re = rw (← read, eq-eqb (r .number) 0 whole, ← de, re, ne, we, ke)
 
   -- a chain that was refused
   module _ (broken : r .number ≡ 0 → ⊥) where
-    pub refused-response : chainError r ≡ coreResponse policy q entry
+    pub refused-response : chainError r ≡ coreResponse policy q m
     unfolding coreResponse
     refused-response = rw (← read, ne-eqb (r .number) 0 broken)
 
-    pub refused-result : (reply : Reply) → reply ≡ refusalReply (r .number) (r .offset) (length (chainError r)) → result reply entry false ≡ coreResult policy q entry
-    unfolding coreResult
+    pub refused-result : (reply : Reply) → reply ≡ refusalReply (r .number) (r .offset) (length (chainError r)) → unchangedAnswer reply m ≡ coreAnswer policy q m
+    unfolding coreAnswer
     refused-result reply re = rw (← read, ne-eqb (r .number) 0 broken, re)

@@ -1,23 +1,24 @@
--- One request on the record that it means, after checks 1 to 5: reading, steps 1 to 4, and all that is given back.
-use Prim.Native.Nat.{ℕ}
+-- One request on the record that it means, after checks 1 to 5: reading, steps 1 to 4, all that is given back, and the record after it.
+use Prim.Native.Nat.{ℕ, min}
 use mathlib.Core.List.{List, [], _∷_}
 use mathlib.Core.Bool.{Bool, false, cond, _&&_, not}
 use lib.Dec.{eqb}
 use lib.ListN.{length}
-use Rattle.address.specs.Address.{addressesOf}
-use Rattle.address.specs.declared.address.Address.{Address}
 use Rattle.address.specs.declared.pair.Pair.{Pair}
-use Rattle.findings.specs.Values.{partOf, noNatsSeen, additionalOf}
+use Rattle.findings.specs.Values.{partOf, noNatsSeen, addressesIn}
+use Rattle.findings.specs.Seen.{noPlaces}
 use Rattle.findings.specs.declared.seen.Seen.{Seen}
 use Rattle.policy.specs.declared.rules.Policy.{Policy}
 use Rattle.reader.specs.Chain.{reading}
 use Rattle.reader.specs.declared.read.Reading.{Reading}
+use Rattle.tables.specs.Records.{marksIn, remarked, relisted}
 use Rattle.tables.specs.declared.ike.IkeRecord.{IkeRecord}
+use Rattle.tables.specs.declared.ike.Marks.{Marks}
 use Rattle.responder.specs.Decide.{decided}
 use Rattle.responder.specs.Respond.{errorResponse, doneResponse}
 use Rattle.responder.specs.declared.decide.Decision.{Decision}
 use Rattle.responder.specs.declared.core.Reply.{Reply}
-use Rattle.responder.specs.declared.core.CoreResult.{CoreResult}
+use Rattle.responder.specs.declared.core.CoreAnswer.{CoreAnswer}
 
 -- What a request asks of the record that its SPI means.
 pub record Asked : Type 0 where
@@ -87,35 +88,57 @@ decidedReply d s n =
       length = n;
     }
 
--- the additional addresses of a request, as they are kept
-abbrev pub listSeen : List ℕ → Seen → List Address
-listSeen body s = addressesOf (s .list .families) (additionalOf body (s .list .places) (s .list .families))
-
 -- steps 1 to 3 on what was read
-abbrev pub decisionOn : Policy → Asked → IkeRecord → Decision
-decisionOn policy q entry =
+abbrev pub decisionOn : Policy → Asked → Marks → Decision
+decisionOn policy q m =
     let s = reading (q .first) (q .body) .seen in
-    decided policy (noNatsSeen (q .body) s) s (listSeen (q .body) s) (q .pair) (q .id) entry
+    decided policy (noNatsSeen (q .body) s) s (q .pair) (q .id) m
 
 -- The response to a request that passed checks 1 to 5, by its reading.
-unfoldable pub coreResponse : Policy → Asked → IkeRecord → List ℕ
-coreResponse policy q entry =
+unfoldable pub coreResponse : Policy → Asked → Marks → List ℕ
+coreResponse policy q m =
     let r = reading (q .first) (q .body) in
-    cond (eqb (r .number) 0) (decidedResponse (decisionOn policy q entry .number) q (r .seen)) (chainError r)
+    cond (eqb (r .number) 0) (decidedResponse (decisionOn policy q m .number) q (r .seen)) (chainError r)
 
--- a chain that was read whole: IPsec records follow exactly where the update was applied
-abbrev pub wholeResult : Policy → Asked → IkeRecord → CoreResult
-wholeResult policy q entry =
+abbrev pub unchangedAnswer : Reply → Marks → CoreAnswer
+unchangedAnswer reply m = record { reply = reply; marks = m; moves = false; relists = false; list = noPlaces }
+
+-- a chain that was read whole: the record moves, and its IPsec records follow, exactly where the update was applied
+abbrev pub wholeAnswer : Policy → Asked → Marks → CoreAnswer
+wholeAnswer policy q m =
     let s = reading (q .first) (q .body) .seen in
-    let d = decisionOn policy q entry in
-    record { reply = decidedReply d s (length (decidedResponse (d .number) q s)); entry = d .entry; moves = eqb (d .update) 1 }
+    let d = decisionOn policy q m in
+    record {
+      reply = decidedReply d s (length (decidedResponse (d .number) q s));
+      marks = d .marks;
+      moves = eqb (d .update) 1;
+      relists = eqb (d .list) 1;
+      list = s .list;
+    }
 
 -- a chain that was not: the record stays as it is
-abbrev pub brokenResult : Asked → IkeRecord → CoreResult
-brokenResult q entry =
+abbrev pub brokenAnswer : Asked → Marks → CoreAnswer
+brokenAnswer q m =
     let r = reading (q .first) (q .body) in
-    record { reply = refusalReply (r .number) (r .offset) (length (chainError r)); entry = entry; moves = false }
+    unchangedAnswer (refusalReply (r .number) (r .offset) (length (chainError r))) m
 
--- The reply, the record after it, and whether its IPsec records follow.
-unfoldable pub coreResult : Policy → Asked → IkeRecord → CoreResult
-coreResult policy q entry = cond (eqb (reading (q .first) (q .body) .number) 0) (wholeResult policy q entry) (brokenResult q entry)
+-- The reply, and what changes in the record.
+unfoldable pub coreAnswer : Policy → Asked → Marks → CoreAnswer
+coreAnswer policy q m = cond (eqb (reading (q .first) (q .body) .number) 0) (wholeAnswer policy q m) (brokenAnswer q m)
+
+-- The record after an answer to a request with this pair and this body. 01: "The first 16 are kept".
+unfoldable pub changedBy : CoreAnswer → Pair → List ℕ → IkeRecord → IkeRecord
+changedBy a p body r =
+    let new = remarked (a .marks) (a .moves) p r in
+    cond (a .relists) (relisted (min (a .list .count) 16) (addressesIn body (a .list)) new) new
+
+-- What a request comes to on its record: the reply, the record after it, and whether its IPsec records follow.
+pub record CoreResult : Type 0 where
+  pub reply : Reply
+  pub entry : IkeRecord
+  pub moves : Bool
+
+abbrev pub coreResult : Policy → Asked → IkeRecord → CoreResult
+coreResult policy q r =
+    let a = coreAnswer policy q (marksIn r) in
+    record { reply = a .reply; entry = changedBy a (q .pair) (q .body) r; moves = a .moves }

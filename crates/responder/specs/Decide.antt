@@ -1,16 +1,14 @@
--- One request on the record that it means: 01's "One request, step by step", steps 1 to 3.
+-- One request by the marks of the record that it means: 01's "One request, step by step", steps 1 to 3.
 use Prim.Native.Nat.{ℕ, _+_, _-_, min}
-use mathlib.Core.List.{List}
 use mathlib.Core.Bool.{Bool, cond, _&&_, _||_, not}
 use lib.Dec.{eqb, leb}
 use Rattle.octets.specs.Lists.{sameOctets}
-use Rattle.address.specs.declared.address.Address.{Address}
 use Rattle.address.specs.declared.pair.Pair.{Pair}
 use Rattle.findings.specs.declared.seen.Seen.{Seen}
 use Rattle.findings.specs.declared.values.NoNats.{NoNats}
 use Rattle.policy.specs.Policy.{acceptable}
 use Rattle.policy.specs.declared.rules.Policy.{Policy}
-use Rattle.tables.specs.declared.ike.IkeRecord.{IkeRecord}
+use Rattle.tables.specs.declared.ike.Marks.{Marks}
 use Rattle.responder.specs.declared.decide.Decision.{Decision}
 
 -- 01: "an unknown tally that stays at 4,294,967,295 once there".
@@ -32,65 +30,21 @@ unfoldable pub verdict : Policy → NoNats → Pair → ℕ
 verdict policy n p = cond (unaltered n p) (cond (acceptable policy p) 0 9) 8
 
 -- 01: "Unknown payloads and unknown notifications are added to that record's tally, one each."
-abbrev pub counted : ℕ → IkeRecord → IkeRecord
-counted n r =
-    record {
-      spi = r .spi;
-      mobike = r .mobike;
-      pair = r .pair;
-      «update_mark» = r .«update_mark»;
-      «list_mark» = r .«list_mark»;
-      count = r .count;
-      addresses = r .addresses;
-      unknown = tallied (r .unknown) n;
-    }
+abbrev pub counted : ℕ → Marks → Marks
+counted n m = record { mobike = m .mobike; «update_mark» = m .«update_mark»; «list_mark» = m .«list_mark»; unknown = tallied (m .unknown) n }
 
 -- 01: "Otherwise the mark becomes the ID": the least ID that exceeds it is the next.
-abbrev pub marked : ℕ → IkeRecord → IkeRecord
-marked id r =
-    record {
-      spi = r .spi;
-      mobike = r .mobike;
-      pair = r .pair;
-      «update_mark» = id + 1;
-      «list_mark» = r .«list_mark»;
-      count = r .count;
-      addresses = r .addresses;
-      unknown = r .unknown;
-    }
+abbrev pub marked : ℕ → Marks → Marks
+marked id m = record { mobike = m .mobike; «update_mark» = id + 1; «list_mark» = m .«list_mark»; unknown = m .unknown }
 
--- 01: "the IKE record ... take[s] the packet's pair".
-abbrev pub moved : Pair → IkeRecord → IkeRecord
-moved p r =
-    record {
-      spi = r .spi;
-      mobike = r .mobike;
-      pair = p;
-      «update_mark» = r .«update_mark»;
-      «list_mark» = r .«list_mark»;
-      count = r .count;
-      addresses = r .addresses;
-      unknown = r .unknown;
-    }
+-- 01: "an ID above the list mark replaces list and list mark".
+abbrev pub listMarked : ℕ → Marks → Marks
+listMarked id m = record { mobike = m .mobike; «update_mark» = m .«update_mark»; «list_mark» = id + 1; unknown = m .unknown }
 
--- 01: "an ID above the list mark replaces list and list mark ... The first 16 are kept".
-abbrev pub relisted : ℕ → ℕ → List Address → IkeRecord → IkeRecord
-relisted id n addresses r =
-    record {
-      spi = r .spi;
-      mobike = r .mobike;
-      pair = r .pair;
-      «update_mark» = r .«update_mark»;
-      «list_mark» = id + 1;
-      count = min n 16;
-      addresses = addresses;
-      unknown = r .unknown;
-    }
+abbrev pub decision : ℕ → ℕ → ℕ → ℕ → Marks → Decision
+decision number update list off m = record { number = number; update = update; list = list; «left_off» = off; marks = m }
 
-abbrev pub decision : ℕ → ℕ → ℕ → ℕ → IkeRecord → Decision
-decision number update list off r = record { number = number; update = update; list = list; «left_off» = off; entry = r }
-
--- 01: "the answer tells how many were left off".
+-- 01: "The first 16 are kept; the answer tells how many were left off".
 abbrev pub leftOff : ℕ → ℕ
 leftOff n = n - 16
 
@@ -99,28 +53,23 @@ abbrev pub hasList : Seen → Bool
 hasList s = s .«no_additional» || not (eqb (s .list .count) 0)
 
 -- Step 3: the list by its own mark. The update came to `update` before (0 none, 1 applied, 2 stale).
-unfoldable pub listDecided : Seen → List Address → ℕ → ℕ → IkeRecord → Decision
-listDecided s addresses id update r =
+unfoldable pub listDecided : Seen → ℕ → ℕ → Marks → Decision
+listDecided s id update m =
     cond (hasList s)
-    (cond (leb (r .«list_mark») id)
-    (decision 0 update 1 (leftOff (s .list .count)) (relisted id (s .list .count) addresses r))
-    (decision 0 update 2 0 r))
-    (decision 0 update 0 0 r)
+    (cond (leb (m .«list_mark») id) (decision 0 update 1 (leftOff (s .list .count)) (listMarked id m)) (decision 0 update 2 0 m))
+    (decision 0 update 0 0 m)
 
--- Step 2, on the record with its tally: "if the ID doesn't exceed the update mark, the update is stale and has no effect";
+-- Step 2, with the tally counted: "if the ID doesn't exceed the update mark, the update is stale and has no effect";
 -- "Unless 8 or 9" step 3 follows.
-unfoldable pub updateDecided : ℕ → Seen → List Address → Pair → ℕ → IkeRecord → Decision
-updateDecided number s addresses p id r =
+unfoldable pub updateDecided : ℕ → Seen → ℕ → Marks → Decision
+updateDecided number s id m =
     cond (s .update)
-    (cond (leb (r .«update_mark») id)
-    (cond (eqb number 0)
-    (listDecided s addresses id 1 (moved p (marked id r)))
-    (decision number 0 0 0 (marked id r)))
-    (listDecided s addresses id 2 r))
-    (listDecided s addresses id 0 r)
+    (cond (leb (m .«update_mark») id)
+    (cond (eqb number 0) (listDecided s id 1 (marked id m)) (decision number 0 0 0 (marked id m)))
+    (listDecided s id 2 m))
+    (listDecided s id 0 m)
 
 -- Steps 1 to 3.
-unfoldable pub decided : Policy → NoNats → Seen → List Address → Pair → ℕ → IkeRecord → Decision
-decided policy n s addresses p id r =
-    updateDecided (verdict policy n p) s addresses p id
-    (counted (s .tally .«unknown_payloads» + s .tally .«unknown_notifies») r)
+unfoldable pub decided : Policy → NoNats → Seen → Pair → ℕ → Marks → Decision
+decided policy n s p id m =
+    updateDecided (verdict policy n p) s id (counted (s .tally .«unknown_payloads» + s .tally .«unknown_notifies») m)

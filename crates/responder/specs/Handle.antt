@@ -8,12 +8,13 @@ use Rattle.octets.specs.Lists.{placeOf}
 use Rattle.address.specs.Address.{pairFits}
 use Rattle.address.specs.declared.pair.Pair.{Pair}
 use Rattle.policy.specs.declared.rules.Policy.{Policy}
-use Rattle.tables.specs.Records.{ikeSpi, noIke, follows}
+use Rattle.tables.specs.Records.{ikeSpi, noIke, marksIn, follows}
 use Rattle.tables.specs.Calls.{hasIke, listFits}
 use Rattle.tables.specs.declared.ike.IkeRecord.{IkeRecord}
+use Rattle.tables.specs.declared.ike.Marks.{Marks}
 use Rattle.tables.specs.declared.ipsec.IpsecRecord.{IpsecRecord}
-use Rattle.responder.specs.Core.{Asked, refusalReply, coreResult, coreResponse}
-use Rattle.responder.specs.declared.core.CoreResult.{CoreResult}
+use Rattle.responder.specs.Core.{Asked, refusalReply, unchangedAnswer, coreAnswer, coreResult, coreResponse}
+use Rattle.responder.specs.declared.core.CoreAnswer.{CoreAnswer}
 use Rattle.responder.specs.declared.core.Reply.{Reply}
 
 -- 01: "A request is given as SPI, ID, packet's pair, the two NAT values, first type, body." Its output's length belongs to it too.
@@ -68,22 +69,22 @@ handled policy ike ipsec q =
 
 -- The response's octets; "None" for 1 to 5.
 unfoldable pub handledResponse : Policy → List IkeRecord → List IpsecRecord → Request → List ℕ
-handledResponse policy ike ipsec q = cond (eqb (earlyNumber ike ipsec q) 0) (coreResponse policy (q .asks) (meant ike (q .spi))) []
+handledResponse policy ike ipsec q = cond (eqb (earlyNumber ike ipsec q) 0) (coreResponse policy (q .asks) (marksIn (meant ike (q .spi)))) []
 
--- The same by what was looked up: how many IPsec records are lent, the lowest place with the SPI, and the record there.
+-- The same by what was looked up: how many IPsec records are lent, the lowest place with the SPI, and the marks of the record there.
 -- `proofs/Looked.antt` shows that with this and the tables' change around it a request is handled.
-abbrev pub recordNumberAt : ℕ → IkeRecord → ℕ
-recordNumberAt place entry = cond (ltb place 32) (cond (entry .mobike) 0 5) 4
+abbrev pub recordNumberAt : ℕ → Marks → ℕ
+recordNumberAt place m = cond (ltb place 32) (cond (m .mobike) 0 5) 4
 
-abbrev pub earlyNumberAt : ℕ → ℕ → IkeRecord → Request → ℕ
-earlyNumberAt size place entry q =
+abbrev pub earlyNumberAt : ℕ → ℕ → Marks → Request → ℕ
+earlyNumberAt size place m q =
     checkedNumber (eqb size 128 && argumentsFit (q .spi) (q .asks .pair) (q .asks .nat-source) (q .asks .nat-destination))
-    (q .room) (length (q .asks .body)) (recordNumberAt place entry)
+    (q .room) (length (q .asks .body)) (recordNumberAt place m)
 
-unfoldable pub answered : Policy → ℕ → ℕ → IkeRecord → Request → CoreResult
-answered policy size place entry q =
-    cond (eqb (earlyNumberAt size place entry q) 0) (coreResult policy (q .asks) entry)
-    (record { reply = refusalReply (earlyNumberAt size place entry q) 0 0; entry = entry; moves = false })
+unfoldable pub answered : Policy → ℕ → ℕ → Marks → Request → CoreAnswer
+answered policy size place m q =
+    cond (eqb (earlyNumberAt size place m q) 0) (coreAnswer policy (q .asks) m)
+    (unchangedAnswer (refusalReply (earlyNumberAt size place m q) 0 0) m)
 
-unfoldable pub answeredResponse : Policy → ℕ → ℕ → IkeRecord → Request → List ℕ
-answeredResponse policy size place entry q = cond (eqb (earlyNumberAt size place entry q) 0) (coreResponse policy (q .asks) entry) []
+unfoldable pub answeredResponse : Policy → ℕ → ℕ → Marks → Request → List ℕ
+answeredResponse policy size place m q = cond (eqb (earlyNumberAt size place m q) 0) (coreResponse policy (q .asks) m) []

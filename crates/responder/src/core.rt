@@ -1,26 +1,31 @@
-// One request on the one record that it means, by value: read, decide, respond.
+// One request by the marks of the record that it means: read, decide, respond.
 use crate::decide::DONE;
 use crate::decide::Decision;
 use crate::decide::decide;
 use crate::respond::put_done;
 use crate::respond::put_error;
-use address::address::addresses_of;
 use address::pair::Pair;
+use findings::seen::Places;
 use findings::seen::Seen;
-use findings::values::additional;
+use findings::seen::nothing_seen;
+use findings::values::addresses_in;
 use findings::values::cookie;
+use findings::values::kept_count;
 use findings::values::no_nats;
 use policy::rules::Policy;
 use reader::read::Reading;
 use reader::read::read;
 use tables::ike::IkeRecord;
+use tables::ike::Marks;
+use tables::ike::relist;
+use tables::ike::remark;
 ghost use mathlib.Core.Path.{_≡_};
 ghost use Prim.Native.Nat.{_≤_};
 ghost use lib.ListN.{length};
 ghost use Rattle.findings.specs.Values.{noNatsSeen};
 ghost use Rattle.responder.specs.Decide.{decided};
 ghost use Rattle.writing.specs.Notify.{placed};
-ghost use Rattle.responder.specs.Core.{asked, firstOf, refusalReply, chainError, wantsNats, decidedOctets, decidedReply, listSeen, coreResult, coreResponse};
+ghost use Rattle.responder.specs.Core.{asked, firstOf, refusalReply, chainError, wantsNats, decidedOctets, decidedReply, unchangedAnswer, coreAnswer, coreResponse, changedBy};
 
 // All that a call gives back but the tables. The cookie is the part of the body at `cookie`.
 #[repr(C)]
@@ -37,11 +42,14 @@ pub struct Reply {
     pub length: u16,
 }
 
-// The reply, the record after the request, and whether its IPsec records follow it.
-pub struct CoreResult {
+// The reply, and what changes in the record: its marks, its pair if it moves (and its IPsec records follow it), its list if that is
+// replaced, by where the new one stands in the body.
+pub struct CoreAnswer {
     pub reply: Reply,
-    pub entry: IkeRecord,
+    pub marks: Marks,
     pub moves: bool,
+    pub relists: bool,
+    pub list: Places,
 }
 
 // The type of a response's first payload.
@@ -130,16 +138,12 @@ pub fn decide_seen(
     body: &[u8],
     pair: Pair,
     id: u32,
-    entry: IkeRecord,
+    marks: Marks,
 ) -> Decision
-    ensures { λ r. ⌜ r ≡ decided policy (noNatsSeen (now (body .entry)) seen) seen (listSeen (now (body .entry)) seen) pair id entry ⌝ }
+    ensures { λ r. ⌜ r ≡ decided policy (noNatsSeen (now (body .entry)) seen) seen pair id marks ⌝ }
 {
     let n = no_nats(body, seen);
-    let l = seen.list;
-    let octets = additional(body, l);
-    let families = l.families;
-    let addresses = addresses_of(families, octets);
-    decide(policy, n, seen, addresses, pair, id, entry)
+    decide(policy, n, seen, pair, id, marks)
 }
 
 // All that is told of a decision but the tables, with a response of so many octets.
@@ -161,10 +165,25 @@ pub fn reply_to(d: Decision, seen: Seen, length: u16) -> Reply
     }
 }
 
-// One request that passed checks 1 to 5, on the record that it means.
+// A reply that changes nothing in the record.
+pub fn unchanged(reply: Reply, marks: Marks) -> CoreAnswer
+    ensures { λ r. ⌜ r ≡ unchangedAnswer reply marks ⌝ }
+{
+    let none = nothing_seen();
+    let list = none.list;
+    CoreAnswer {
+        reply,
+        marks,
+        moves: false,
+        relists: false,
+        list,
+    }
+}
+
+// One request that passed checks 1 to 5, by the marks of the record that it means.
 pub fn respond_to(
     policy: Policy,
-    entry: IkeRecord,
+    marks: Marks,
     id: u32,
     pair: Pair,
     source: &[u8],
@@ -172,30 +191,43 @@ pub fn respond_to(
     first: u8,
     body: &[u8],
     out: &mut [u8],
-) -> CoreResult
+) -> CoreAnswer
     requires { ⌜ (128 ≤ length (now out)) × (length (now source) ≡ 20) × (length (now destination) ≡ 20) ⌝ }
-    ensures { λ r. ⌜ r ≡ coreResult policy (asked id pair (now (source .entry)) (now (destination .entry)) first (now (body .entry))) entry ⌝ }
-    ensures { λ _. ⌜ now (out .exit) ≡ placed (now (out .entry)) 0 (coreResponse policy (asked id pair (now (source .entry)) (now (destination .entry)) first (now (body .entry))) entry) ⌝ }
+    ensures { λ r. ⌜ r ≡ coreAnswer policy (asked id pair (now (source .entry)) (now (destination .entry)) first (now (body .entry))) marks ⌝ }
+    ensures { λ _. ⌜ now (out .exit) ≡ placed (now (out .entry)) 0 (coreResponse policy (asked id pair (now (source .entry)) (now (destination .entry)) first (now (body .entry))) marks) ⌝ }
 {
     let r = read(first, body);
     let seen = r.seen;
     if r.number == 0 {
-        let d = decide_seen(policy, seen, body, pair, id, entry);
+        let d = decide_seen(policy, seen, body, pair, id, marks);
         let wanted = wants_nats(seen);
         let k = cookie(body, seen);
         let length = respond_decided(d.number, wanted, source, destination, k, out);
         let reply = reply_to(d, seen, length as u16);
-        let new = d.entry;
-        return CoreResult {
+        let marks = d.marks;
+        let list = seen.list;
+        return CoreAnswer {
             reply,
-            entry: new,
+            marks,
             moves: d.update == DONE,
+            relists: d.list == DONE,
+            list,
         };
     }
     let reply = refuse_chain(r, out);
-    CoreResult {
-        reply,
-        entry,
-        moves: false,
+    unchanged(reply, marks)
+}
+
+// The record after an answer. The list is built only where it is replaced.
+pub fn changed(entry: IkeRecord, a: CoreAnswer, pair: Pair, body: &[u8]) -> IkeRecord
+    ensures { λ r. ⌜ r ≡ changedBy a pair (now (body .entry)) entry ⌝ }
+{
+    let marks = a.marks;
+    let new = remark(entry, marks, a.moves, pair);
+    if a.relists {
+        let l = a.list;
+        let addresses = addresses_in(body, l);
+        return relist(new, kept_count(l.count), addresses);
     }
+    new
 }

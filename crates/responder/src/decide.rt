@@ -1,15 +1,14 @@
-// The decision on one record, by value: what a request that was read changes in it, and what it is answered.
-use address::address::Address;
+// The decision on one record, by its marks: what a request that was read changes in it, and what it is answered.
 use address::address::same_address;
 use address::pair::Pair;
 use findings::seen::Seen;
 use findings::values::NoNats;
 use policy::rules::Policy;
 use policy::rules::is_acceptable;
-use tables::ike::IkeRecord;
+use tables::ike::Marks;
 ghost use mathlib.Core.Path.{_≡_};
 ghost use Prim.Native.Nat.{_<_};
-ghost use Rattle.responder.specs.Decide.{tallied, unaltered, verdict, hasList, listDecided, updateDecided, decided};
+ghost use Rattle.responder.specs.Decide.{tallied, unaltered, verdict, hasList, leftOff, listDecided, updateDecided, decided};
 
 // What an update or a list came to. 01's words for the numbers: none, applied or replaced, stale.
 pub const NONE: u8 = 0;
@@ -19,13 +18,13 @@ pub const DONE: u8 = 1;
 pub const STALE: u8 = 2;
 
 // The decision: the number (0, 8 or 9), what became of the update and of the list, how many addresses were left off,
-// and the record after it.
+// and the marks after it.
 pub struct Decision {
     pub number: u8,
     pub update: u8,
     pub list: u8,
     pub left_off: u16,
-    pub entry: IkeRecord,
+    pub marks: Marks,
 }
 
 // The tally with n more; it stays at its greatest value once there.
@@ -88,39 +87,28 @@ pub fn carries_list(seen: Seen) -> bool
     }
 }
 
+// How many of n addresses are left off, where sixteen are kept.
+pub fn left_off(n: u16) -> u16
+    ensures { λ r. ⌜ r ≡ leftOff n ⌝ }
+{
+    if 16 < n { n - 16 } else { 0 }
+}
+
 // Step 3: an ID above the list mark replaces the list; what became of the update is told on.
-pub fn decide_list(
-    seen: Seen,
-    addresses: [Address; 16],
-    id: u32,
-    update: u8,
-    entry: IkeRecord,
-) -> Decision
-    ensures { λ r. ⌜ r ≡ listDecided seen addresses id update entry ⌝ }
+pub fn decide_list(seen: Seen, id: u32, update: u8, marks: Marks) -> Decision
+    ensures { λ r. ⌜ r ≡ listDecided seen id update marks ⌝ }
 {
     if carries_list(seen) {
-        if entry.list_mark <= id as u64 {
+        if marks.list_mark <= id as u64 {
             let l = seen.list;
-            let mut new = entry;
+            let mut new = marks;
             new.list_mark = id as u64 + 1;
-            new.addresses = addresses;
-            if 16 < l.count {
-                new.count = 16;
-                return Decision {
-                    number: 0,
-                    update,
-                    list: DONE,
-                    left_off: l.count - 16,
-                    entry: new,
-                };
-            }
-            new.count = l.count;
             return Decision {
                 number: 0,
                 update,
                 list: DONE,
-                left_off: 0,
-                entry: new,
+                left_off: left_off(l.count),
+                marks: new,
             };
         }
         return Decision {
@@ -128,7 +116,7 @@ pub fn decide_list(
             update,
             list: STALE,
             left_off: 0,
-            entry,
+            marks,
         };
     }
     Decision {
@@ -136,64 +124,41 @@ pub fn decide_list(
         update,
         list: NONE,
         left_off: 0,
-        entry,
+        marks,
     }
 }
 
 // Step 2, then step 3 unless the update was refused with `verdict`.
-pub fn decide_update(
-    verdict: u8,
-    seen: Seen,
-    addresses: [Address; 16],
-    pair: Pair,
-    id: u32,
-    entry: IkeRecord,
-) -> Decision
-    ensures { λ r. ⌜ r ≡ updateDecided verdict seen addresses pair id entry ⌝ }
+pub fn decide_update(verdict: u8, seen: Seen, id: u32, marks: Marks) -> Decision
+    ensures { λ r. ⌜ r ≡ updateDecided verdict seen id marks ⌝ }
 {
     if seen.update {
-        if entry.update_mark <= id as u64 {
-            let mut new = entry;
+        if marks.update_mark <= id as u64 {
+            let mut new = marks;
             new.update_mark = id as u64 + 1;
             if verdict == 0 {
-                new.pair = pair;
-                return decide_list(seen, addresses, id, DONE, new);
+                return decide_list(seen, id, DONE, new);
             }
             return Decision {
                 number: verdict,
                 update: NONE,
                 list: NONE,
                 left_off: 0,
-                entry: new,
+                marks: new,
             };
         }
-        return decide_list(seen, addresses, id, STALE, entry);
+        return decide_list(seen, id, STALE, marks);
     }
-    decide_list(seen, addresses, id, NONE, entry)
+    decide_list(seen, id, NONE, marks)
 }
 
-// Steps 1 to 3 on the record that the request means.
-pub fn decide(
-    policy: Policy,
-    n: NoNats,
-    seen: Seen,
-    addresses: [Address; 16],
-    pair: Pair,
-    id: u32,
-    entry: IkeRecord,
-) -> Decision
-    ensures { λ r. ⌜ r ≡ decided policy n seen addresses pair id entry ⌝ }
+// Steps 1 to 3 by the marks of the record that the request means.
+pub fn decide(policy: Policy, n: NoNats, seen: Seen, pair: Pair, id: u32, marks: Marks) -> Decision
+    ensures { λ r. ⌜ r ≡ decided policy n seen pair id marks ⌝ }
 {
     let t = seen.tally;
     let unknown = t.unknown_payloads as u32 + t.unknown_notifies as u32;
-    let mut new = entry;
-    new.unknown = add_tally(entry.unknown, unknown);
-    decide_update(
-        judge_update(policy, n, pair),
-        seen,
-        addresses,
-        pair,
-        id,
-        new,
-    )
+    let mut new = marks;
+    new.unknown = add_tally(marks.unknown, unknown);
+    decide_update(judge_update(policy, n, pair), seen, id, new)
 }

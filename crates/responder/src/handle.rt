@@ -1,11 +1,12 @@
-// One request on the record that its SPI means: checks 1 to 5, then the core. The tables around it are `lent`'s.
-use crate::core::CoreResult;
+// One request by the marks of the record that its SPI means: checks 1 to 5, then the core. The tables around it are `lent`'s.
+use crate::core::CoreAnswer;
 use crate::core::refusal;
 use crate::core::respond_to;
+use crate::core::unchanged;
 use address::pair::Pair;
 use address::pair::pair_fits;
 use policy::rules::Policy;
-use tables::ike::IkeRecord;
+use tables::ike::Marks;
 ghost use mathlib.Core.Path.{_≡_};
 ghost use mathlib.Core.Bool.{_&&_};
 ghost use lib.Dec.{eqb};
@@ -34,11 +35,11 @@ pub fn arguments_fit(size: usize, spi: u64, pair: Pair, source: &[u8], destinati
 }
 
 // Checks 4 and 5: whether there is a record, and whether MOBIKE was agreed for it.
-pub fn record_number(place: usize, entry: IkeRecord) -> u8
-    ensures { λ r. ⌜ r ≡ recordNumberAt place entry ⌝ }
+pub fn record_number(place: usize, marks: Marks) -> u8
+    ensures { λ r. ⌜ r ≡ recordNumberAt place marks ⌝ }
 {
     if place < 32 {
-        if entry.mobike { 0 } else { 5 }
+        if marks.mobike { 0 } else { 5 }
     } else {
         4
     }
@@ -48,7 +49,7 @@ pub fn record_number(place: usize, entry: IkeRecord) -> u8
 pub fn early_number(
     size: usize,
     place: usize,
-    entry: IkeRecord,
+    marks: Marks,
     spi: u64,
     pair: Pair,
     source: &[u8],
@@ -56,7 +57,7 @@ pub fn early_number(
     body: &[u8],
     room: usize,
 ) -> u8
-    ensures { λ r. ⌜ r ≡ checkedNumber (eqb size 128 && argumentsFit spi pair (now (source .entry)) (now (destination .entry))) room (length (now (body .entry))) (recordNumberAt place entry) ⌝ }
+    ensures { λ r. ⌜ r ≡ checkedNumber (eqb size 128 && argumentsFit spi pair (now (source .entry)) (now (destination .entry))) room (length (now (body .entry))) (recordNumberAt place marks) ⌝ }
 {
     if arguments_fit(size, spi, pair, source, destination) {
         if room < 128 {
@@ -65,17 +66,17 @@ pub fn early_number(
         if 4096 < body.len() {
             return 3;
         }
-        return record_number(place, entry);
+        return record_number(place, marks);
     }
     1
 }
 
-// Answers one request beside a list of `size` IPsec records; `entry` is the record at the lowest place with its SPI. The response
+// Answers one request beside a list of `size` IPsec records; `marks` are those of the record at the lowest place with its SPI. The response
 // goes to the start of `out`, and what is past it stays as it was.
 pub fn answer(
     size: usize,
     place: usize,
-    entry: IkeRecord,
+    marks: Marks,
     policy: Policy,
     spi: u64,
     id: u32,
@@ -85,14 +86,14 @@ pub fn answer(
     first: u8,
     body: &[u8],
     out: &mut [u8],
-) -> CoreResult
-    ensures { λ r. ⌜ r ≡ answered policy size place entry (request spi (asked id pair (now (source .entry)) (now (destination .entry)) first (now (body .entry))) (length (now (out .entry)))) ⌝ }
-    ensures { λ _. ⌜ now (out .exit) ≡ placed (now (out .entry)) 0 (answeredResponse policy size place entry (request spi (asked id pair (now (source .entry)) (now (destination .entry)) first (now (body .entry))) (length (now (out .entry))))) ⌝ }
+) -> CoreAnswer
+    ensures { λ r. ⌜ r ≡ answered policy size place marks (request spi (asked id pair (now (source .entry)) (now (destination .entry)) first (now (body .entry))) (length (now (out .entry)))) ⌝ }
+    ensures { λ _. ⌜ now (out .exit) ≡ placed (now (out .entry)) 0 (answeredResponse policy size place marks (request spi (asked id pair (now (source .entry)) (now (destination .entry)) first (now (body .entry))) (length (now (out .entry))))) ⌝ }
 {
     let number = early_number(
         size,
         place,
-        entry,
+        marks,
         spi,
         pair,
         source,
@@ -102,15 +103,11 @@ pub fn answer(
     );
     if number != 0 {
         let reply = refusal(number, 0, 0);
-        return CoreResult {
-            reply,
-            entry,
-            moves: false,
-        };
+        return unchanged(reply, marks);
     }
     respond_to(
         policy,
-        entry,
+        marks,
         id,
         pair,
         source,

@@ -1,11 +1,14 @@
--- IKE and IPsec records: their keys, new ones, closed ones.
+-- IKE and IPsec records: their keys, new ones, closed ones, and how one is changed.
 use Prim.Native.Nat.{ℕ}
 use mathlib.Core.Bool.{Bool, false, cond}
+use mathlib.Core.List.{List}
 use lib.Dec.{eqb}
 use lib.ListN.{replicate}
 use Rattle.address.specs.Address.{noPair, noAddress}
+use Rattle.address.specs.declared.address.Address.{Address}
 use Rattle.address.specs.declared.pair.Pair.{Pair}
 use Rattle.tables.specs.declared.ike.IkeRecord.{IkeRecord}
+use Rattle.tables.specs.declared.ike.Marks.{Marks}
 use Rattle.tables.specs.declared.ipsec.IpsecRecord.{IpsecRecord}
 
 abbrev pub ikeSpi : IkeRecord → ℕ
@@ -45,3 +48,35 @@ released owner r = cond (eqb (r .spi) 0) r (cond (eqb (r .owner) owner) noIpsec 
 -- 01: "the IKE record and all its IPsec records take the packet's pair, and no other record changes": those in use with this owner.
 abbrev pub follows : ℕ → Pair → IpsecRecord → IpsecRecord
 follows owner pair r = cond (eqb (r .spi) 0) r (cond (eqb (r .owner) owner) (newIpsec (r .spi) (r .owner) pair) r)
+
+-- what of a record a request is decided by: 01's "MOBIKE agreed or not", "an update mark and a list mark", "an unknown tally"
+abbrev pub marksIn : IkeRecord → Marks
+marksIn r = record { mobike = r .mobike; «update_mark» = r .«update_mark»; «list_mark» = r .«list_mark»; unknown = r .unknown }
+
+-- the record with these marks and this tally; and, where it moves, "the IKE record ... take[s] the packet's pair"
+abbrev pub remarked : Marks → Bool → Pair → IkeRecord → IkeRecord
+remarked m moves pair r =
+    record {
+      spi = r .spi;
+      mobike = r .mobike;
+      pair = cond moves pair (r .pair);
+      «update_mark» = m .«update_mark»;
+      «list_mark» = m .«list_mark»;
+      count = r .count;
+      addresses = r .addresses;
+      unknown = m .unknown;
+    }
+
+-- the record with another list
+abbrev pub relisted : ℕ → List Address → IkeRecord → IkeRecord
+relisted count addresses r =
+    record {
+      spi = r .spi;
+      mobike = r .mobike;
+      pair = r .pair;
+      «update_mark» = r .«update_mark»;
+      «list_mark» = r .«list_mark»;
+      count = count;
+      addresses = addresses;
+      unknown = r .unknown;
+    }

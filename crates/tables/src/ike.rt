@@ -1,8 +1,8 @@
-// IKE records: a new one, a closed one.
+// IKE records: a new one, a closed one, and what a request changes in one.
 use address::address::Address;
 use address::pair::Pair;
 ghost use mathlib.Core.Path.{_≡_};
-ghost use Rattle.tables.specs.Records.{newIke, noIke};
+ghost use Rattle.tables.specs.Records.{newIke, noIke, marksIn, remarked, relisted};
 
 // A place is free when its SPI is 0. A mark is the least message ID that exceeds it: 0 for none, and the ID and one for an ID.
 #[repr(C)]
@@ -14,6 +14,15 @@ pub struct IkeRecord {
     pub list_mark: u64,
     pub count: u16,
     pub addresses: [Address; 16],
+    pub unknown: u32,
+}
+
+// What a request is decided by in its record, and changes there whether it moves or not. Decisions go by these alone, so that a request
+// does not carry the record's list about.
+pub struct Marks {
+    pub mobike: bool,
+    pub update_mark: u64,
+    pub list_mark: u64,
     pub unknown: u32,
 }
 
@@ -49,4 +58,39 @@ pub fn no_ike() -> IkeRecord
         destination_port: 0,
     };
     new_ike(0, false, pair)
+}
+
+pub fn marks_of(entry: IkeRecord) -> Marks
+    ensures { λ r. ⌜ r ≡ marksIn entry ⌝ }
+{
+    Marks {
+        mobike: entry.mobike,
+        update_mark: entry.update_mark,
+        list_mark: entry.list_mark,
+        unknown: entry.unknown,
+    }
+}
+
+// The record with these marks and this tally, and with the pair if it moves.
+pub fn remark(entry: IkeRecord, marks: Marks, moves: bool, pair: Pair) -> IkeRecord
+    ensures { λ r. ⌜ r ≡ remarked marks moves pair entry ⌝ }
+{
+    let mut new = entry;
+    new.update_mark = marks.update_mark;
+    new.list_mark = marks.list_mark;
+    new.unknown = marks.unknown;
+    if moves {
+        new.pair = pair;
+    }
+    new
+}
+
+// The record with another list.
+pub fn relist(entry: IkeRecord, count: u16, addresses: [Address; 16]) -> IkeRecord
+    ensures { λ r. ⌜ r ≡ relisted count addresses entry ⌝ }
+{
+    let mut new = entry;
+    new.count = count;
+    new.addresses = addresses;
+    new
 }

@@ -2,12 +2,33 @@
 
 ghost use mathlib.Core.Path.{_≡_};
 ghost use Prim.Native.Nat.{_+_, _≤_};
-ghost use lib.ListN.{length};
+ghost use lib.ListN.{length, take};
 ghost use Rattle.writing.specs.Notify.{placed, notifyOctets};
 
-// Copies `octets` into `out` from `at` on. The rest of `out` stays as it is, so that a chain can be written payload by
-// payload into one buffer.
-pub fn copy_octets(out: &mut [u8], at: usize, octets: &[u8])
+// Copies octets four at a time, as far as that goes, and returns how many: each four are read before they are written, so that the
+// compiler moves them as one word.
+fn copy_fours(out: &mut [u8], at: usize, octets: &[u8]) -> usize
+    requires { ⌜ at + length (now octets) ≤ length (now out) ⌝ }
+    ensures { λ r. ⌜ r ≤ length (now (octets .entry)) ⌝ }
+    ensures { λ r. ⌜ now (out .exit) ≡ placed (now (out .entry)) at (take r (now (octets .entry))) ⌝ }
+{
+    let mut i = 0;
+    while 4 <= octets.len() - i {
+        let a = octets[i];
+        let b = octets[i + 1];
+        let c = octets[i + 2];
+        let d = octets[i + 3];
+        out[at + i] = a;
+        out[at + i + 1] = b;
+        out[at + i + 2] = c;
+        out[at + i + 3] = d;
+        i += 4;
+    }
+    i
+}
+
+// Copies octets one by one.
+fn copy_each(out: &mut [u8], at: usize, octets: &[u8])
     requires { ⌜ at + length (now octets) ≤ length (now out) ⌝ }
     ensures { λ _. ⌜ now (out .exit) ≡ placed (now (out .entry)) at (now (octets .entry)) ⌝ }
 {
@@ -16,6 +37,16 @@ pub fn copy_octets(out: &mut [u8], at: usize, octets: &[u8])
         out[at + i] = octets[i];
         i += 1;
     }
+}
+
+// Copies `octets` into `out` from `at` on. The rest of `out` stays as it is, so that a chain can be written payload by
+// payload into one buffer.
+pub fn copy_octets(out: &mut [u8], at: usize, octets: &[u8])
+    requires { ⌜ at + length (now octets) ≤ length (now out) ⌝ }
+    ensures { λ _. ⌜ now (out .exit) ≡ placed (now (out .entry)) at (now (octets .entry)) ⌝ }
+{
+    let n = copy_fours(out, at, octets);
+    copy_each(out, at + n, &octets[n..]);
 }
 
 // Writes a Notify payload with no SPI at `at`, and returns the place after it, where the next payload goes. `next` is

@@ -55,7 +55,8 @@ pub fn side_by_side([one, other]: [(&str, &Fields); 2], detail: Detail) -> Vec<S
     lines
 }
 
-/// A line where the library changed records around those that it was lent.
+/// A line where the library changed what is around what it was lent, or rules lent for reading.
 pub fn around(is_kept: bool) -> Option<String> {
-    (!is_kept).then(|| "* records around those lent: ours changed".to_string())
+    (!is_kept)
+        .then(|| "* around what was lent, or rules lent for reading: ours changed".to_string())
 }

@@ -29,7 +29,7 @@ pub fn run(case: Case, faults: Faults, detail: Detail) -> Verdict {
 pub struct Step<'a> {
     pub ours: Handled<'a>,
     pub our_tables: Tables,
-    /// Whether the records around those lent to the library are kept.
+    /// Whether what is around that lent to the library is kept.
     kept_around: bool,
     reference: Handled<'a>,
     reference_tables: Tables,

@@ -24,7 +24,7 @@ struct Programs {
 /// What each program gave back.
 struct Replies {
     ours: u8,
-    /// Whether the records around those lent to the library are kept.
+    /// Whether what is around that lent to the library is kept, and rules lent for reading.
     kept_around: bool,
     reference: u8,
 }

@@ -1,45 +1,31 @@
--- `writing::copy_octets` meets its contract. The loop's invariant: `out` is what it was with the first i octets pasted
--- in from `at`, and as long as it was.
+-- `writing::copy_octets` meets its contract: the part that was copied by fours, and the rest behind it.
 -- Assumes nothing.
-use Prim.Native.Nat.{_≤_, _-_}
-use mathlib.Core.Path.{_≡_, refl}
+use Prim.Native.Nat.{_-_}
+use mathlib.Core.Path.{_≡_}
 use borrow.Author.Needs.{needs}
 use native.Mathlib.Omega.{arith}
-use native.Mathlib.Numerals.{add-one}
-use lib.ListN.{length}
-use lib.Seq.{paste, paste-zero, paste-suc}
-use Rattle.writing.proofs.Placed.{paste-all}
+use lib.ListN.{length, take, drop, length-take, length-drop}
+use lib.Seq.{length-take-le}
+use Rattle.writing.proofs.Placed.{length-placed, placed-rest}
 use Rattle.writing.proofs.copy_octets.Statement.{statement}
 use Rattle.writing.proofs.copy_octets.Tie as tie
-
-abbrev Inv-loop : tie.InvT-loop
-Inv-loop out₀ at octets i₀ out i = (i ≤ length octets) × (length out ≡ length out₀) × (out ≡ paste out₀ at octets i)
-
-abbrev μ-loop : tie.MeasureT-loop
-μ-loop out₀ at octets i₀ out i = length octets - i
 
 pub copy-octets-spec : {M : Type 1} → statement M
 copy-octets-spec =
     tie.close
     (tie.spec
-    Inv-loop
-    μ-loop
-    (λ c. (search needs, refl, paste-zero (c .args .out .now) (c .args .at) (c .args .octets .now)))
+    (λ c κs. search needs)
     (λ c. search needs)
     (λ c. search needs)
     (λ c. search needs)
     (λ c. search needs)
-    (λ c. search needs)
-    (λ c.
-    let a = c .before .before .before .args in
-    let l = c .before .before .loop in (
-      search needs,
-      search needs,
-      rw (l .inv .2, add-one) (paste-suc (a .out .now) (a .at) (a .octets .now) (l .i) 0 (omega arith) (omega arith)),
-    ))
+    (λ c κs.
+    let a = c .before .before .before .before .before .before .before .before .args in
+    let f = c .before .before .before .before .copy-fours in
+    let kept : length (f .last .0) ≡ length (a .out .now) = rw (f .ensures .1) (length-placed (a .out .now) (a .at) (take (f .result) (a .octets .now)) (omega (arith, length-take-le (f .result) (a .octets .now) (f .ensures .0)))) in
+    omega (arith, kept, f .ensures .0, length-take (length (a .octets .now) - f .result) (drop (f .result) (a .octets .now)), length-drop (f .result) (a .octets .now)))
     (λ c. search needs)
     (λ c.
-    let a = c .before .before .args in
-    let l = c .before .loop in
-    let all : l .i ≡ length (a .octets .now) = omega arith in
-    rw (l .inv .2, all) (paste-all (a .out .now) (a .at) (a .octets .now))))
+    let a = c .before .before .before .before .before .before .before .before .before .before .before .args in
+    let f = c .before .before .before .before .before .before .before .copy-fours in
+    placed-rest (a .out .now) (f .last .0) (c .before .before .copy-each .last .0) (a .at) (a .octets .now) (f .result) (c .before .before .before .before .before .before .before .before .before .before .before .pre) (f .ensures .0) (f .ensures .1) (c .before .before .copy-each .ensures)))

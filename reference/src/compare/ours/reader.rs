@@ -2,6 +2,7 @@
 use super::cookie::hand_out;
 use reference::address::{Address, AddressPair};
 use reference::cookie::handed_out;
+use reference::given_list::{given_lists, SeenList};
 use reference::outcome::{Outcome, Place};
 use std::mem::{offset_of, size_of};
 
@@ -32,6 +33,7 @@ struct CSeen {
 #[repr(C)]
 struct CReading {
     number: u8,
+    critical_type: u8,
     offset: u16,
     seen: CSeen,
 }
@@ -45,7 +47,7 @@ const _: () = assert!(size_of::<CSeen>() == 74);
 const _: () = assert!(offset_of!(CSeen, update) == 10 && offset_of!(CSeen, nat_source) == 12);
 const _: () = assert!(offset_of!(CSeen, addresses) == 24);
 const _: () = assert!(offset_of!(CSeen, places) == 26 && offset_of!(CSeen, families) == 58);
-const _: () = assert!(size_of::<CReading>() == 78);
+const _: () = assert!(size_of::<CReading>() == 78 && offset_of!(CReading, critical_type) == 1);
 const _: () = assert!(offset_of!(CReading, offset) == 2 && offset_of!(CReading, seen) == 4);
 const _: () = assert!(size_of::<AddressPair>() == 38);
 const _: () = assert!(offset_of!(AddressPair, source_port) == 34);
@@ -62,27 +64,32 @@ extern "C" {
 pub fn read(first: u8, body: &[u8]) -> Outcome<'_> {
     let (start, length) = (body.as_ptr(), body.len());
     // SAFETY: start and length are those of a slice that outlives each call.
-    let (reading, no_nats_pair, addresses) = unsafe {
+    let (reading, no_nats_pair) = unsafe {
         let reading = unmavreth_read(first, start, length);
         let no_nats_pair = unmavreth_no_nats(start, length, reading.seen);
-        let addresses = unmavreth_addresses(start, length, reading.seen);
-        (reading, no_nats_pair, addresses)
+        (reading, no_nats_pair)
     };
-    outcome(body, reading, no_nats_pair, addresses)
+    outcome(body, reading, no_nats_pair)
 }
 
-fn outcome<'a>(
-    body: &'a [u8],
-    reading: CReading,
-    no_nats_pair: AddressPair,
-    addresses: CAddressList,
-) -> Outcome<'a> {
+/// The list that the library gives for this reading, but with these additional addresses.
+fn give(body: &[u8], seen: CSeen, list: SeenList) -> [Address; 16] {
+    let SeenList { count, places, families } = list;
+    let seen = CSeen { addresses: count, places, families, ..seen };
+    // SAFETY: start and length are those of a slice that outlives the call.
+    unsafe { unmavreth_addresses(body.as_ptr(), body.len(), seen) }.list
+}
+
+fn outcome(body: &[u8], reading: CReading, no_nats_pair: AddressPair) -> Outcome<'_> {
     let seen = reading.seen;
+    let CSeen { addresses: count, places, families, .. } = seen;
+    let told = SeenList { count, places, families };
     let place = |offset, length| Place::in_body(body, usize::from(offset), usize::from(length));
     let cookie = place(seen.cookie, seen.cookie_len);
     Outcome {
         number: reading.number,
         offset: usize::from(reading.offset),
+        critical_type: reading.critical_type,
         payloads: usize::from(seen.payloads),
         unknown_payloads: usize::from(seen.unknown_payloads),
         unknown_notifies: usize::from(seen.unknown_notifies),
@@ -96,10 +103,11 @@ fn outcome<'a>(
         handed_out: handed_out(body, cookie, |at, length| hand_out(body, at, length)),
         no_nats: place(seen.no_nats, seen.no_nats_len),
         no_nats_pair,
-        addresses: usize::from(seen.addresses),
-        address_offsets: seen.places.map(usize::from),
-        address_families: seen.families,
-        address_list: addresses.list,
+        addresses: usize::from(count),
+        address_offsets: places.map(usize::from),
+        address_families: families,
+        address_list: give(body, seen, told),
+        given_lists: given_lists(body, told, |list| give(body, seen, list)),
     }
 }
 

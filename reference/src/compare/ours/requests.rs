@@ -31,7 +31,7 @@ extern "C" {
         ike: *mut IkeRecord,
         ipsec: *mut IpsecRecord,
         ipsec_len: usize,
-        policy: Policy,
+        policy: *const Policy,
         spi: u64,
         id: u32,
         pair: AddressPair,
@@ -47,22 +47,22 @@ extern "C" {
     ) -> CReply;
 }
 
-/// Handles the request by the library, which changes the tables; also whether the records around
-/// the lent ones are kept.
+/// Handles the request by the library, which changes the tables; also whether what is around the
+/// lent ones and the policy is kept.
 pub fn handle<'a>(request: &'a Request, tables: &mut Tables) -> (Handled<'a>, bool) {
     let Request { spi, id, pair, nat_source, nat_destination, first, body, output } = request;
     let mut output = output.clone();
     let mut lent = LentTables::new(tables, *spi, NO_SPI_GIVEN);
     let ipsec_length = lent.ipsec().len();
     // SAFETY: each start and length are those of a slice that outlives the call, that of the IKE
-    // records has its 32, and no two of the slices overlap; the rest goes by value, and any is
-    // allowed.
+    // records has its 32, that of the policy is one's, and no two of these overlap; the rest goes by
+    // value, and any is allowed.
     let told = unsafe {
         unmavreth_request(
             lent.ike().as_mut_ptr(),
             lent.ipsec().as_mut_ptr(),
             ipsec_length,
-            tables.policy,
+            lent.policy(),
             *spi,
             *id,
             *pair,

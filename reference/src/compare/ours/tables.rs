@@ -2,22 +2,17 @@
 use reference::address::AddressPair;
 use reference::calls::Call;
 use reference::lent::{LentTables, NO_SPI_GIVEN};
+use reference::lent_rules::BetweenRules;
 use reference::policy::{Policy, Rule, RuleList};
 use reference::tables::{IkeRecord, IpsecRecord, Tables};
 use std::mem::{offset_of, size_of};
-
-#[repr(C)]
-struct CPolicyAnswer {
-    number: u8,
-    policy: Policy,
-}
 
 const _: () = assert!(size_of::<IkeRecord>() == 344 && size_of::<IpsecRecord>() == 56);
 const _: () = assert!(offset_of!(IkeRecord, pair) == 10 && offset_of!(IkeRecord, addresses) == 66);
 const _: () = assert!(offset_of!(IpsecRecord, owner) == 8 && offset_of!(IpsecRecord, pair) == 16);
 const _: () = assert!(size_of::<Rule>() == 35 && offset_of!(Rule, source_length) == 33);
 const _: () = assert!(size_of::<Policy>() == 562 && offset_of!(Policy, rules) == 2);
-const _: () = assert!(size_of::<CPolicyAnswer>() == 564);
+const _: () = assert!(size_of::<RuleList>() == 560);
 
 // Each start of IKE records is that of 32.
 #[link(name = "host", kind = "static")]
@@ -37,18 +32,21 @@ extern "C" {
         spi: u64,
     ) -> u8;
     fn unmavreth_close_ipsec(ipsec: *mut IpsecRecord, ipsec_len: usize, spi: u32) -> u8;
-    fn unmavreth_set_policy(policy: Policy, count: u16, rules: RuleList) -> CPolicyAnswer;
+    fn unmavreth_set_policy(policy: *mut Policy, count: u16, rules: *const RuleList) -> u8;
     /// Given back as an octet, so that any value may be looked at.
-    fn unmavreth_acceptable(policy: Policy, pair: AddressPair) -> u8;
+    fn unmavreth_acceptable(policy: *const Policy, pair: AddressPair) -> u8;
 }
 
 /// Makes the call on the tables by the library; what it gives back is as for `Call::make`, with
-/// whether the records around the lent ones are kept.
+/// whether what is around all that was lent is kept, and the rules that were lent for reading.
 pub fn make(call: &Call, tables: &mut Tables) -> (u8, bool) {
     let (spi, ipsec_spi) = spis(call);
     let mut lent = LentTables::new(tables, spi, ipsec_spi);
-    let number = make_on(call, &mut lent, &mut tables.policy);
-    (number, lent.give_back(tables))
+    let given = given_rules(call);
+    let mut rules = BetweenRules::new(given);
+    let number = make_on(call, &mut lent, rules.start());
+    let kept_rules = rules.lent() == given && rules.is_kept_around();
+    (number, lent.give_back(tables) && kept_rules)
 }
 
 /// The SPIs that the call gives, of an IKE and of an IPsec record.
@@ -62,38 +60,45 @@ fn spis(call: &Call) -> (u64, u32) {
     }
 }
 
-fn make_on(call: &Call, lent: &mut LentTables, policy: &mut Policy) -> u8 {
+/// The rules that the call gives, if it does.
+fn given_rules(call: &Call) -> RuleList {
+    match call {
+        Call::SetPolicy { rules, .. } => **rules,
+        _ => RuleList { rules: Policy::EMPTY.rules },
+    }
+}
+
+fn make_on(call: &Call, lent: &mut LentTables, rules: *const RuleList) -> u8 {
     let ike = lent.ike().as_mut_ptr();
     let ipsec_length = lent.ipsec().len();
     let ipsec = lent.ipsec().as_mut_ptr();
-    match call {
-        &Call::OpenIke { spi, mobike, pair } => {
+    let policy = lent.policy();
+    match *call {
+        Call::OpenIke { spi, mobike, pair } => {
             // SAFETY: each start and length are those of a slice that outlives the call, that of
-            // the IKE records has its 32, and no two of the slices overlap; the rest goes by value,
-            // and any is allowed.
+            // the IKE records has its 32, those of the policy and of the rules are one's, and no two
+            // of these overlap; the rest goes by value, and any is allowed.
             unsafe { unmavreth_open_ike(ike, spi, mobike, pair) }
         }
-        &Call::OpenIpsec { spi, owner } => {
+        Call::OpenIpsec { spi, owner } => {
             // SAFETY: as above.
             unsafe { unmavreth_open_ipsec(ike, ipsec, ipsec_length, spi, owner) }
         }
-        &Call::CloseIke { spi } => {
+        Call::CloseIke { spi } => {
             // SAFETY: as above.
             unsafe { unmavreth_close_ike(ike, ipsec, ipsec_length, spi) }
         }
-        &Call::CloseIpsec { spi } => {
+        Call::CloseIpsec { spi } => {
             // SAFETY: as above.
             unsafe { unmavreth_close_ipsec(ipsec, ipsec_length, spi) }
         }
-        Call::SetPolicy { count, rules } => {
-            // SAFETY: all arguments go by value, and any is allowed.
-            let answer = unsafe { unmavreth_set_policy(*policy, *count, **rules) };
-            *policy = answer.policy;
-            answer.number
-        }
-        &Call::Acceptable { pair } => {
+        Call::SetPolicy { count, .. } => {
             // SAFETY: as above.
-            unsafe { unmavreth_acceptable(*policy, pair) }
+            unsafe { unmavreth_set_policy(policy, count, rules) }
+        }
+        Call::Acceptable { pair } => {
+            // SAFETY: as above.
+            unsafe { unmavreth_acceptable(policy, pair) }
         }
     }
 }

@@ -6,7 +6,7 @@ use mathlib.Core.List.{List}
 use borrow.Author.Needs.{needs}
 use native.Mathlib.Omega.{arith}
 use lib.ListN.{replicate}
-use Rattle.octets.proofs.Zip.{joined, joins-one, joins-all}
+use Rattle.octets.proofs.Zip.{joined, joins-one}
 use Rattle.findings.specs.Values.{addressAt}
 use Rattle.findings.proofs.values.additional.Statement.{statement}
 use Rattle.findings.proofs.values.additional.Tie as tie
@@ -15,10 +15,10 @@ abbrev zeros : List ℕ
 zeros = replicate 16 0
 
 abbrev Inv-loop : tie.InvT-loop
-Inv-loop body places families out₀ i₀ out i = (i ≤ 16) × (out ≡ joined (addressAt body) zeros places families 16 i)
+Inv-loop body n places families out₀ i₀ out i = (i ≤ n) × (n ≤ 16) × (out ≡ joined (addressAt body) zeros places families 16 i)
 
 abbrev μ-loop : tie.MeasureT-loop
-μ-loop body places families out₀ i₀ out i = 16 - i
+μ-loop body n places families out₀ i₀ out i = n - i
 
 pub additional-spec : {M : Type 1} → statement M
 additional-spec =
@@ -26,23 +26,25 @@ additional-spec =
     (tie.spec
     Inv-loop
     μ-loop
-    (λ c. (search needs, refl))
-    (λ c. search needs)
-    (λ c. search needs)
-    (λ c. search needs)
     (λ c κs. search needs)
     (λ c. search needs)
+    (λ c. (search needs, omega (arith, c .before .before .kept-count .ensures), refl))
+    (λ c. search needs)
+    (λ c. search needs)
+    (λ c. search needs)
+    (λ c. search needs)
+    (λ c. search needs)
     (λ c. search needs)
     (λ c. search needs)
     (λ c. search needs)
     (λ c.
-    let a = c .before .before .before .before .before .before .args in
+    let a = c .before .before .before .before .before .before .before .args in
     let l = c .before .before .loop in (
       omega arith,
+      l .inv .1,
       rw (c .address-at .ensures)
-          (joins-one (addressAt (a .body .now)) zeros (a .list .places) (a .list .families) 16 (search needs) (search needs) (l .out) (l .i) 0 0 (omega arith) (l .inv .1)),
+          (joins-one (addressAt (a .body .now)) zeros (a .list .places) (a .list .families) 16 (search needs) (search needs) (l .out) (l .i) 0 0 (omega arith) (l .inv .2)),
     ))
     (λ c.
-    let a = c .before .before .before .before .before .args in
-    let l = c .before .loop in
-    joins-all (addressAt (a .body .now)) zeros (a .list .places) (a .list .families) 16 (search needs) (search needs) (l .out) (l .i) (omega arith) (l .inv .1)))
+    let same : c .before .loop .i ≡ c .before .before .before .before .kept-count .result = omega arith in
+    rw (← c .before .before .before .before .kept-count .ensures, ← same) (c .before .loop .inv .2)))

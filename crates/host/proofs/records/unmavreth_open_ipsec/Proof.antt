@@ -22,7 +22,7 @@ use Rattle.tables.proofs.calls.ipsec_opening.Met as opening-thm
 use Rattle.lent.proofs.Walk.{closes}
 use Rattle.lent.proofs.Calls.{_&_, tokens, Told, no-token, plainly, calls-for, copied, ends-local}
 use Rattle.lent.proofs.Asked.{counts, finds-ipsec, stores-ipsec}
-use Rattle.lent.proofs.Loans.{array-long, copies-array}
+use Rattle.lent.proofs.Loans.{array-long, copies-ref}
 use Rattle.lent.proofs.IkeTable.{R as Rₖ, Q, rec-vals as ike-vals}
 use Rattle.lent.proofs.IpsecTable.{R}
 use Rattle.lent.proofs.ike.ike_place as home-of
@@ -103,9 +103,9 @@ module _ {M : Type 1} (𝓤 : URA M) (H : Heap 𝓤) (A : Atoms 𝓤) (W : Given
         assigns ! (addr ! (from ! (fld ! refl (hop ! (look-in ! 38 (sub ! 0 refl (whole !))) (stop !))))) (from ! (stop !)) (init ! 20 refl (tt, tt)) $
         assigns ! (agg ! (and-then ! (copied ! 20 refl) (and-then ! (load ! (from ! (fld ! refl (stop !))) (look-in ! 38 (sub ! 1 refl (whole !)))) (no-more !)))) (from ! (stop !)) (init ! 18 refl (tt, (tt, (record { fits = room .0 }, tt)))) $
         counts ! fm at-mem run x known-count room (λ i j. (and-then ! (copied ! 18 refl) (no-more !))) $ land ! (from ! (stop !)) (init ! 32 refl (tt, record { fits = room .0 })) $
-        move ! (2 ∷ 3 ∷ []) $ copies-array ! tt Rₖ y 32 (u64 ∷ []) (uint-makes 𝓤 H A W w64, tt) (n, tt) (uint-vals w64 n, tt) ((refl, n-fits), tt) $ calls-for ! fm home-of.ended (home-of.clauses 𝓤 H A at-mem run) known-home-of (((κs .0, tt), (qs .0, tt), tt, (y, (n, tt)), (ptr-vals y, (uint-vals w64 n, tt))), tt) (id⊢ 𝓤 _)
+        move ! (2 ∷ 3 ∷ []) $ copies-ref ! tt Q y (u64 ∷ []) (uint-makes 𝓤 H A W w64, tt) (n, tt) (uint-vals w64 n, tt) ((refl, n-fits), tt) $ calls-for ! fm home-of.ended (home-of.clauses 𝓤 H A at-mem run) known-home-of (((κs .0, tt), (qs .0, tt), tt, (y, (n, tt)), (ptr-vals y, (uint-vals w64 n, tt))), tt) (id⊢ 𝓤 _)
         (and-then ! (copied ! 40 refl) (and-then ! (copied ! 34 refl) (no-more !))) (uint-vals w64) (uint-tells w64) home (λ r ws. id⊢ 𝓤 _) (λ home-is. no-token ! $ move ! (1 ∷ []) $ land ! (from ! (stop !)) (init ! 30 refl (tt, record { fits = home-is .1 })) $
-        copies-array ! tt Rₖ y 32 (u64 ∷ []) (uint-makes 𝓤 H A W w64, tt) (home, tt) (uint-vals w64 home, tt) (home-is, tt) $ calls-for ! fm record-at.ended (record-at.clauses 𝓤 H A at-mem run) known-record-at (((κs .0, tt), (qs .0, tt), tt, (y, (home, tt)), (ptr-vals y, (uint-vals w64 home, tt))), tt) (id⊢ 𝓤 _)
+        copies-ref ! tt Q y (u64 ∷ []) (uint-makes 𝓤 H A W w64, tt) (home, tt) (uint-vals w64 home, tt) (home-is, tt) $ calls-for ! fm record-at.ended (record-at.clauses 𝓤 H A at-mem run) known-record-at (((κs .0, tt), (qs .0, tt), tt, (y, (home, tt)), (ptr-vals y, (uint-vals w64 home, tt))), tt) (id⊢ 𝓤 _)
         (and-then ! (copied ! 40 refl) (and-then ! (copied ! 30 refl) (no-more !))) ike-vals (LL.tells I.the-type I′.the-laws) owner (λ r ws. id⊢ 𝓤 _) (λ owner-is. no-token ! $ move ! (1 ∷ []) $ land ! (from ! (stop !)) (init ! 28 refl (LL.lawful I.the-type I′.the-laws 𝓤 H A W .typed owner _ owner-is .0)) $ move ! (2 ∷ 3 ∷ []) $
         assigns ! (addr ! (from ! (fld ! refl (hop ! (look-in ! 38 (sub ! 0 refl (whole !))) (stop !))))) (from ! (stop !)) (init ! 16 refl (tt, tt)) $
         assigns ! (agg ! (and-then ! (copied ! 16 refl) (and-then ! (load ! (from ! (fld ! refl (stop !))) (look-in ! 38 (sub ! 1 refl (whole !)))) (no-more !)))) (from ! (stop !)) (init ! 14 refl (tt, (tt, (record { fits = room .0 }, tt)))) $

@@ -1,22 +1,23 @@
--- `policy::prefix::prefix_matches` meets its contract. The loop's invariant: the first i bits are the same.
+-- `policy::prefix::prefix_matches` meets its contract. The loop's invariant: the bits of the first i octets are the same.
 -- Assumes nothing.
-use Prim.Native.Nat.{_≤_, _-_}
+use Prim.Native.Nat.{_≤_, _-_, _*_, _/_}
 use mathlib.Core.Path.{_≡_, refl, sym}
 use mathlib.Core.Bool.{true}
 use borrow.Author.Needs.{needs}
-use borrow.Author.Tests.{eq-eqb, ne-eqb}
 use native.Mathlib.Omega.{arith}
-use Rattle.policy.specs.Prefix.{sameBit, prefixMatches}
-use Rattle.octets.specs.Lists.{allBelow}
-use Rattle.octets.proofs.Below.{one-more, one-fails}
+use mir.Syntax.{w8}
+use mir.Val.{Fits}
+use lib.ListN.{getD}
+use Rattle.policy.specs.Prefix.{prefixMatches}
+use Rattle.policy.proofs.Bits.{same-octet, other-octet}
 use Rattle.policy.proofs.prefix.prefix_matches.Statement.{statement}
 use Rattle.policy.proofs.prefix.prefix_matches.Tie as tie
 
 abbrev Inv-loop : tie.InvT-loop
-Inv-loop prefix n octets i₀ i = (i ≤ n) × (allBelow (sameBit prefix octets) i ≡ true)
+Inv-loop n prefix octets whole i₀ i = (i ≤ whole) × (prefixMatches prefix (i * 8) octets ≡ true)
 
 abbrev μ-loop : tie.MeasureT-loop
-μ-loop prefix n octets i₀ i = n - i
+μ-loop n prefix octets whole i₀ i = whole - i
 
 pub prefix-matches-spec : {M : Type 1} → statement M
 unfolding prefixMatches
@@ -25,23 +26,24 @@ prefix-matches-spec =
     (tie.spec
     Inv-loop
     μ-loop
+    (λ c. search needs)
     (λ c. (search needs, refl))
-    (λ c κs. search needs)
-    (λ c κs. search needs)
-    (λ c.
-    let a = c .before .before .before .before .before .args in
-    let b = c .before .before .bit-at .ensures in
-    sym (one-fails (sameBit (a .prefix) (a .octets)) (c .before .before .before .before .loop .i) (a .n) (c .before .before .before .loop-test .taken)
-    (rw (← c .before .before .bit-at .ensures, ← c .before .bit-at2 .ensures) (ne-eqb _ _ (c .if1 .taken)))))
     (λ c. search needs)
     (λ c. search needs)
     (λ c.
-    let a = c .before .before .before .before .before .args in
-    let l = c .before .before .before .before .loop in (
-      omega arith,
-      one-more (sameBit (a .prefix) (a .octets)) (l .i) (l .inv .1)
-          (rw (← c .before .before .bit-at .ensures, ← c .before .bit-at2 .ensures) (eq-eqb _ _ (c .if1 .left))),
-    ))
+    let a = c .before .before .before .args in
+    let l = c .before .before .loop in
+    let s : Fits w8 (getD (a .t1) (l .i) 0) = search needs in
+    let t : Fits w8 (getD (a .t3) (l .i) 0) = search needs in
+    sym (other-octet (a .t1) (a .t3) (l .i) (a .n) (omega arith) (s .fits) (t .fits) (c .if1 .taken)))
+    (λ c. search needs)
+    (λ c. search needs)
     (λ c.
-    let same : c .before .loop .i ≡ c .before .before .args .n = omega arith in
-    rw (← same) (sym (c .before .loop .inv .1))))
+    let a = c .before .before .before .args in
+    let l = c .before .before .loop in
+    (omega arith, same-octet (a .t1) (a .t3) (l .i) (l .inv .1) (c .if1 .left)))
+    (λ c. search needs)
+    (λ c κs.
+    let same : c .before .before .args .n / 8 ≡ c .before .loop .i = omega arith in
+    (omega arith, search needs, rw same (c .before .loop .inv .1)))
+    (λ c. search needs))

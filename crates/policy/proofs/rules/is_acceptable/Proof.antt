@@ -19,10 +19,11 @@ abbrev accepts : Pair → Rule → Bool
 accepts p r = ruleMatches r p
 
 abbrev Inv-loop : tie.InvT-loop
-Inv-loop pair rules count i₀ i = (i ≤ 16) × (any (accepts pair) (take count rules) ≡ any (accepts pair) (drop i (take count rules)))
+Inv-loop pair policy count i₀ i =
+    (i ≤ 16) × (any (accepts pair) (take count (policy .rules)) ≡ any (accepts pair) (drop i (take count (policy .rules))))
 
 abbrev μ-loop : tie.MeasureT-loop
-μ-loop pair rules count i₀ i = 16 - i
+μ-loop pair policy count i₀ i = 16 - i
 
 pub is-acceptable-spec : {M : Type 1} → statement M
 unfolding acceptable
@@ -34,32 +35,32 @@ is-acceptable-spec =
     (λ c. search needs)
     (λ c. (search needs, refl))
     (λ c.
-    let a = c .before .before .before .before .before .args in
+    let a = c .before .before .before .args in
     let l = c .before .before .loop in
-    sym (l .inv .1 ∙ front-any-end (accepts (a .pair)) (a .policy .rules) (a .policy .count) (l .i) (omega arith)))
+    sym (l .inv .1 ∙ front-any-end (accepts (a .pair)) (a .t1 .rules) (a .t1 .count) (l .i) (omega arith)))
     (λ c. search needs)
     (λ c. search needs)
     (λ c κs. search needs)
     (λ c.
-    let a = c .before .before .before .before .before .before .before .before .args in
+    let a = c .before .before .before .before .before .before .args in
     let l = c .before .before .before .before .before .loop in
-    let long : length (a .policy .rules) ≡ 16 = search (needs, unmapped) in
+    let long : length (a .t1 .rules) ≡ 16 = search (needs, unmapped) in
     sym (l .inv .1
-    ∙ front-any-stop (accepts (a .pair)) (a .policy .rules) (a .policy .count) (l .i) _ (c .before .before .before .if1 .left) (omega arith)
+    ∙ front-any-stop (accepts (a .pair)) (a .t1 .rules) (a .t1 .count) (l .i) _ (c .before .before .before .if1 .left) (omega arith)
     (sym (c .before .rule-matches .ensures) ∙ c .if2 .taken)))
     (λ c. search needs)
     (λ c. search needs)
     (λ c.
-    let a = c .before .before .before .before .before .before .before .before .args in
+    let a = c .before .before .before .before .before .before .args in
     let l = c .before .before .before .before .before .loop in
-    let long : length (a .policy .rules) ≡ 16 = search (needs, unmapped) in (
+    let long : length (a .t1 .rules) ≡ 16 = search (needs, unmapped) in (
       omega arith,
       l .inv .1
-          ∙ front-any-on (accepts (a .pair)) (a .policy .rules) (a .policy .count) (l .i) _ (c .before .before .before .if1 .left) (omega arith)
+          ∙ front-any-on (accepts (a .pair)) (a .t1 .rules) (a .t1 .count) (l .i) _ (c .before .before .before .if1 .left) (omega arith)
           (sym (c .before .rule-matches .ensures) ∙ c .if2 .left),
     ))
     (λ c.
-    let a = c .before .before .before .before .args in
+    let a = c .before .before .args in
     let l = c .before .loop in
-    let long : length (a .policy .rules) ≡ 16 = search (needs, unmapped) in
-    sym (l .inv .1 ∙ front-any-end (accepts (a .pair)) (a .policy .rules) (a .policy .count) (l .i) (omega arith))))
+    let long : length (a .t1 .rules) ≡ 16 = search (needs, unmapped) in
+    sym (l .inv .1 ∙ front-any-end (accepts (a .pair)) (a .t1 .rules) (a .t1 .count) (l .i) (omega arith))))

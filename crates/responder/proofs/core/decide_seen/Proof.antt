@@ -10,6 +10,4 @@ decide-seen-spec =
     (tie.spec
     (λ c κs. search needs)
     (λ c κs. search needs)
-    (λ c κs. search needs)
-    (λ c κs. search needs)
-    (λ c. rw (← c .before .before .before .before .before .no-nats .ensures, ← c .before .before .before .additional .ensures, ← c .before .addresses-of .ensures) (c .decide .ensures)))
+    (λ c. rw (← c .before .no-nats .ensures) (c .decide .ensures)))

@@ -1,9 +1,7 @@
 -- `responder::decide::decide_list` meets its contract.
 -- Assumes nothing.
 use borrow.Author.Needs.{needs}
-use Prim.Native.Nat.{_-_, min}
-use mathlib.Core.Path.{_≡_, sym, _∙_}
-use native.Mathlib.Omega.{arith}
+use mathlib.Core.Path.{sym, _∙_}
 use borrow.Author.Tests.{le-leb, lt-leb}
 use Rattle.responder.specs.Decide.{listDecided}
 use Rattle.responder.proofs.decide.decide_list.Statement.{statement}
@@ -16,15 +14,7 @@ decide-list-spec =
     (tie.spec
     (λ c κs. search needs)
     (λ c. search needs)
-    (λ c. search needs)
-    (λ c.
-    let n = c .before .before .before .before .before .before .before .before .args .seen .list .count in
-    let all : min n 16 ≡ 16 = omega arith in
-    rw (sym (c .before .before .before .before .before .before .before .carries-list .ensures) ∙ c .before .before .before .before .before .before .if1 .taken, le-leb _ _ (c .before .before .before .before .if2 .taken), all))
-    (λ c.
-    let n = c .before .before .before .before .before .before .before .args .seen .list .count in
-    let all : min n 16 ≡ n = omega arith in
-    let none : n - 16 ≡ 0 = omega arith in
-    rw (sym (c .before .before .before .before .before .before .carries-list .ensures) ∙ c .before .before .before .before .before .if1 .taken, le-leb _ _ (c .before .before .before .if2 .taken), all, none))
+    (λ c κs. search needs)
+    (λ c. rw (sym (c .before .before .before .before .before .carries-list .ensures) ∙ c .before .before .before .before .if1 .taken, le-leb _ _ (c .before .before .if2 .taken), c .left-off .ensures))
     (λ c. rw (sym (c .before .before .before .carries-list .ensures) ∙ c .before .before .if1 .taken, lt-leb _ _ (c .if2 .left)))
     (λ c. rw (sym (c .before .carries-list .ensures) ∙ c .if1 .left)))

@@ -18,15 +18,14 @@ answer-spec =
     (tie.spec
     (λ c κs. search needs)
     (λ c κs. search needs)
+    (λ c κs. search needs)
     (λ c.
-    let n = c .before .before .early-number .ensures in
-    rw (← n, ne-eqb _ _ (c .before .if1 .taken)) (rw (c .refusal .ensures), sym (placed-none (c .before .before .before .before .before .before .before .args .out .now) 0)))
+    let n = c .before .before .before .early-number .ensures in
+    rw (← n, ne-eqb _ _ (c .before .before .if1 .taken)) (rw (← c .before .refusal .ensures) (c .unchanged .ensures), sym (placed-none (c .before .before .before .before .before .before .before .before .args .out .now) 0)))
     (λ c κs.
     let a = c .before .before .before .before .before .before .before .args in
     let p = passed _ _ _ _ (sym (c .before .before .early-number .ensures) ∙ c .before .if1 .left) in
     let lent = lent-fit (a .spi) (a .pair) (a .source .now) (a .destination .now) (both (eqb (a .size) 128) _ (p .fits) .1) in
     (p .room-enough, lent .0, lent .1))
     (λ c. search needs)
-    (λ c.
-    let n = c .before .before .before .before .before .early-number .ensures in
-    rw (← n, eq-eqb _ _ (c .before .before .before .before .if1 .left)) (c .before .before .respond-to .ensures)))
+    (λ c. rw (← c .before .before .before .before .before .early-number .ensures, eq-eqb _ _ (c .before .before .before .before .if1 .left)) (c .before .before .respond-to .ensures)))

@@ -1,0 +1,58 @@
+// The library's records and policy in the second program's form, field by field.
+use reference::address::{Address, AddressPair};
+use reference::policy::{Policy, Rule};
+use reference::tables::{IkeRecord, IpsecRecord, Tables};
+
+pub fn address(of: &unmavreth::Address) -> Address {
+    Address { family: of.family, octets: of.octets }
+}
+
+pub fn pair(of: &unmavreth::Pair) -> AddressPair {
+    AddressPair {
+        family: of.family,
+        source: of.source,
+        destination: of.destination,
+        source_port: of.source_port,
+        destination_port: of.destination_port,
+    }
+}
+
+fn ike(of: &unmavreth::IkeRecord) -> IkeRecord {
+    IkeRecord {
+        spi: of.spi,
+        mobike: u8::from(of.mobike.is_set()),
+        pair: pair(&of.pair),
+        update_mark: of.update_mark,
+        list_mark: of.list_mark,
+        count: of.count,
+        addresses: of.addresses.each_ref().map(address),
+        unknown: of.unknown,
+    }
+}
+
+fn ipsec(of: &unmavreth::IpsecRecord) -> IpsecRecord {
+    IpsecRecord { spi: of.spi, owner: of.owner, pair: pair(&of.pair) }
+}
+
+fn rule(of: &unmavreth::Rule) -> Rule {
+    Rule {
+        family: of.family,
+        source: of.source,
+        destination: of.destination,
+        source_length: of.source_len,
+        destination_length: of.destination_len,
+    }
+}
+
+/// Tables of their own: the second program copies those that it shares when it changes them.
+pub fn tables(
+    records: &[unmavreth::IkeRecord; 32],
+    list: &[unmavreth::IpsecRecord; 128],
+    policy: &unmavreth::Policy,
+) -> Tables {
+    let mut tables = Tables::empty();
+    *tables.ike_mut() = records.each_ref().map(ike);
+    tables.ipsec_mut().copy_from_slice(&list.each_ref().map(ipsec));
+    tables.policy = Policy { count: policy.count, rules: policy.rules.each_ref().map(rule) };
+    tables
+}

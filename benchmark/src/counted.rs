@@ -1,0 +1,103 @@
+// The counted functions: each makes one call, and what goes on inside it is all that is counted.
+//
+// What a call gives is shown to `black_box` before it is given back, so that the call isn't the last
+// thing that the function does: a jump into the library could not be told from leaving the function.
+use reference::asking::Arguments;
+use reference::faults::Faults;
+use reference::judge::Judged;
+use reference::reply::Handled;
+use reference::tables::Tables;
+use std::hint::black_box;
+use unmavreth::{
+    Assessment, Draft, IkeRecord, IpsecRecord, Policy, Reading, Reply, Request, Written,
+};
+
+/// The names that callgrind is told. With a wrong one nothing is counted, which is an error.
+pub const NAMES: [&str; 8] = [
+    "counted_ours_read",
+    "counted_ours_handle",
+    "counted_ours_write",
+    "counted_ours_assess",
+    "counted_second_read",
+    "counted_second_handle",
+    "counted_second_write",
+    "counted_second_assess",
+];
+
+#[inline(never)]
+#[no_mangle]
+pub fn counted_ours_read(first: u8, body: &[u8]) -> Reading {
+    let reading = unmavreth::read(first, body);
+    black_box(&reading);
+    reading
+}
+
+#[inline(never)]
+#[no_mangle]
+pub fn counted_ours_handle(
+    ike: &mut [IkeRecord; 32],
+    ipsec: &mut [IpsecRecord],
+    policy: &Policy,
+    request: &Request<'_>,
+    out: &mut [u8],
+) -> Reply {
+    let reply = unmavreth::handle(ike, ipsec, policy, request, out);
+    black_box(&reply);
+    reply
+}
+
+#[inline(never)]
+#[no_mangle]
+pub fn counted_ours_write(draft: &Draft<'_>, out: &mut [u8]) -> Written {
+    let written = unmavreth::write(draft, out);
+    black_box(&written);
+    written
+}
+
+#[inline(never)]
+#[no_mangle]
+pub fn counted_ours_assess(sent: &[u8], first: u8, body: &[u8]) -> Assessment {
+    let assessed = unmavreth::assess(sent, first, body);
+    black_box(&assessed);
+    assessed
+}
+
+#[inline(never)]
+#[no_mangle]
+pub fn counted_second_read(
+    first: u8,
+    body: &[u8],
+    faults: Faults,
+) -> reference::reader::Reading<'_> {
+    let reading = reference::reader::read(first, body, faults);
+    black_box(&reading);
+    reading
+}
+
+#[inline(never)]
+#[no_mangle]
+pub fn counted_second_handle<'a>(
+    request: &'a reference::request::Request,
+    tables: &mut Tables,
+    faults: Faults,
+) -> Handled<'a> {
+    let handled = reference::handler::handle(request, tables, faults);
+    black_box(&handled);
+    handled
+}
+
+#[inline(never)]
+#[no_mangle]
+pub fn counted_second_write(arguments: &Arguments, faults: Faults) -> reference::writer::Written {
+    let written = reference::writer::write(arguments, faults);
+    black_box(&written);
+    written
+}
+
+#[inline(never)]
+#[no_mangle]
+pub fn counted_second_assess(sent: &[u8], first: u8, body: &[u8], faults: Faults) -> Judged {
+    let assessed = reference::judge::judge(sent, first, body, faults);
+    black_box(&assessed);
+    assessed
+}

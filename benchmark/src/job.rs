@@ -1,0 +1,101 @@
+// What a row's call is given, on either side.
+use crate::chains::{self, COOKIE, NAT_DESTINATION, NAT_SOURCE, NOTIFY};
+use unmavreth::{Address, Ask, Draft, Gateway, Pair, Request, Rule};
+
+pub enum Job {
+    Read { first: u8, body: Vec<u8> },
+    Handle(Box<Handling>),
+    Write(Box<Draft<'static>>),
+    Assess { first: u8, body: Vec<u8> },
+}
+
+/// A request, with the tables and the output that are lent for it.
+pub struct Handling {
+    pub gateway: Gateway,
+    pub spi: u64,
+    pub pair: Pair,
+    pub nat_source: Vec<u8>,
+    pub first: u8,
+    pub body: Vec<u8>,
+    /// How long the output is, at most 128 octets.
+    pub room: usize,
+}
+
+pub const OWNER: u64 = 7;
+const OTHER: u64 = 8;
+const ID: u32 = 3;
+const OLD: Pair = Pair::ipv4(([203, 0, 113, 5], 4500), ([192, 0, 2, 1], 4500));
+const NEW: Pair = Pair::ipv4(([198, 51, 100, 7], 4500), ([192, 0, 2, 1], 4500));
+/// Within no rule.
+pub const ELSEWHERE: Pair = Pair::ipv4(([203, 0, 113, 6], 4500), ([192, 0, 2, 1], 4500));
+const RULE: Rule = Rule::ipv4(([198, 51, 100, 0], 24), ([192, 0, 2, 0], 24));
+
+impl Handling {
+    /// This request to the first of two records, each of which owns two IPsec records.
+    pub fn of(first: u8, body: Vec<u8>) -> Self {
+        let mut gateway = with_policy();
+        for spi in [OWNER, OTHER] {
+            gateway.open_ike(spi, true, &OLD);
+        }
+        for (spi, owner) in [(71, OWNER), (81, OTHER), (72, OWNER), (82, OTHER)] {
+            gateway.open_ipsec(spi, owner);
+        }
+        Handling::on(gateway, first, body)
+    }
+
+    fn on(gateway: Gateway, first: u8, body: Vec<u8>) -> Self {
+        let nat_source = NAT_SOURCE.to_vec();
+        Handling { gateway, spi: OWNER, pair: NEW, nat_source, first, body, room: 128 }
+    }
+
+    /// The update, to the last of 32 records, which owns this many of 128 IPsec records.
+    pub fn owning(owned: usize) -> Self {
+        let mut gateway = with_policy();
+        for spi in 101..132 {
+            gateway.open_ike(spi, true, &OLD);
+        }
+        gateway.open_ike(OWNER, true, &OLD);
+        for place in 0..128 {
+            let owner = if place < owned { OWNER } else { 101 };
+            gateway.open_ipsec(1000 + place as u32, owner);
+        }
+        Handling::on(gateway, NOTIFY, chains::update())
+    }
+
+    /// The request as the library is given it.
+    pub fn request(&self) -> Request<'_> {
+        Request {
+            spi: self.spi,
+            id: ID,
+            pair: self.pair,
+            nat_source: &self.nat_source,
+            nat_destination: &NAT_DESTINATION,
+            first: self.first,
+            body: &self.body,
+        }
+    }
+}
+
+fn with_policy() -> Gateway {
+    let mut gateway = Gateway::new();
+    gateway.set_policy(&[RULE]);
+    gateway
+}
+
+/// The update's chain, as it is to be written.
+pub fn draft() -> Draft<'static> {
+    let mut addresses = [Address::NONE; 16];
+    for (place, octets) in addresses.iter_mut().zip(chains::ADDITIONAL) {
+        *place = Address::ipv4(octets);
+    }
+    let ask =
+        Ask { update: true, nat_source: true, nat_destination: true, count: 2, ..Ask::default() };
+    Draft {
+        ask,
+        pair: Pair::NONE,
+        addresses,
+        nat_source: &NAT_SOURCE,
+        nat_destination: &NAT_DESTINATION,
+        cookie: &COOKIE,
+    }
+}

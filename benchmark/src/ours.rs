@@ -1,0 +1,151 @@
+// A row's call on the library: once uncounted, once counted on state of its own.
+use crate::chains::COOKIE;
+use crate::convert;
+use crate::counted::*;
+use crate::job::{Handling, Job};
+use crate::told::Told;
+use std::hint::black_box;
+use unmavreth::{
+    Assessment, Draft, Gateway, IkeRecord, IpsecRecord, Policy, Reading, Reply, Written,
+};
+
+/// What an output holds before the call, so that the octets past a response are compared too.
+pub const BEFORE: u8 = 0xa5;
+
+/// The uncounted call alone.
+pub fn told(job: &Job) -> Told {
+    match job {
+        Job::Read { first, body } => reading(body, &unmavreth::read(*first, body)),
+        Job::Handle(handling) => handled(handling, false),
+        Job::Write(draft) => {
+            let mut out = vec![BEFORE; 564];
+            let told = unmavreth::write(draft, &mut out);
+            written(&told, out)
+        }
+        Job::Assess { first, body } => assessed(&unmavreth::assess(&COOKIE, *first, body)),
+    }
+}
+
+/// A first call warms what is set up once; then comes the counted one.
+pub fn counted(job: &Job) -> Told {
+    black_box(told(job));
+    match job {
+        Job::Read { first, body } => {
+            reading(body, &black_box(counted_ours_read(black_box(*first), black_box(body))))
+        }
+        Job::Handle(handling) => handled(handling, true),
+        Job::Write(draft) => count_write(draft),
+        Job::Assess { first, body } => assessed(&black_box(counted_ours_assess(
+            black_box(&COOKIE),
+            black_box(*first),
+            black_box(body),
+        ))),
+    }
+}
+
+fn count_write(draft: &Draft) -> Told {
+    let mut out = vec![BEFORE; 564];
+    let told = black_box(counted_ours_write(black_box(draft), black_box(&mut out)));
+    written(&told, out)
+}
+
+/// What is lent for a request. It begins where a cache line does, for how octets are copied depends on
+/// where they lie, and the heap would put it here or there.
+#[repr(align(64))]
+struct Lent {
+    ike: [IkeRecord; 32],
+    ipsec: [IpsecRecord; 128],
+    policy: Policy,
+    out: [u8; 128],
+}
+
+fn handled(handling: &Handling, count: bool) -> Told {
+    let Gateway { ike, ipsec, policy } = handling.gateway.clone();
+    let mut lent = Box::new(Lent { ike: *ike, ipsec: *ipsec, policy, out: [BEFORE; 128] });
+    let request = handling.request();
+    let call = if count { counted_ours_handle } else { unmavreth::handle };
+    let reply = black_box(call(
+        black_box(&mut lent.ike),
+        black_box(&mut lent.ipsec[..]),
+        black_box(&lent.policy),
+        black_box(&request),
+        black_box(&mut lent.out[..handling.room]),
+    ));
+    let octets = vec![reply.cookie(&handling.body).to_vec(), lent.out[..handling.room].to_vec()];
+    let tables = Some(convert::tables(&lent.ike, &lent.ipsec, &lent.policy));
+    Told { fields: replied(&reply), octets, tables }
+}
+
+fn replied(reply: &Reply) -> Vec<(&'static str, u64)> {
+    vec![
+        ("number", u8::from(reply.number()).into()),
+        ("update", effect(reply.update())),
+        ("list", effect(reply.list())),
+        ("first", reply.first().into()),
+        ("left_off", reply.left_off().into()),
+        ("payloads", reply.payloads().into()),
+        ("offset", reply.offset().into()),
+        ("length", reply.length().into()),
+    ]
+}
+
+fn effect(effect: unmavreth::Effect) -> u64 {
+    match effect {
+        unmavreth::Effect::None => 0,
+        unmavreth::Effect::Applied => 1,
+        unmavreth::Effect::Stale => 2,
+        unmavreth::Effect::Other(other) => other.into(),
+    }
+}
+
+fn reading(body: &[u8], reading: &Reading) -> Told {
+    let seen = reading.seen();
+    let mut fields: Vec<(&str, u64)> = vec![
+        ("number", u8::from(reading.number()).into()),
+        ("offset", reading.offset().into()),
+        ("payloads", seen.tally.payloads.into()),
+        ("unknown_payloads", seen.tally.unknown_payloads.into()),
+        ("unknown_notifies", seen.tally.unknown_notifies.into()),
+        ("errors", seen.tally.errors.into()),
+        ("first_error", seen.tally.first_error.into()),
+        ("update", seen.update.is_set().into()),
+        ("no_additional", seen.no_additional.is_set().into()),
+        ("nat_source", seen.nat_source.into()),
+        ("nat_destination", seen.nat_destination.into()),
+        ("no_nats", seen.no_nats.into()),
+        ("cookie", seen.cookie.into()),
+        ("addresses", seen.list.count.into()),
+    ];
+    fields.extend(seen.list.places.map(|place| ("place", place.into())));
+    fields.extend(seen.list.families.map(|family| ("family", family.into())));
+    Told { fields, octets: vec![reading.cookie(body).to_vec()], tables: None }
+}
+
+fn written(written: &Written, out: Vec<u8>) -> Told {
+    let fields = vec![
+        ("number", u8::from(written.number()).into()),
+        ("first", written.first().into()),
+        ("length", written.length().into()),
+    ];
+    Told { fields, octets: vec![out], tables: None }
+}
+
+fn assessed(assessed: &Assessment) -> Told {
+    let outcome = match assessed.outcome() {
+        unmavreth::Outcome::None => 0,
+        unmavreth::Outcome::Close => 1,
+        unmavreth::Outcome::NatSeen => 2,
+        unmavreth::Outcome::Unacceptable => 3,
+        unmavreth::Outcome::Failed => 4,
+        unmavreth::Outcome::Accepted => 5,
+        unmavreth::Outcome::Other(other) => other,
+    };
+    let fields = vec![
+        ("number", u8::from(assessed.number()).into()),
+        ("outcome", outcome.into()),
+        ("payloads", assessed.payloads().into()),
+        ("offset", assessed.offset().into()),
+        ("tally", assessed.tally().into()),
+    ];
+    Told { fields, octets: vec![], tables: None }
+}

@@ -1,0 +1,118 @@
+// The figures as markdown tables.
+use crate::rows::{Kind, Row, HANDLE_UPDATE, READ_UPDATE};
+use std::fmt::Write;
+
+/// A row, with the instructions of both sides.
+type Figure = (Row, [u64; 2]);
+
+/// Instructions for reading the 112-octet chain: all, and with debug formatting stubbed.
+const PEERS: [(&str, [u64; 2]); 2] =
+    [("strongSwan 5.9.8", [21_653, 10_565]), ("OpenIKED 7.4", [12_237, 2_545])];
+
+const CAPTION: [&str; 2] = [
+    "\
+Instructions of one call, counted by callgrind: of the library through its Rust interface (`host/rust`),
+with all that it calls; and of the second program (`reference/`), which is written to be plain, allocates,
+and asks at many steps whether one of its deliberate faults is on. Both on fresh tables, after one call on
+others; what a call is given is made outside of the count. All Rust is compiled by
+",
+    " at opt-level 3 with overflow checks, the second program's own profile. In every row the
+answers, the outputs and the tables of both were the same. A count is the same in every run; another
+processor or C library may copy octets in other steps.
+",
+];
+
+pub fn tables(figures: &[Figure]) -> String {
+    [calls(figures), peers(figures), by_octets(figures), by_records(figures)].join("\n")
+}
+
+fn calls(figures: &[Figure]) -> String {
+    let mut text = CAPTION.join(env!("COMPILER"));
+    text += "\n| Call | Ours | Second program | Ours / second |\n|---|---:|---:|---:|\n";
+    for (row, [ours, second]) in figures.iter().filter(|(row, _)| row.kind == Kind::Call) {
+        line(&mut text, &[row.title, &grouped(*ours), &grouped(*second), &ratio(*ours, *second)]);
+    }
+    text
+}
+
+/// The peers only parse: no decision, no tables, no response.
+fn peers(figures: &[Figure]) -> String {
+    let ours = [READ_UPDATE, HANDLE_UPDATE].map(|key| {
+        figures.iter().find(|(row, _)| row.key == key).map_or(0, |(_, [ours, _])| *ours)
+    });
+    let [read, handled] = ours;
+    let mut text = "The 112-octet chain beside the peers, which only parse it (no decision, no tables, no response):\n\n".to_string();
+    text += "| Peer | Instructions | Ours, read / peer | Ours, whole request / peer |\n|---|---:|---:|---:|\n";
+    for (name, [all, stubbed]) in PEERS {
+        for (what, count) in [("", all), (", debug formatting stubbed", stubbed)] {
+            let name = format!("{name}{what}");
+            line(&mut text, &[&name, &grouped(count), &ratio(read, count), &ratio(handled, count)]);
+        }
+    }
+    text
+}
+
+fn by_octets(figures: &[Figure]) -> String {
+    let mut text = "Growth of the reader, on 4-octet payloads:\n\n".to_string();
+    text +=
+        "| Octets | Ours | an octet | Second program | an octet |\n|---:|---:|---:|---:|---:|\n";
+    for (row, [ours, second]) in figures {
+        if let Kind::ByOctets(octets) = row.kind {
+            let each = [*ours, *second].map(|count| ratio(count, octets));
+            line(
+                &mut text,
+                &[&grouped(octets), &grouped(*ours), &each[0], &grouped(*second), &each[1]],
+            );
+        }
+    }
+    text
+}
+
+fn by_records(figures: &[Figure]) -> String {
+    let mut text = "Growth of a request (the 112-octet chain, the last of 32 IKE records, 128 IPsec records in use) with those that it moves:\n\n".to_string();
+    text +=
+        "| IPsec records moved | Ours | Second program | Ours / second |\n|---:|---:|---:|---:|\n";
+    for (row, [ours, second]) in figures {
+        if let Kind::ByRecords(records) = row.kind {
+            let ratio = ratio(*ours, *second);
+            line(&mut text, &[&grouped(records), &grouped(*ours), &grouped(*second), &ratio]);
+        }
+    }
+    text
+}
+
+fn line(text: &mut String, cells: &[&str]) {
+    let _ = writeln!(text, "| {} |", cells.join(" | "));
+}
+
+/// Two decimals, to the nearest.
+fn ratio(one: u64, other: u64) -> String {
+    let other = other.max(1);
+    let hundredths = (one * 100 + other / 2) / other;
+    format!("{}.{:02}", hundredths / 100, hundredths % 100)
+}
+
+/// Thousands set apart.
+fn grouped(number: u64) -> String {
+    match number {
+        0..=999 => number.to_string(),
+        _ => format!("{},{:03}", grouped(number / 1000), number % 1000),
+    }
+}
+
+#[cfg(test)]
+mod tests {
+    use super::*;
+
+    #[test]
+    fn thousands_are_set_apart() {
+        let shown = [0, 999, 1000, 21_053, 1_000_007].map(grouped);
+        assert_eq!(shown, ["0", "999", "1,000", "21,053", "1,000,007"]);
+    }
+
+    #[test]
+    fn ratios_have_two_decimals() {
+        let shown = [(1, 3), (2, 3), (1383, 3319), (300, 100), (5, 0)].map(|(a, b)| ratio(a, b));
+        assert_eq!(shown, ["0.33", "0.67", "0.42", "3.00", "5.00"]);
+    }
+}

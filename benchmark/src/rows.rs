@@ -1,0 +1,219 @@
+// The rows: which call each counts, on what, and what it must tell.
+use crate::chains::{self, NOTIFY, SKIPPED};
+use crate::job::{draft, Handling, Job, ELSEWHERE};
+use unmavreth::Flag;
+
+#[derive(Clone, Copy)]
+pub enum Side {
+    Ours,
+    Second,
+}
+
+impl Side {
+    pub fn name(self) -> &'static str {
+        match self {
+            Side::Ours => "ours",
+            Side::Second => "second",
+        }
+    }
+
+    pub fn named(name: &str) -> Option<Side> {
+        [Side::Ours, Side::Second].into_iter().find(|side| side.name() == name)
+    }
+}
+
+/// In which table a row stands.
+#[derive(Clone, Copy, PartialEq, Eq)]
+pub enum Kind {
+    Call,
+    /// A reading of so many octets.
+    ByOctets(u64),
+    /// A request that moves so many IPsec records.
+    ByRecords(u64),
+}
+
+/// Fields by name, with the values that they must have.
+pub type Expected = Vec<(&'static str, u64)>;
+
+pub struct Row {
+    pub key: String,
+    pub title: &'static str,
+    pub kind: Kind,
+    /// Makes what the call is given. Only the counted row's is made, so that what the heap held before
+    /// is the same whichever row it is.
+    pub job: Box<dyn Fn() -> Job>,
+    pub expected: Expected,
+}
+
+pub const READ_UPDATE: &str = "update-read";
+pub const HANDLE_UPDATE: &str = "update-request";
+
+pub fn all() -> Vec<Row> {
+    let mut rows = the_update();
+    rows.extend(long_chains());
+    rows.extend(full_tables());
+    rows.extend(refusals());
+    rows.extend(initiator());
+    rows.extend([256, 512, 1024, 2048, 4096].map(by_octets));
+    rows.extend([0, 32, 64, 128].map(by_records));
+    rows
+}
+
+fn row(
+    key: &str,
+    title: &'static str,
+    job: impl Fn() -> Job + 'static,
+    expected: &[(&'static str, u64)],
+) -> Row {
+    let (key, job, expected) = (key.to_string(), Box::new(job), expected.to_vec());
+    Row { key, title, kind: Kind::Call, job, expected }
+}
+
+fn reading(first: u8, body: Vec<u8>) -> Job {
+    Job::Read { first, body }
+}
+
+fn handling(first: u8, body: Vec<u8>) -> Job {
+    Job::Handle(Box::new(Handling::of(first, body)))
+}
+
+fn owning(records: u64) -> Job {
+    Job::Handle(Box::new(Handling::owning(records as usize)))
+}
+
+const APPLIED: [(&str, u64); 5] =
+    [("number", 0), ("update", 1), ("list", 1), ("payloads", 6), ("length", 80)];
+
+fn the_update() -> Vec<Row> {
+    let read = || reading(NOTIFY, chains::update());
+    let handled = || handling(NOTIFY, chains::update());
+    let six = [("number", 0), ("payloads", 6)];
+    vec![
+        row(READ_UPDATE, "the 112-octet chain, read", read, &six),
+        row(HANDLE_UPDATE, "the 112-octet chain, a whole request", handled, &APPLIED),
+    ]
+}
+
+fn long_chains() -> Vec<Row> {
+    let read = || reading(SKIPPED, chains::skipped(4096));
+    let handled = || handling(SKIPPED, chains::skipped(4096));
+    let unknown = || reading(NOTIFY, chains::unknown_notifies(4096));
+    let skipped = [("number", 0), ("payloads", 1024)];
+    let tallied = [("number", 0), ("payloads", 512), ("unknown_notifies", 512)];
+    vec![
+        row("skipped-read", "4,096 octets of 4-octet payloads, read", read, &skipped),
+        row("skipped-request", "the same, a whole request", handled, &skipped),
+        row("unknown-read", "512 unknown Notifies of 8 octets, read", unknown, &tallied),
+    ]
+}
+
+fn full_tables() -> Vec<Row> {
+    let read = || reading(NOTIFY, chains::full_list());
+    let handled = || handling(NOTIFY, chains::full_list());
+    let listed = [("number", 0), ("payloads", 16), ("addresses", 16)];
+    let replaced = [("number", 0), ("list", 1), ("left_off", 0), ("length", 0)];
+    let moved = "the 112-octet chain, to the last of 32 IKE records, 128 IPsec records move";
+    vec![
+        row("list-read", "16 ADDITIONAL_IP6_ADDRESS, read", read, &listed),
+        row("list-request", "the same, a whole request", handled, &replaced),
+        row("moved", moved, || owning(128), &APPLIED),
+    ]
+}
+
+/// The request that is applied, changed.
+fn changed(change: fn(&mut Handling)) -> Job {
+    let mut handling = Handling::of(NOTIFY, chains::update());
+    change(&mut handling);
+    Job::Handle(Box::new(handling))
+}
+
+/// A request that must be answered with this number, its title's.
+fn refused(number: u64, title: &'static str, job: fn() -> Job) -> Row {
+    let told = [("number", number), ("update", 0), ("list", 0)];
+    row(&format!("refused-{number}"), title, job, &told)
+}
+
+fn refusals() -> Vec<Row> {
+    vec![
+        refused(1, "refused 1: a NAT value of 19 octets", || {
+            changed(|of| of.nat_source.truncate(19))
+        }),
+        refused(2, "refused 2: an output of 127 octets", || changed(|of| of.room = 127)),
+        refused(3, "refused 3: a body of 4,097 octets", || handling(SKIPPED, vec![0; 4097])),
+        refused(4, "refused 4: no such record", || changed(|of| of.spi = 9)),
+        refused(5, "refused 5: MOBIKE not agreed", || {
+            changed(|of| of.gateway.ike[0].mobike = Flag::NO)
+        }),
+        refused(6, "refused 6: malformed at the first payload", || {
+            handling(NOTIFY, chains::malformed())
+        }),
+        refused(7, "refused 7: an unknown critical payload", || handling(200, vec![0, 0x80, 0, 4])),
+        refused(8, "refused 8: addresses altered on the way", || {
+            handling(NOTIFY, chains::altered())
+        }),
+        refused(9, "refused 9: the pair not acceptable", || changed(|of| of.pair = ELSEWHERE)),
+    ]
+}
+
+fn initiator() -> Vec<Row> {
+    let written = [("number", 0), ("first", 41), ("length", 112)];
+    let accepted = [("number", 0), ("outcome", 5), ("payloads", 3), ("tally", 0)];
+    let response = || Job::Assess { first: NOTIFY, body: chains::response() };
+    vec![
+        row(
+            "written",
+            "the 112-octet request, written",
+            || Job::Write(Box::new(draft())),
+            &written,
+        ),
+        row("assessed", "its 80-octet response, assessed", response, &accepted),
+    ]
+}
+
+fn by_octets(octets: u64) -> Row {
+    let job = move || reading(SKIPPED, chains::skipped(octets as usize));
+    let expected = [("number", 0), ("payloads", octets / 4)];
+    let row = row(&format!("octets-{octets}"), "", job, &expected);
+    Row { kind: Kind::ByOctets(octets), ..row }
+}
+
+fn by_records(records: u64) -> Row {
+    let row = row(&format!("records-{records}"), "", move || owning(records), &APPLIED);
+    Row { kind: Kind::ByRecords(records), ..row }
+}
+
+#[cfg(test)]
+mod tests {
+    use super::*;
+    use crate::{ours, second, told};
+
+    #[test]
+    fn both_sides_tell_what_is_expected() {
+        for row in all() {
+            let job = (row.job)();
+            let checked = told::check(&ours::told(&job), &second::told(&job), &row.expected);
+            assert_eq!(checked, Ok(()), "{}", row.key);
+        }
+    }
+
+    #[test]
+    fn another_answer_is_seen() {
+        let [elsewhere, update] = ["refused-9", HANDLE_UPDATE].map(|key| {
+            let rows = all();
+            let row = rows.iter().find(|row| row.key == key).expect("there is such a row");
+            ours::told(&(row.job)())
+        });
+        assert!(told::check(&update, &elsewhere, &vec![]).is_err());
+        assert!(told::check(&update, &update, &vec![("number", 9)]).is_err());
+        assert!(told::check(&update, &update, &vec![("number", 0)]).is_ok());
+    }
+
+    #[test]
+    fn every_row_has_a_key_of_its_own() {
+        let mut keys: Vec<String> = all().into_iter().map(|row| row.key).collect();
+        let count = keys.len();
+        keys.sort();
+        keys.dedup();
+        assert_eq!(keys.len(), count);
+    }
+}

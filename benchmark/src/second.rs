@@ -1,0 +1,149 @@
+// A row's call on the second program: once uncounted, once counted on state of its own.
+use crate::chains::{COOKIE, NAT_DESTINATION};
+use crate::convert;
+use crate::counted::*;
+use crate::job::{Handling, Job};
+use crate::ours::BEFORE;
+use crate::told::Told;
+use reference::asking::{Arguments, Ask};
+use reference::faults::Faults;
+use reference::judge::Judged;
+use reference::outcome::Outcome;
+use reference::reader::Reading;
+use reference::request::Request;
+use reference::writer::Written;
+use std::hint::black_box;
+
+const NONE: Faults = Faults::NONE;
+
+/// The uncounted call alone.
+pub fn told(job: &Job) -> Told {
+    match job {
+        Job::Read { first, body } => reading(body, &reference::reader::read(*first, body, NONE)),
+        Job::Handle(handling) => handled(handling, false),
+        Job::Write(draft) => written(reference::writer::write(&arguments(draft), NONE)),
+        Job::Assess { first, body } => {
+            assessed(reference::judge::judge(&COOKIE, *first, body, NONE))
+        }
+    }
+}
+
+/// A first call warms what is set up once; then comes the counted one.
+pub fn counted(job: &Job) -> Told {
+    black_box(told(job));
+    match job {
+        Job::Read { first, body } => {
+            let (first, body) = (black_box(*first), black_box(&body[..]));
+            reading(body, &black_box(counted_second_read(first, body, black_box(NONE))))
+        }
+        Job::Handle(handling) => handled(handling, true),
+        Job::Write(draft) => {
+            let arguments = arguments(draft);
+            written(black_box(counted_second_write(black_box(&arguments), black_box(NONE))))
+        }
+        Job::Assess { first, body } => assessed(black_box(counted_second_assess(
+            black_box(&COOKIE),
+            black_box(*first),
+            black_box(body),
+            black_box(NONE),
+        ))),
+    }
+}
+
+fn arguments(draft: &unmavreth::Draft) -> Arguments {
+    let ask = Ask {
+        update: draft.ask.update,
+        no_nats: draft.ask.no_nats,
+        nat_source: draft.ask.nat_source,
+        nat_destination: draft.ask.nat_destination,
+        no_additional: draft.ask.no_additional,
+        count: draft.ask.count,
+    };
+    Arguments {
+        ask,
+        pair: convert::pair(&draft.pair),
+        addresses: draft.addresses.each_ref().map(convert::address),
+        nat_source: draft.nat_source.to_vec(),
+        nat_destination: draft.nat_destination.to_vec(),
+        cookie: draft.cookie.to_vec(),
+        output: vec![BEFORE; 564],
+    }
+}
+
+fn request(handling: &Handling) -> Request {
+    let given = handling.request();
+    Request {
+        spi: given.spi,
+        id: given.id,
+        pair: convert::pair(&given.pair),
+        nat_source: given.nat_source.to_vec(),
+        nat_destination: NAT_DESTINATION.to_vec(),
+        first: given.first,
+        body: given.body.to_vec(),
+        output: vec![BEFORE; handling.room],
+    }
+}
+
+fn handled(handling: &Handling, count: bool) -> Told {
+    let given = &handling.gateway;
+    let mut tables = convert::tables(&given.ike, &given.ipsec, &given.policy);
+    let request = request(handling);
+    let call = if count { counted_second_handle } else { reference::handler::handle };
+    let handled = black_box(call(black_box(&request), black_box(&mut tables), black_box(NONE)));
+    let reply = &handled.reply;
+    let fields = vec![
+        ("number", reply.number.into()),
+        ("update", reply.update.into()),
+        ("list", reply.list.into()),
+        ("first", reply.first.into()),
+        ("left_off", reply.left_off as u64),
+        ("payloads", reply.payloads as u64),
+        ("offset", reply.offset as u64),
+        ("length", reply.length as u64),
+    ];
+    let octets = vec![reply.handed_out.octets.to_vec(), handled.output];
+    Told { fields, octets, tables: Some(tables) }
+}
+
+fn reading(body: &[u8], reading: &Reading) -> Told {
+    let outcome = Outcome::of(reading, body, NONE);
+    let mut fields: Vec<(&str, u64)> = vec![
+        ("number", outcome.number.into()),
+        ("offset", outcome.offset as u64),
+        ("payloads", outcome.payloads as u64),
+        ("unknown_payloads", outcome.unknown_payloads as u64),
+        ("unknown_notifies", outcome.unknown_notifies as u64),
+        ("errors", outcome.errors as u64),
+        ("first_error", outcome.first_error.into()),
+        ("update", outcome.update.into()),
+        ("no_additional", outcome.no_additional.into()),
+        ("nat_source", outcome.nat_source.offset as u64),
+        ("nat_destination", outcome.nat_destination.offset as u64),
+        ("no_nats", outcome.no_nats.offset as u64),
+        ("cookie", outcome.cookie.offset as u64),
+        ("addresses", outcome.addresses as u64),
+    ];
+    fields.extend(outcome.address_offsets.map(|place| ("place", place as u64)));
+    fields.extend(outcome.address_families.map(|family| ("family", family.into())));
+    Told { fields, octets: vec![outcome.cookie.octets.to_vec()], tables: None }
+}
+
+fn written(written: Written) -> Told {
+    let fields = vec![
+        ("number", written.number.into()),
+        ("first", written.first.into()),
+        ("length", written.length as u64),
+    ];
+    Told { fields, octets: vec![written.output], tables: None }
+}
+
+fn assessed(assessed: Judged) -> Told {
+    let fields = vec![
+        ("number", assessed.number.into()),
+        ("outcome", assessed.outcome.into()),
+        ("payloads", assessed.payloads.into()),
+        ("offset", assessed.offset.into()),
+        ("tally", assessed.tally.into()),
+    ];
+    Told { fields, octets: vec![], tables: None }
+}

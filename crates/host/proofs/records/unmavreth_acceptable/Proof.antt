@@ -1,0 +1,76 @@
+-- `host::records::unmavreth_acceptable` meets its contract: a walk of its MIR, by hand. The policy is read by `policy_of`, and the covered `is_acceptable` decides.
+-- Assumes nothing.
+use Rattle.lent.proofs.Kit.{refl, [], _∷_, List, URA, named, Val, vbool, SProp, ent, emp, via, id⊢, fst∗, flft, Memory, Routine, Heap, Calls, Loops, WpFn, Atoms, Lfts, Shares, Fun, givenOf, tables, tablesOf, Given, ‵, ⋆, _$_, _∵_, !, qed, by, move, drop, join, keep, fsplit, fjoin, suffices, frame, done, look, init, stop, from}
+use Rattle.lent.proofs.Kit.{and-then, no-more, land, returns, enter, alloc1, alloc0, params1, pass1, pass0, free0, FmC, fmOf, owns, flat, Is, Spells, valss, bool-makes, bool-vals, bool-tells, bool, RefT, ptr-vals, shr-tells, plain, shrRefTo, typesAt, owned, nothing, Triple, Args, Vals, onEntry, cited, says, Stays, stay-dropped, walkOf, goes-dropped, ends-at, yes}
+use denote.Struct.Laws as LL
+use Rattle.address.specs.declared.pair.Pair.{Pair}
+use Rattle.address.proofs.pair.Pair as P
+use Rattle.address.proofs.pair.Pair.Laws as P′
+use Rattle.policy.specs.Policy.{acceptable}
+use Rattle.policy.specs.declared.rules.Policy.{Policy}
+use Rattle.policy.proofs.rules.Policy as Y
+use Rattle.policy.proofs.rules.Policy.Laws as Y′
+use Rattle.policy.proofs.rules.is_acceptable as decide
+use Rattle.policy.proofs.rules.is_acceptable.Symbol as decide-def
+use Rattle.policy.proofs.rules.is_acceptable.Met as decide-thm
+use Rattle.lent.proofs.Walk.{closes}
+use Rattle.lent.proofs.Calls.{tokens, Told, no-token, plainly, calls-for, copied, ends-local}
+use Rattle.lent.proofs.Asked.{reads-policy}
+use Rattle.lent.proofs.PolicyTypes.{R, policy-vals}
+use Rattle.lent.proofs.rules.policy_of as read
+use Rattle.lent.proofs.rules.policy_of.Symbol as read-def
+use Rattle.lent.proofs.rules.policy_of.Met as read-thm
+use Rattle.host.proofs.records.unmavreth_acceptable.Key as key
+use Rattle.host.proofs.records.unmavreth_acceptable as f
+use Rattle.host.proofs.records.unmavreth_acceptable.Statement as stated
+use Rattle.host.proofs.records.unmavreth_acceptable.Code as code
+
+abbrev stayed : Stays (f.ended .signature .params) (f.ended .kept)
+stayed = (stay-dropped (shrRefTo (0 ∷ []) tt (plain (λ _. R))) yes, (stay-dropped (plain (λ _. P.the-row)) yes, tt))
+
+abbrev pair-vals : Pair → List Val
+pair-vals = LL.vals P.the-type P′.the-laws
+
+abbrev spelled : (κs : Lfts 1) → Spells (typesAt (f.signature .params) κs)
+spelled κs = (ptr-vals, (pair-vals, tt))
+
+module _ {M : Type 1} (𝓤 : URA M) (H : Heap 𝓤) (A : Atoms 𝓤) (W : Given 𝓤 H A) (at-mem : Memory → SProp 𝓤) (run : Routine → Fun 𝓤) (κs : Lfts 1) (qs : Shares 1) (x : RefT Policy) (g : Pair) (g-is : Is P.the-row g (pair-vals g)) where
+  abbrev a : Args f.signature κs
+  a = (x, (g, tt))
+
+  abbrev vals : Vals f.signature κs
+  vals = valss (typesAt (f.signature .params) κs) (spelled κs) a
+
+  abbrev Post : Val → SProp 𝓤
+  Post = walkOf 𝓤 H A f.ended stayed (f.clauses 𝓤 H A at-mem run) .post ((κs, qs, tt, a, vals), tt)
+
+  exits : ent 𝓤 (⋆ 𝓤 H A (‵ (flft (κs .0) (qs .0)) ∷ [])) (Post (vbool (acceptable (x .now) g)))
+  exits =
+      qed W (‵ (flft (κs .0) (qs .0)) ∷ []) ∵ suffices ! _ (ends-at 𝓤 H A f.ended stayed (f.clauses 𝓤 H A at-mem run) W ((κs, qs, tt, a, vals), tt) (vbool (acceptable (x .now) g)) (acceptable (x .now) g) (tt, (tt, tt)) (tt, (tt, tt))) $ says ! refl $
+      nothing ! $ move ! (1 ∷ 0 ∷ []) $ join ! $ frame ! $ nothing ! $ nothing ! $ fjoin ! $ nothing ! $ fjoin ! $ frame ! $ owned ! bool (Is bool) (bool-makes 𝓤 H A W) (acceptable (x .now) g) _ refl $ done !
+
+  module _ (C : Calls 𝓤 H) (Λ : Loops 𝓤 H) (fm : FmC 𝓤 H (W .laws) C) (known-read : Triple 𝓤 (C read-def.name) (Told 𝓤 H A read.ended (read.clauses 𝓤 H A at-mem run))) (known-decide : Triple 𝓤 (C decide-def.name) (Told 𝓤 H A decide.ended (decide.clauses 𝓤 H A at-mem run))) where
+    walk : ent 𝓤 (onEntry 𝓤 H A f.signature κs qs a vals) (WpFn 𝓤 H C Λ code.function (flat (typesAt (f.signature .params) κs) vals) Post)
+    walk =
+        qed W (tokens 𝓤 1 κs qs ∷ ‵ (owns (typesAt (f.signature .params) κs) a vals) ∷ []) ∵ enter ! C Λ code.function (flat (typesAt (f.signature .params) κs) vals) _ $
+        alloc1 ! (λ l₀. alloc1 ! (λ l₁. alloc1 ! (λ l₂. alloc1 ! (λ l₃. alloc0 ! $ params1 ! $ pass1 ! (init ! 4 refl (tt, tt)) $ pass1 ! (init ! 2 refl (LL.lawful P.the-type P′.the-laws 𝓤 H A W .typed g _ g-is .0)) $ pass0 ! $
+        move ! (9 ∷ []) $ fsplit ! $ move ! (1 ∷ []) $ drop ! $ move ! (9 ∷ []) $ no-token ! $ move ! (1 ∷ []) $
+        -- [the policy; its token; _3 at 2; …; _i at 8 - 2 i; …; room for _0 at 8; …]
+        reads-policy ! fm at-mem run x known-read (λ i j. and-then ! (copied ! 6 refl) (no-more !)) (λ p-is. land ! (from ! (stop !)) (init ! 2 refl (LL.lawful Y.the-type Y′.the-laws 𝓤 H A W .typed (x .now) _ p-is .0)) $
+        plainly ! (R ∷ P.the-row ∷ []) (LL.makes Y.the-type Y′.the-plain 𝓤 H A, (LL.makes P.the-type P′.the-plain 𝓤 H A, tt)) (x .now, (g, tt)) (policy-vals (x .now), (pair-vals g, tt)) (p-is, (g-is, tt)) $
+        calls-for ! fm decide.ended (decide.clauses 𝓤 H A at-mem run) known-decide ((tt, tt, tt, (x .now, (g, tt)), (policy-vals (x .now), (pair-vals g, tt))), tt) (id⊢ 𝓤 _)
+        (and-then ! (copied ! 3 refl) (and-then ! (copied ! 5 refl) (no-more !))) bool-vals bool-tells (acceptable (x .now) g) (λ r ws. id⊢ 𝓤 _) (λ _. drop ! $
+        land ! (from ! (stop !)) (init ! 8 refl (tt, tt)) $ returns ! (look ! 8 refl) $
+        move ! (8 ∷ 9 ∷ []) $ ends-local ! $ move ! (6 ∷ 7 ∷ []) $ ends-local ! $ move ! (4 ∷ 5 ∷ []) $ ends-local ! $ move ! (2 ∷ 3 ∷ []) $ ends-local ! $ free0 ! $ keep ! (1 ∷ []) $ by ! exits))))))
+
+pub unmavreth-acceptable-spec : {M : Type 1} → stated.statement M
+unfolding code.routine tablesOf
+unmavreth-acceptable-spec 𝓤 H 𝓜 𝓖 𝓡 =
+    let A = 𝓖 .A in
+    let W = givenOf 𝓤 H 𝓜 𝓖 in
+    let Ts = tables 𝓤 H 𝓜 𝓡 code.env in
+    closes 𝓤 H 𝓜 𝓖 𝓡 code.env key.name code.function (code.unfolded 𝓤 H 𝓜 𝓡) f.ended stayed (f.clauses 𝓤 H A (𝓜 .mem) (𝓡 .run))
+    (goes-dropped 𝓤 H A W 1 (shrRefTo (0 ∷ []) tt (plain (λ _. R))) yes (λ κs x f. refl), (goes-dropped 𝓤 H A W 1 (plain (λ _. P.the-row)) yes (λ κs x f. refl), tt)) spelled (λ κs. (shr-tells (named 0) (κs .0) R, (LL.tells P.the-type P′.the-laws, tt)))
+    (λ κs qs bounds a g are. via 𝓤 _ (fst∗ 𝓤 _ (emp 𝓤)) (walk 𝓤 H A W (𝓜 .mem) (𝓡 .run) κs qs (a .0) (a .1 .0) (are .1 .0) (Ts .C) (Ts .Λ) (fmOf 𝓤 H (W .laws) (tablesOf 𝓤 H 𝓜 Ts))
+    (cited 𝓤 H (Told 𝓤 H A read.ended (read.clauses 𝓤 H A (𝓜 .mem) (𝓡 .run))) 𝓜 𝓡 code.env read-def.name read-def.routine code.calls-lent·rules·policy-of (read-thm.met 𝓤 H 𝓜 𝓖 𝓡))
+    (cited 𝓤 H (Told 𝓤 H A decide.ended (decide.clauses 𝓤 H A (𝓜 .mem) (𝓡 .run))) 𝓜 𝓡 code.env decide-def.name decide-def.routine code.calls-policy·rules·is-acceptable (decide-thm.met 𝓤 H 𝓜 𝓖 𝓡))))

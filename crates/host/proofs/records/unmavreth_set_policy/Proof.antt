@@ -1,0 +1,112 @@
+-- `host::records::unmavreth_set_policy` meets its contract: a walk of its MIR, by hand. The policy is lent to `policy_of` and the rules read by `rules_of`, the covered `set_policy` decides, and the policy is passed for good to `policy_store`.
+-- Assumes nothing.
+use Rattle.lent.proofs.Kit.{_≡_, refl, ℕ, _<_, _^_, [], _∷_, List, URA, named, w8, Val, vint, SProp, ent, emp, via, id⊢, fst∗, flft, fres, Memory, Routine, Heap, Calls, Loops, WpFn, Atoms, Lfts, Shares, Fun, givenOf, tables, tablesOf, Given, ‵, ⋆, _$_, _∵_, !, qed, by, move, drop, join, split, keep}
+use Rattle.lent.proofs.Kit.{fsplit, fjoin, suffices, frame, done, look, init, stop, hop, fld, from, load, of-opd, addr, assigns, and-then, no-more, land, returns, enter, alloc1, alloc0, params1, pass1, pass0, free0, whole, sub, look-in, FmC, fmOf, owns, flat, Is, Spells, valss, uint-makes, uint-vals, uint-tells, u8, RefT, ptr-vals}
+use Rattle.lent.proofs.Kit.{ArrayOf, mut-tells, shr-tells, Slot, plain, shrRefTo, typesAt, owned, nothing, Triple, Args, Vals, onEntry, cited, says, Stays, stay-dropped, gave-ref, walkOf, goes-dropped, goes-gave-ref, ends-at, yes}
+use mir.Syntax.{w16}
+use denote.Array.{array-makes, array-lawful}
+use denote.Builtin.{u16}
+use denote.Struct.Laws as LL
+use Rattle.policy.specs.Policy.{setPolicy}
+use Rattle.policy.specs.declared.rules.Rule.{Rule}
+use Rattle.policy.specs.declared.rules.Policy.{Policy}
+use Rattle.policy.specs.declared.rules.PolicyAnswer.{PolicyAnswer}
+use Rattle.policy.proofs.rules.Rule as X
+use Rattle.policy.proofs.rules.Rule.Laws as X′
+use Rattle.policy.proofs.rules.Policy as Y
+use Rattle.policy.proofs.rules.Policy.Laws as Y′
+use Rattle.policy.proofs.rules.PolicyAnswer as D
+use Rattle.policy.proofs.rules.PolicyAnswer.Laws as D′
+use Rattle.policy.proofs.rules.set_policy as decide
+use Rattle.policy.proofs.rules.set_policy.Symbol as decide-def
+use Rattle.policy.proofs.rules.set_policy.Met as decide-thm
+use Rattle.lent.proofs.Walk.{closes}
+use Rattle.lent.proofs.Calls.{_&_, tokens, Told, no-token, plainly, calls-for, copied, ends-local}
+use Rattle.lent.proofs.Asked.{reads-lent, reads-rules, stores-policy}
+use Rattle.lent.proofs.PolicyTypes.{R, Q, policy-vals, rules-vals}
+use Rattle.lent.proofs.rules.policy_of as read
+use Rattle.lent.proofs.rules.policy_of.Symbol as read-def
+use Rattle.lent.proofs.rules.policy_of.Met as read-thm
+use Rattle.lent.proofs.rules.rules_of as list
+use Rattle.lent.proofs.rules.rules_of.Symbol as list-def
+use Rattle.lent.proofs.rules.rules_of.Met as list-thm
+use Rattle.lent.proofs.rules.policy_store as store
+use Rattle.lent.proofs.rules.policy_store.Symbol as store-def
+use Rattle.lent.proofs.rules.policy_store.Met as store-thm
+use Rattle.host.proofs.records.unmavreth_set_policy.Key as key
+use Rattle.host.proofs.records.unmavreth_set_policy as f
+use Rattle.host.proofs.records.unmavreth_set_policy.Statement as stated
+use Rattle.host.proofs.records.unmavreth_set_policy.Code as code
+
+abbrev kept : Slot 2
+kept = plain (λ _. R)
+
+abbrev number : Slot 2
+number = plain (λ _. u16)
+
+abbrev rules : Slot 2
+rules = shrRefTo (1 ∷ []) tt (ArrayOf (plain (λ _. X.the-row)) (λ κs. tt) 16)
+
+abbrev stayed : Stays (f.ended .signature .params) (f.ended .kept)
+stayed = gave-ref (0 ∷ []) tt kept & stay-dropped number yes & stay-dropped rules yes & tt
+
+abbrev spelled : (κs : Lfts 2) → Spells (typesAt (f.signature .params) κs)
+spelled κs = (ptr-vals, (uint-vals w16, (ptr-vals, tt)))
+
+module _ {M : Type 1} (𝓤 : URA M) (H : Heap 𝓤) (A : Atoms 𝓤) (W : Given 𝓤 H A) (at-mem : Memory → SProp 𝓤) (run : Routine → Fun 𝓤) (κs : Lfts 2) (qs : Shares 2) (x : RefT Policy) (n : ℕ) (y : RefT (List Rule)) (n-fits : n < 2 ^ 16) where
+  abbrev a : Args f.signature κs
+  a = (x, (n, (y, tt)))
+
+  abbrev vals : Vals f.signature κs
+  vals = valss (typesAt (f.signature .params) κs) (spelled κs) a
+
+  abbrev Post : Val → SProp 𝓤
+  Post = walkOf 𝓤 H A f.ended stayed (f.clauses 𝓤 H A at-mem run) .post ((κs, qs, tt, a, vals), tt)
+
+  -- what is decided
+  abbrev c : PolicyAnswer
+  c = setPolicy (x .now) n (y .now)
+
+  exits : c .number < 2 ^ 8 → (z : Policy) → z ≡ c .policy → ent 𝓤 (⋆ 𝓤 H A (‵ (fres (x .name) (R .coded .code z)) ∷ ‵ (flft (κs .0) (qs .0)) ∷ ‵ (flft (κs .1 .0) (qs .1 .0)) ∷ [])) (Post (vint w8 (c .number)))
+  exits fits z e =
+      qed W (‵ (fres (x .name) (R .coded .code z)) ∷ ‵ (flft (κs .0) (qs .0)) ∷ ‵ (flft (κs .1 .0) (qs .1 .0)) ∷ []) ∵
+      suffices ! _ (ends-at 𝓤 H A f.ended stayed (f.clauses 𝓤 H A at-mem run) W ((κs, qs, tt, a, vals), tt) (vint w8 (c .number)) (c .number) (z, (tt, (tt, tt))) (tt, (tt, (tt, tt)))) $ says ! (refl, e) $
+      nothing ! $ move ! (3 ∷ 0 ∷ []) $ join ! $ move ! (2 ∷ 0 ∷ []) $ join ! $ frame ! $ nothing ! $ nothing ! $ fjoin ! $ nothing ! $ fjoin ! $ move ! (1 ∷ 0 ∷ []) $ fjoin ! $ frame ! $ owned ! u8 (Is u8) (uint-makes 𝓤 H A W w8) (c .number) _ (refl, fits) $ done !
+
+  module _ (C : Calls 𝓤 H) (Λ : Loops 𝓤 H) (fm : FmC 𝓤 H (W .laws) C) (known-read : Triple 𝓤 (C read-def.name) (Told 𝓤 H A read.ended (read.clauses 𝓤 H A at-mem run))) (known-list : Triple 𝓤 (C list-def.name) (Told 𝓤 H A list.ended (list.clauses 𝓤 H A at-mem run)))
+      (known-decide : Triple 𝓤 (C decide-def.name) (Told 𝓤 H A decide.ended (decide.clauses 𝓤 H A at-mem run))) (known-store : Triple 𝓤 (C store-def.name) (Told 𝓤 H A store.ended (store.clauses 𝓤 H A at-mem run))) where
+    walk : ent 𝓤 (onEntry 𝓤 H A f.signature κs qs a vals) (WpFn 𝓤 H C Λ code.function (flat (typesAt (f.signature .params) κs) vals) Post)
+    walk =
+        qed W (tokens 𝓤 2 κs qs ∷ ‵ (owns (typesAt (f.signature .params) κs) a vals) ∷ []) ∵ enter ! C Λ code.function (flat (typesAt (f.signature .params) κs) vals) _ $
+        alloc1 ! (λ l₀. alloc1 ! (λ l₁. alloc1 ! (λ l₂. alloc1 ! (λ l₃. alloc1 ! (λ l₄. alloc1 ! (λ l₅. alloc1 ! (λ l₆. alloc1 ! (λ l₇. alloc1 ! (λ l₈. alloc1 ! (λ l₉. alloc0 ! $ params1 ! $
+        pass1 ! (init ! 16 refl (tt, tt)) $ pass1 ! (init ! 14 refl (tt, record { fits = n-fits })) $ pass1 ! (init ! 12 refl (tt, tt)) $ pass0 ! $
+        move ! (21 ∷ []) $ fsplit ! $ move ! (1 ∷ []) $ fsplit ! $ drop ! $ fsplit ! $ move ! (1 ∷ []) $ drop ! $ move ! (22 ∷ []) $ split ! $ move ! (1 ∷ []) $ no-token ! $ move ! (3 ∷ 1 ∷ 2 ∷ 0 ∷ []) $
+        -- [the policy; its token; the rules; their token; _9 at 4; …; _i at 22 - 2 i; …; room for _0 at 22; …]
+        assigns ! (addr ! (from ! (hop ! (look ! 20 refl) (stop !)))) (from ! (stop !)) (init ! 8 refl (tt, tt)) $
+        reads-lent ! fm at-mem run x known-read (λ i j. and-then ! (copied ! 8 refl) (no-more !)) (λ old-is. land ! (from ! (stop !)) (init ! 14 refl (LL.lawful Y.the-type Y′.the-laws 𝓤 H A W .typed (x .now) _ old-is .0)) $ move ! (2 ∷ 3 ∷ []) $
+        reads-rules ! fm at-mem run y known-list (λ i j. and-then ! (copied ! 16 refl) (no-more !)) (λ list-is. land ! (from ! (stop !)) (init ! 12 refl (array-lawful 𝓤 H A W X.the-row (LL.lawful X.the-type X′.the-laws 𝓤 H A W) 16 .typed (y .now) _ list-is .0)) $
+        plainly ! (R ∷ u16 ∷ Q ∷ []) (LL.makes Y.the-type Y′.the-plain 𝓤 H A & uint-makes 𝓤 H A W w16 & array-makes 𝓤 H A W X.the-row (LL.makes X.the-type X′.the-plain 𝓤 H A) 16 & tt) (x .now, (n, (y .now, tt))) (policy-vals (x .now), (uint-vals w16 n, (rules-vals (y .now), tt))) (old-is, ((refl, n-fits), (list-is, tt))) $
+        calls-for ! fm decide.ended (decide.clauses 𝓤 H A at-mem run) known-decide ((tt, tt, tt, (x .now, (n, (y .now, tt))), (policy-vals (x .now), (uint-vals w16 n, (rules-vals (y .now), tt)))), tt) (id⊢ 𝓤 _)
+        (and-then ! (copied ! 15 refl) (and-then ! (copied ! 19 refl) (and-then ! (copied ! 13 refl) (no-more !)))) (LL.vals D.the-type D′.the-laws) (LL.tells D.the-type D′.the-laws) c (λ r ws. id⊢ 𝓤 _) (λ is. drop ! $
+        land ! (from ! (stop !)) (init ! 10 refl (LL.lawful D.the-type D′.the-laws 𝓤 H A W .typed c _ is .0)) $ move ! (2 ∷ 3 ∷ []) $
+        assigns ! (addr ! (from ! (hop ! (look ! 20 refl) (stop !)))) (from ! (stop !)) (init ! 4 refl (tt, tt)) $
+        stores-policy ! fm at-mem run x known-store (c .policy) (LL.owed D.the-type D′.the-laws c _ is .1 .0) (λ j. and-then ! (copied ! 3 refl) (and-then ! (load ! (from ! (fld ! refl (stop !))) (look-in ! 9 (sub ! 1 refl (whole !)))) (no-more !))) (λ z e.
+        -- [what says the last policy; its token; the rules; their token; the locals as before]
+        land ! (from ! (stop !)) (init ! 6 refl (tt, tt)) $
+        assigns ! (of-opd ! (load ! (from ! (fld ! refl (stop !))) (look-in ! 10 (sub ! 0 refl (whole !))))) (from ! (stop !)) (init ! 22 refl (tt, record { fits = LL.owed D.the-type D′.the-laws c _ is .0 .1 })) $ returns ! (look ! 22 refl) $
+        move ! (22 ∷ 23 ∷ []) $ ends-local ! $ move ! (20 ∷ 21 ∷ []) $ ends-local ! $ move ! (18 ∷ 19 ∷ []) $ ends-local ! $ move ! (16 ∷ 17 ∷ []) $ ends-local ! $ move ! (14 ∷ 15 ∷ []) $ ends-local ! $ move ! (12 ∷ 13 ∷ []) $ ends-local ! $ move ! (10 ∷ 11 ∷ []) $ ends-local ! $ move ! (8 ∷ 9 ∷ []) $ ends-local ! $ move ! (6 ∷ 7 ∷ []) $ ends-local ! $ move ! (4 ∷ 5 ∷ []) $ ends-local ! $ free0 ! $
+        keep ! (0 ∷ 1 ∷ 3 ∷ []) $ by ! (exits (LL.owed D.the-type D′.the-laws c _ is .0 .1) z e)))))))))))))))
+
+pub unmavreth-set-policy-spec : {M : Type 1} → stated.statement M
+unfolding code.routine tablesOf
+unmavreth-set-policy-spec 𝓤 H 𝓜 𝓖 𝓡 =
+    let A = 𝓖 .A in
+    let W = givenOf 𝓤 H 𝓜 𝓖 in
+    let Ts = tables 𝓤 H 𝓜 𝓡 code.env in
+    closes 𝓤 H 𝓜 𝓖 𝓡 code.env key.name code.function (code.unfolded 𝓤 H 𝓜 𝓡) f.ended stayed (f.clauses 𝓤 H A (𝓜 .mem) (𝓡 .run))
+    (goes-gave-ref 𝓤 H A W 2 0 tt kept & goes-dropped 𝓤 H A W 2 number yes (λ κs x f. refl) & goes-dropped 𝓤 H A W 2 rules yes (λ κs x f. refl) & tt) spelled (λ κs. mut-tells (named 0) (κs .0) R & uint-tells w16 & shr-tells (named 1) (κs .1 .0) Q & tt)
+    (λ κs qs bounds a g are. via 𝓤 _ (fst∗ 𝓤 _ (emp 𝓤)) (walk 𝓤 H A W (𝓜 .mem) (𝓡 .run) κs qs (a .0) (a .1 .0) (a .1 .1 .0) (are .1 .0 .1) (Ts .C) (Ts .Λ) (fmOf 𝓤 H (W .laws) (tablesOf 𝓤 H 𝓜 Ts))
+    (cited 𝓤 H (Told 𝓤 H A read.ended (read.clauses 𝓤 H A (𝓜 .mem) (𝓡 .run))) 𝓜 𝓡 code.env read-def.name read-def.routine code.calls-lent·rules·policy-of (read-thm.met 𝓤 H 𝓜 𝓖 𝓡))
+    (cited 𝓤 H (Told 𝓤 H A list.ended (list.clauses 𝓤 H A (𝓜 .mem) (𝓡 .run))) 𝓜 𝓡 code.env list-def.name list-def.routine code.calls-lent·rules·rules-of (list-thm.met 𝓤 H 𝓜 𝓖 𝓡))
+    (cited 𝓤 H (Told 𝓤 H A decide.ended (decide.clauses 𝓤 H A (𝓜 .mem) (𝓡 .run))) 𝓜 𝓡 code.env decide-def.name decide-def.routine code.calls-policy·rules·set-policy (decide-thm.met 𝓤 H 𝓜 𝓖 𝓡))
+    (cited 𝓤 H (Told 𝓤 H A store.ended (store.clauses 𝓤 H A (𝓜 .mem) (𝓡 .run))) 𝓜 𝓡 code.env store-def.name store-def.routine code.calls-lent·rules·policy-store (store-thm.met 𝓤 H 𝓜 𝓖 𝓡))))

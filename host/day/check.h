@@ -1,0 +1,18 @@
+// What the day expects, checked aloud: a difference is printed where it is found, and the program then fails.
+#ifndef DAY_CHECK_H
+#define DAY_CHECK_H
+
+#include <stdbool.h>
+
+typedef struct checks {
+    unsigned made;
+    unsigned failed;
+} checks;
+
+void check_number(checks *c, const char *what, unsigned long is, unsigned long expected);
+void check_holds(checks *c, const char *what, bool holds);
+
+// Says whether all checks since `since` checks were made held.
+void print_checks(const checks *c, checks since);
+
+#endif

@@ -1,0 +1,112 @@
+// Plays one exchange: lends the request to the gateway, prints and checks the answer, and has the response assessed.
+#include "exchange.h"
+
+#include <stdio.h>
+
+#include "address.h"
+#include "words.h"
+
+exchange exchange_new(const day *d, uint32_t id, unmavreth_pair packet, uint16_t payloads)
+{
+    exchange x = {.id = id, .packet = packet, .payloads = payloads, .after = d->gateway.tables};
+    x.outcome = UNMAVRETH_OUTCOME_ACCEPTED;
+    return x;
+}
+
+void print_event(const char *sentences)
+{
+    printf("----------------------------------------------------------------------------------------------------\n");
+    printf("%s\n\n", sentences);
+}
+
+static void print_request(const exchange *x)
+{
+    char packet[PAIR_TEXT];
+    pair_text(packet, &x->packet);
+    printf("  Request, message ID %u, in a packet %s\n", (unsigned)x->id, packet);
+    printf("    first payload's type %u, %zu octets\n", x->sent.request.first, x->sent.request.length);
+    print_message(&x->sent.request);
+}
+
+// What the request says of addresses, read by the library from the same octets.
+static void print_read(const message *m)
+{
+    unmavreth_reading r = unmavreth_read(m->first, m->octets, m->length);
+    if (r.seen.no_nats != 0) {
+        char text[PAIR_TEXT];
+        unmavreth_pair claimed = unmavreth_no_nats(m->octets, m->length, r.seen);
+        pair_text(text, &claimed);
+        printf("    NO_NATS_ALLOWED says %s\n", text);
+    }
+    unmavreth_addresses_list addresses = unmavreth_addresses(m->octets, m->length, r.seen);
+    for (size_t i = 0; i < r.seen.list.count && i < UNMAVRETH_ADDRESSES; i++) {
+        char text[ADDRESS_TEXT];
+        address_text(text, addresses.list[i].family, addresses.list[i].octets);
+        printf("    additional address %s\n", text);
+    }
+}
+
+static void print_reply(const unmavreth_reply *r, const message *request)
+{
+    printf("  Gateway answers %u: %s", r->number, number_words(r->number));
+    if (r->number == UNMAVRETH_MALFORMED || r->number == UNMAVRETH_UNKNOWN_CRITICAL)
+        printf(", at offset %u", r->offset);
+    printf("\n    update %u: %s; list %u: %s; addresses left off %u; payloads %u\n", r->update, update_words(r->update),
+           r->list, list_words(r->list), r->left_off, r->payloads);
+    unmavreth_part cookie = {request->octets, 0};
+    unmavreth_cookie(&cookie, request->octets, request->length, r->cookie, r->cookie_len);
+    if (cookie.octets != 0) {
+        printf("    cookie handed out: ");
+        print_octets(cookie.start, cookie.octets);
+        printf("\n");
+    }
+}
+
+static void print_response(const message *m)
+{
+    if (m->length == 0)
+        printf("  Response: first payload's type %u, empty\n", m->first);
+    else
+        printf("  Response: first payload's type %u, %zu octets\n", m->first, m->length);
+    print_message(m);
+}
+
+static void print_assessment(const unmavreth_assessment *a)
+{
+    printf("  Display's end answers %u: %s\n", a->number, number_words(a->number));
+    printf("    outcome %u: %s; payloads %u, unknown %u\n", a->outcome, outcome_words(a->outcome), a->payloads,
+           (unsigned)a->tally);
+}
+
+static void check_answers(checks *c, const exchange *x, const unmavreth_reply *r, const unmavreth_assessment *a)
+{
+    check_number(c, "the answer", r->number, x->number);
+    check_number(c, "the update", r->update, x->update);
+    check_number(c, "the list", r->list, x->list);
+    check_number(c, "the offset", r->offset, x->offset);
+    check_number(c, "the count of payloads", r->payloads, x->payloads);
+    check_number(c, "the display's number", a->number, UNMAVRETH_DONE);
+    check_number(c, "the display's outcome", a->outcome, x->outcome);
+    check_number(c, "the display's tally", a->tally, 0);
+}
+
+void play(day *d, const exchange *x)
+{
+    checks since = d->checks;
+    tables before = d->gateway.tables;
+    message response;
+    bool kept;
+    print_request(x);
+    print_read(&x->sent.request);
+    unmavreth_reply reply =
+        gateway_answer(&d->gateway, OUR_SPI, x->id, x->packet, &x->sent.request, &response, &kept);
+    unmavreth_assessment assessment = initiator_assess(&x->sent, &response);
+    print_reply(&reply, &x->sent.request);
+    print_response(&response);
+    print_assessment(&assessment);
+    print_change(&before, &d->gateway.tables);
+    check_answers(&d->checks, x, &reply, &assessment);
+    check_holds(&d->checks, "the octets past the response changed", kept);
+    check_holds(&d->checks, "a field of the tables differs", same_tables(&x->after, &d->gateway.tables));
+    print_checks(&d->checks, since);
+}

@@ -1,0 +1,39 @@
+// One exchange of the day: a request reaches the gateway, its response goes back to the display, and all is printed.
+#ifndef DAY_EXCHANGE_H
+#define DAY_EXCHANGE_H
+
+#include "check.h"
+#include "initiator.h"
+#include "gateway.h"
+
+// The SPIs of the day: our display's IKE record with its two IPsec records, and the neighbour's with one.
+#define OUR_SPI UINT64_C(0x0a11ce0000000001)
+#define NEIGHBOUR_SPI UINT64_C(0x0b0b000000000002)
+enum { OUR_PLACE = 0, NEIGHBOUR_PLACE = 1 };
+
+typedef struct day {
+    gateway gateway;
+    checks checks;
+    sent held_up; // a request that is on its way for longer than the next one
+} day;
+
+// A request with its packet and message ID, and what the scene expects: the answer, what the display's end is told, and
+// each field of each place after it.
+typedef struct exchange {
+    uint32_t id;
+    unmavreth_pair packet;
+    sent sent;
+    uint8_t number, update, list, outcome;
+    uint16_t offset, payloads;
+    tables after;
+} exchange;
+
+// An exchange that expects: done, no update, no list, so many payloads, accepted, the tables as they stand.
+exchange exchange_new(const day *d, uint32_t id, unmavreth_pair packet, uint16_t payloads);
+
+// Begins a scene with what happens in it.
+void print_event(const char *sentences);
+
+void play(day *d, const exchange *x);
+
+#endif

@@ -1,0 +1,76 @@
+// Prints a message payload by payload. It only names what stands there; what it means is the library's to say.
+#include "message.h"
+
+#include <stdio.h>
+#include <string.h>
+
+#include "words.h"
+
+enum { HEADER = 4, NOTIFY_HEADER = 8, CRITICAL = 0x80, OCTETS_A_LINE = 16, NAME = 40 };
+
+message message_of(uint8_t first, const uint8_t *octets, size_t length)
+{
+    message m = {.first = first, .length = length};
+    memcpy(m.octets, octets, length);
+    return m;
+}
+
+void print_octets(const uint8_t *octets, size_t length)
+{
+    for (size_t i = 0; i < length; i++)
+        printf(i == 0 ? "%02x" : " %02x", octets[i]);
+}
+
+static unsigned number_at(const uint8_t *octets)
+{
+    return octets[0] * 256u + octets[1];
+}
+
+static void name_payload(char name[NAME], uint8_t type, const uint8_t *octets, size_t size)
+{
+    if (type == UNMAVRETH_NOTIFY_PAYLOAD && size >= NOTIFY_HEADER) {
+        unsigned notify = number_at(octets + 6);
+        const char *known = notify_name((uint16_t)notify);
+        if (known != NULL)
+            snprintf(name, NAME, "%s", known);
+        else
+            snprintf(name, NAME, "unknown notification %u", notify);
+    } else if (octets[1] & CRITICAL) {
+        snprintf(name, NAME, "critical payload, type %u", type);
+    } else {
+        snprintf(name, NAME, "payload, type %u", type);
+    }
+}
+
+static void print_payload(size_t at, const char *name, const uint8_t *octets, size_t size)
+{
+    for (size_t i = 0; i < size; i += OCTETS_A_LINE) {
+        size_t left = size - i;
+        if (i == 0)
+            printf("    %4zu  %-30s", at, name);
+        else
+            printf("          %-30s", "");
+        print_octets(octets + i, left < OCTETS_A_LINE ? left : OCTETS_A_LINE);
+        printf("\n");
+    }
+}
+
+void print_message(const message *m)
+{
+    uint8_t type = m->first;
+    size_t at = 0;
+    while (at < m->length) {
+        const uint8_t *octets = m->octets + at;
+        size_t left = m->length - at;
+        size_t size = left < HEADER ? 0 : number_at(octets + 2);
+        if (type == 0 || size < HEADER || size > left) {
+            print_payload(at, "not a whole payload", octets, left);
+            return;
+        }
+        char name[NAME];
+        name_payload(name, type, octets, size);
+        print_payload(at, name, octets, size);
+        type = octets[0];
+        at += size;
+    }
+}

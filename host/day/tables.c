@@ -1,0 +1,45 @@
+// Compares tables. The library promises each field of each place and nothing of padding, so fields are compared.
+#include "tables.h"
+
+#include "address.h"
+
+uint64_t mark_of(uint32_t id)
+{
+    return (uint64_t)id + 1;
+}
+
+void move_expected(tables *t, uint64_t spi, unmavreth_pair pair)
+{
+    for (size_t i = 0; i < UNMAVRETH_IKE_RECORDS; i++)
+        if (t->ike.records[i].spi == spi)
+            t->ike.records[i].pair = pair;
+    for (size_t i = 0; i < UNMAVRETH_IPSEC_RECORDS; i++)
+        if (t->ipsec[i].spi != 0 && t->ipsec[i].owner == spi)
+            t->ipsec[i].pair = pair;
+}
+
+static bool same_ike(const unmavreth_ike *a, const unmavreth_ike *b)
+{
+    for (size_t i = 0; i < UNMAVRETH_ADDRESSES; i++)
+        if (!same_address(&a->addresses[i], &b->addresses[i]))
+            return false;
+    return a->spi == b->spi && a->mobike == b->mobike && same_pair(&a->pair, &b->pair) &&
+           a->update_mark == b->update_mark && a->list_mark == b->list_mark && a->count == b->count &&
+           a->unknown == b->unknown;
+}
+
+static bool same_ipsec(const unmavreth_ipsec *a, const unmavreth_ipsec *b)
+{
+    return a->spi == b->spi && a->owner == b->owner && same_pair(&a->pair, &b->pair);
+}
+
+bool same_tables(const tables *a, const tables *b)
+{
+    for (size_t i = 0; i < UNMAVRETH_IKE_RECORDS; i++)
+        if (!same_ike(&a->ike.records[i], &b->ike.records[i]))
+            return false;
+    for (size_t i = 0; i < UNMAVRETH_IPSEC_RECORDS; i++)
+        if (!same_ipsec(&a->ipsec[i], &b->ipsec[i]))
+            return false;
+    return true;
+}

@@ -1,0 +1,23 @@
+// The gateway's tables: compared field by field, and printed with what changed marked.
+#ifndef DAY_TABLES_H
+#define DAY_TABLES_H
+
+#include "unmavreth.h"
+
+typedef struct tables {
+    unmavreth_ike_table ike;
+    unmavreth_ipsec ipsec[UNMAVRETH_IPSEC_RECORDS];
+} tables;
+
+// A message ID as a mark keeps it.
+uint64_t mark_of(uint32_t id);
+
+// The pair of an IKE record and of each IPsec record that it owns, set by the host to say what it expects.
+void move_expected(tables *t, uint64_t spi, unmavreth_pair pair);
+
+bool same_tables(const tables *a, const tables *b);
+
+// The records in use, before and after a call; `*` stands behind each field that changed.
+void print_change(const tables *before, const tables *after);
+
+#endif

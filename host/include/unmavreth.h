@@ -1,0 +1,516 @@
+// The calls of Unmavreth, the MOBIKE part (RFC 4555) of a VPN gateway, for C11 and C++11 on x86-64 Linux.
+//
+// The host authenticates, decrypts, keeps the message window, repeats a cached response to a retransmission, computes
+// NAT detection values and owns all memory. The library reads payload chains, decides, changes the tables that it is
+// lent, and writes payloads. What a call gives depends on its arguments and on what it is lent, and on nothing else:
+// the library keeps nothing between calls.
+//
+// What is lent (everything passed by pointer) must, for as long as the call runs:
+//   - be memory that the host owns, of the whole length that it passes; no pointer is null, not even with length 0;
+//   - hold valid values: a bool is 0 or 1 (in structs passed by value too); any other octets are allowed;
+//   - not overlap anything else that is lent to the same call, if it is lent for writing (a pointer without const);
+//   - be left alone by everyone else: no other thread writes it, or reads it if it is lent for writing.
+// No call keeps a pointer to what it was lent; unmavreth_cookie hands out a part of the body that it was lent.
+//
+// The promises are about fields and octets, not about padding: compare records field by field, not with memcmp.
+//
+// Stack: reading a chain (unmavreth_read, unmavreth_request, unmavreth_response) calls itself once for each 32 payloads,
+// at most 33 deep. How much stack that takes is not proved; a request with 1,024 payloads was measured to take under
+// 19,000 octets (./bench). Call from a thread with at least 64 KiB of stack.
+#ifndef UNMAVRETH_H
+#define UNMAVRETH_H
+
+#include <stdbool.h>
+#include <stddef.h>
+#include <stdint.h>
+
+#ifdef __cplusplus
+#define UNMAVRETH_ASSERT(holds, words) static_assert(holds, words)
+extern "C" {
+#else
+#define UNMAVRETH_ASSERT(holds, words) _Static_assert(holds, words)
+#endif
+
+// The library was built for this layout: a compiler that lays a struct out otherwise is stopped here.
+#define UNMAVRETH_SIZE(type, octets) UNMAVRETH_ASSERT(sizeof(type) == (octets), "size of " #type)
+#define UNMAVRETH_AT(type, field, octet) UNMAVRETH_ASSERT(offsetof(type, field) == (octet), "place of " #field)
+
+// ---------------------------------------------------------------------------------------------------- numbers, sizes
+
+// The number that a call gives. Which of them, and in which order they are checked, stands at each call.
+enum unmavreth_number {
+    UNMAVRETH_DONE = 0,
+    UNMAVRETH_BAD_ARGUMENT = 1,
+    UNMAVRETH_OUTPUT_TOO_SHORT = 2,
+    UNMAVRETH_BODY_TOO_LONG = 3,
+    UNMAVRETH_NO_SUCH_RECORD = 4,
+    UNMAVRETH_MOBIKE_NOT_AGREED = 5,
+    UNMAVRETH_MALFORMED = 6,
+    UNMAVRETH_UNKNOWN_CRITICAL = 7,  // a payload of an unknown type with its critical bit set
+    UNMAVRETH_ADDRESSES_ALTERED = 8, // NO_NATS_ALLOWED is not the packet's addresses and ports
+    UNMAVRETH_NOT_ACCEPTABLE = 9,    // no rule of the policy matches the packet's pair
+    UNMAVRETH_FULL = 10,
+    UNMAVRETH_SPI_IN_USE = 11,
+    UNMAVRETH_BAD_POLICY = 12 // over 16 rules, or a prefix too long
+};
+
+// What became of a request's update, and of its list of additional addresses.
+enum unmavreth_update { UNMAVRETH_UPDATE_NONE = 0, UNMAVRETH_UPDATE_APPLIED = 1, UNMAVRETH_UPDATE_STALE = 2 };
+enum unmavreth_list { UNMAVRETH_LIST_NONE = 0, UNMAVRETH_LIST_REPLACED = 1, UNMAVRETH_LIST_STALE = 2 };
+
+// What a response comes to.
+enum unmavreth_outcome {
+    UNMAVRETH_OUTCOME_NONE = 0,         // with every number but 0
+    UNMAVRETH_OUTCOME_CLOSE = 1,        // close the IKE SA: the cookie that was sent did not come back
+    UNMAVRETH_OUTCOME_NAT_SEEN = 2,     // the first error is UNEXPECTED_NAT_DETECTED
+    UNMAVRETH_OUTCOME_UNACCEPTABLE = 3, // the first error is UNACCEPTABLE_ADDRESSES
+    UNMAVRETH_OUTCOME_FAILED = 4,       // the first error is another one (any other notify type below 16384)
+    UNMAVRETH_OUTCOME_ACCEPTED = 5
+};
+
+enum unmavreth_size {
+    UNMAVRETH_IKE_RECORDS = 32,
+    UNMAVRETH_IPSEC_RECORDS = 128, // any other count of lent records is answered 1
+    UNMAVRETH_RULES = 16,
+    UNMAVRETH_ADDRESSES = 16,
+    UNMAVRETH_ADDRESS_OCTETS = 16,
+    UNMAVRETH_BODY_OCTETS = 4096,  // the longest body that is read
+    UNMAVRETH_RESPONSE_ROOM = 128, // the least output for a response
+    UNMAVRETH_REQUEST_ROOM = 564,  // the least output for a request
+    UNMAVRETH_NAT_OCTETS = 20,     // a NAT detection value
+    UNMAVRETH_COOKIE_LEAST = 8,    // a COOKIE2, if there is one
+    UNMAVRETH_COOKIE_MOST = 64
+};
+
+// Payload types: 41 is Notify; 33 to 48 other than 41 are known and skipped; any other but 0 is unknown.
+enum unmavreth_payload { UNMAVRETH_NOTIFY_PAYLOAD = 41 };
+
+// The notify types that are known here, with the octets of data that each has. Every other type is tallied as unknown.
+enum unmavreth_notify {
+    UNMAVRETH_NAT_DETECTION_SOURCE_IP = 16388,      // 20
+    UNMAVRETH_NAT_DETECTION_DESTINATION_IP = 16389, // 20
+    UNMAVRETH_MOBIKE_SUPPORTED = 16396,             // any, ignored
+    UNMAVRETH_ADDITIONAL_IP4_ADDRESS = 16397,       // 4
+    UNMAVRETH_ADDITIONAL_IP6_ADDRESS = 16398,       // 16
+    UNMAVRETH_NO_ADDITIONAL_ADDRESSES = 16399,      // 0
+    UNMAVRETH_UPDATE_SA_ADDRESSES = 16400,          // 0
+    UNMAVRETH_COOKIE2 = 16401,                      // 8 to 64
+    UNMAVRETH_NO_NATS_ALLOWED = 16402               // 12 (IPv4) or 36 (IPv6): source, destination, their ports
+};
+
+// The errors that a response may tell; types below 16384 are errors.
+enum unmavreth_error {
+    UNMAVRETH_UNSUPPORTED_CRITICAL_PAYLOAD = 1, // data: the payload's type
+    UNMAVRETH_INVALID_SYNTAX = 7,
+    UNMAVRETH_UNACCEPTABLE_ADDRESSES = 40,
+    UNMAVRETH_UNEXPECTED_NAT_DETECTED = 41,
+    UNMAVRETH_FIRST_STATUS = 16384 // the first notify type that is not an error
+};
+
+// --------------------------------------------------------------------------------------------------------- addresses
+
+// An address: family 4 or 6, and its octets as in a packet; an IPv4 address has its 4 first and then 12 zeros.
+typedef struct unmavreth_address {
+    uint8_t family;
+    uint8_t octets[UNMAVRETH_ADDRESS_OCTETS];
+} unmavreth_address;
+UNMAVRETH_SIZE(unmavreth_address, 17);
+UNMAVRETH_AT(unmavreth_address, family, 0);
+UNMAVRETH_AT(unmavreth_address, octets, 1);
+
+typedef struct unmavreth_addresses_list {
+    unmavreth_address list[UNMAVRETH_ADDRESSES];
+} unmavreth_addresses_list;
+UNMAVRETH_SIZE(unmavreth_addresses_list, 272);
+UNMAVRETH_AT(unmavreth_addresses_list, list, 0);
+
+// The addresses and ports of a packet from the peer: the source is the peer's. Ports are plain numbers, not in
+// the octet order of the network.
+typedef struct unmavreth_pair {
+    uint8_t family;
+    uint8_t source[UNMAVRETH_ADDRESS_OCTETS];
+    uint8_t destination[UNMAVRETH_ADDRESS_OCTETS];
+    uint16_t source_port;
+    uint16_t destination_port;
+} unmavreth_pair;
+UNMAVRETH_SIZE(unmavreth_pair, 38);
+UNMAVRETH_AT(unmavreth_pair, family, 0);
+UNMAVRETH_AT(unmavreth_pair, source, 1);
+UNMAVRETH_AT(unmavreth_pair, destination, 17);
+UNMAVRETH_AT(unmavreth_pair, source_port, 34);
+UNMAVRETH_AT(unmavreth_pair, destination_port, 36);
+
+// ------------------------------------------------------------------------------------------------------------ policy
+
+// Which pairs an update may move a record to. A rule matches a pair of its family whose source begins with the first
+// source_len bits of `source`, and whose destination with the first destination_len bits of `destination`. Bits past
+// a length are ignored; length 0 matches all. Lengths are at most 32 for IPv4 and 128 for IPv6.
+typedef struct unmavreth_rule {
+    uint8_t family;
+    uint8_t source[UNMAVRETH_ADDRESS_OCTETS];
+    uint8_t destination[UNMAVRETH_ADDRESS_OCTETS];
+    uint8_t source_len;
+    uint8_t destination_len;
+} unmavreth_rule;
+UNMAVRETH_SIZE(unmavreth_rule, 35);
+UNMAVRETH_AT(unmavreth_rule, family, 0);
+UNMAVRETH_AT(unmavreth_rule, source, 1);
+UNMAVRETH_AT(unmavreth_rule, destination, 17);
+UNMAVRETH_AT(unmavreth_rule, source_len, 33);
+UNMAVRETH_AT(unmavreth_rule, destination_len, 34);
+
+typedef struct unmavreth_rules {
+    unmavreth_rule rules[UNMAVRETH_RULES];
+} unmavreth_rules;
+UNMAVRETH_SIZE(unmavreth_rules, 560);
+UNMAVRETH_AT(unmavreth_rules, rules, 0);
+
+// The policy: the first `count` rules; a count over 16 reads as 16. All zeros is the empty policy, to which nothing
+// is acceptable.
+typedef struct unmavreth_policy {
+    uint16_t count;
+    unmavreth_rule rules[UNMAVRETH_RULES];
+} unmavreth_policy;
+UNMAVRETH_SIZE(unmavreth_policy, 562);
+UNMAVRETH_AT(unmavreth_policy, count, 0);
+UNMAVRETH_AT(unmavreth_policy, rules, 2);
+
+// Sets the whole policy, in place. Numbers, in the order of the checks, each over the whole list:
+//   12  count is over 16
+//    1  one of the first `count` rules has a family other than 4 and 6, or an IPv4 prefix with a tail that is not
+//       zero
+//   12  one of them has a length over 32 (IPv4) or 128 (IPv6)
+//    0  set: the first `count` rules as they were given, zeros in the places after them
+// With 1 and 12 every field of the policy stays as it was. Rules past the count are not looked at.
+uint8_t unmavreth_set_policy(unmavreth_policy *policy, uint16_t count, const unmavreth_rules *rules);
+
+// Whether some rule of the policy matches the pair. A rule with a family or a length that is not allowed matches
+// nothing.
+bool unmavreth_acceptable(const unmavreth_policy *policy, unmavreth_pair pair);
+
+// ------------------------------------------------------------------------------------------------------------ tables
+
+// An IKE record. The place is free if its SPI is 0; all zeros is a free place. A mark that is a
+// message ID is kept as the ID plus one, and no mark as 0: an ID exceeds the mark exactly if mark <= ID.
+typedef struct unmavreth_ike {
+    uint64_t spi;         // the gateway's own SPI of the IKE SA
+    bool mobike;          // whether MOBIKE was agreed
+    unmavreth_pair pair;  // the addresses and ports in use
+    uint64_t update_mark; // of the newest update that was received
+    uint64_t list_mark;   // of the newest list that was kept
+    uint16_t count;       // how many additional addresses are kept
+    unmavreth_address addresses[UNMAVRETH_ADDRESSES];
+    uint32_t unknown; // unknown payloads and unknown notifications, counted; stays at 4,294,967,295 once there
+} unmavreth_ike;
+UNMAVRETH_SIZE(unmavreth_ike, 344);
+UNMAVRETH_AT(unmavreth_ike, spi, 0);
+UNMAVRETH_AT(unmavreth_ike, mobike, 8);
+UNMAVRETH_AT(unmavreth_ike, pair, 10);
+UNMAVRETH_AT(unmavreth_ike, update_mark, 48);
+UNMAVRETH_AT(unmavreth_ike, list_mark, 56);
+UNMAVRETH_AT(unmavreth_ike, count, 64);
+UNMAVRETH_AT(unmavreth_ike, addresses, 66);
+UNMAVRETH_AT(unmavreth_ike, unknown, 340);
+
+// The table of IKE records: always 32, as a struct so that the compiler checks it.
+typedef struct unmavreth_ike_table {
+    unmavreth_ike records[UNMAVRETH_IKE_RECORDS];
+} unmavreth_ike_table;
+UNMAVRETH_SIZE(unmavreth_ike_table, 11008);
+UNMAVRETH_AT(unmavreth_ike_table, records, 0);
+
+// An IPsec record. The place is free if its SPI is 0; all zeros is a free place.
+typedef struct unmavreth_ipsec {
+    uint32_t spi;
+    uint64_t owner; // the SPI of the IKE record that owns it
+    unmavreth_pair pair;
+} unmavreth_ipsec;
+UNMAVRETH_SIZE(unmavreth_ipsec, 56);
+UNMAVRETH_AT(unmavreth_ipsec, spi, 0);
+UNMAVRETH_AT(unmavreth_ipsec, owner, 8);
+UNMAVRETH_AT(unmavreth_ipsec, pair, 16);
+
+// The calls on the tables change them in place. The IPsec records are lent as a start and how many there are, which
+// must be 128. The host begins with tables of zeros. If several places have an SPI, which no sequence of calls on
+// tables of zeros brings about, the lowest is meant. With every number but 0 each of these four calls leaves every
+// field of every place as it was.
+
+// Opens an IKE record at the lowest free place: no marks, no additional addresses, tally 0. Numbers, in the order of
+// the checks:
+//    1  the SPI is 0, the pair's family is not 4 or 6, or an IPv4 address of the pair has a tail that is not zero
+//   11  an IKE record has this SPI
+//   10  no place is free
+//    0  opened; no other place changes
+// Neither the policy nor `mobike` is asked whether it may be opened.
+uint8_t unmavreth_open_ike(unmavreth_ike_table *ike, uint64_t spi, bool mobike, unmavreth_pair pair);
+
+// Opens an IPsec record at the lowest free place, with the pair of the IKE record `owner`. Numbers, in the order of
+// the checks:
+//    1  `records` is not 128, or the SPI or the owner is 0
+//    4  no IKE record has the SPI `owner`
+//   11  an IPsec record has this SPI
+//   10  no place is free
+//    0  opened; no other place changes
+uint8_t unmavreth_open_ipsec(const unmavreth_ike_table *ike, unmavreth_ipsec *ipsec, size_t records, uint32_t spi,
+                             uint64_t owner);
+
+// Closes an IKE record, and each IPsec record in use that it owns. Numbers, in the order of the checks:
+//    1  `records` is not 128, or the SPI is 0
+//    4  no IKE record has this SPI
+//    0  closed: every field of these places is 0; no other place changes
+uint8_t unmavreth_close_ike(unmavreth_ike_table *ike, unmavreth_ipsec *ipsec, size_t records, uint64_t spi);
+
+// Closes an IPsec record. Numbers, in the order of the checks:
+//    1  `records` is not 128, or the SPI is 0
+//    4  no IPsec record has this SPI
+//    0  closed: every field of its place is 0; no other place changes
+uint8_t unmavreth_close_ipsec(unmavreth_ipsec *ipsec, size_t records, uint32_t spi);
+
+// --------------------------------------------------------------------------------------------------- reading a chain
+
+// How many payloads a chain has, and how many of them are not known here.
+typedef struct unmavreth_tally {
+    uint16_t payloads;
+    uint16_t unknown_payloads; // of an unknown type, not critical
+    uint16_t unknown_notifies; // Notify payloads of an unknown notify type, errors included
+    uint16_t errors;           // those of them whose notify type is below 16384
+    uint16_t first_error;      // the notify type of the first error; 0 if `errors` is 0
+} unmavreth_tally;
+UNMAVRETH_SIZE(unmavreth_tally, 10);
+UNMAVRETH_AT(unmavreth_tally, payloads, 0);
+UNMAVRETH_AT(unmavreth_tally, unknown_payloads, 2);
+UNMAVRETH_AT(unmavreth_tally, unknown_notifies, 4);
+UNMAVRETH_AT(unmavreth_tally, errors, 6);
+UNMAVRETH_AT(unmavreth_tally, first_error, 8);
+
+// The additional addresses: all are counted; of the first sixteen, where their octets stand, and their families.
+typedef struct unmavreth_places {
+    uint16_t count;
+    uint16_t places[UNMAVRETH_ADDRESSES];
+    uint8_t families[UNMAVRETH_ADDRESSES];
+} unmavreth_places;
+UNMAVRETH_SIZE(unmavreth_places, 50);
+UNMAVRETH_AT(unmavreth_places, count, 0);
+UNMAVRETH_AT(unmavreth_places, places, 2);
+UNMAVRETH_AT(unmavreth_places, families, 34);
+
+// What a chain's payloads say. A place is the offset in the body at which the data begins; 0 means that there is
+// none.
+typedef struct unmavreth_seen {
+    unmavreth_tally tally;
+    bool update;              // UPDATE_SA_ADDRESSES
+    bool no_additional;       // NO_ADDITIONAL_ADDRESSES
+    uint16_t nat_source;      // place of the 20 octets of NAT_DETECTION_SOURCE_IP, of the first if there are several
+    uint16_t nat_destination; // place of the 20 octets of NAT_DETECTION_DESTINATION_IP
+    uint16_t no_nats;         // place of NO_NATS_ALLOWED
+    uint16_t no_nats_len;     // 12 or 36
+    uint16_t cookie;          // place of COOKIE2
+    uint16_t cookie_len;      // 8 to 64
+    unmavreth_places list;
+} unmavreth_seen;
+UNMAVRETH_SIZE(unmavreth_seen, 74);
+UNMAVRETH_AT(unmavreth_seen, tally, 0);
+UNMAVRETH_AT(unmavreth_seen, update, 10);
+UNMAVRETH_AT(unmavreth_seen, no_additional, 11);
+UNMAVRETH_AT(unmavreth_seen, nat_source, 12);
+UNMAVRETH_AT(unmavreth_seen, nat_destination, 14);
+UNMAVRETH_AT(unmavreth_seen, no_nats, 16);
+UNMAVRETH_AT(unmavreth_seen, no_nats_len, 18);
+UNMAVRETH_AT(unmavreth_seen, cookie, 20);
+UNMAVRETH_AT(unmavreth_seen, cookie_len, 22);
+UNMAVRETH_AT(unmavreth_seen, list, 24);
+
+typedef struct unmavreth_reading {
+    uint8_t number;
+    uint8_t critical; // with 7, the type of that payload, else 0
+    uint16_t offset;  // with 6 and 7, where the payload begins, else 0
+    unmavreth_seen seen;
+} unmavreth_reading;
+UNMAVRETH_SIZE(unmavreth_reading, 78);
+UNMAVRETH_AT(unmavreth_reading, number, 0);
+UNMAVRETH_AT(unmavreth_reading, critical, 1);
+UNMAVRETH_AT(unmavreth_reading, offset, 2);
+UNMAVRETH_AT(unmavreth_reading, seen, 4);
+
+// Reads any octets as a chain of payloads, the first of type `first`. Numbers, in the order of the checks:
+//    3  the body has over 4,096 octets
+//    6  malformed                                           } whichever is at the smallest offset; in one payload,
+//    7  a payload of an unknown type with its critical bit  } 6 comes before 7
+//    0  read whole: `seen` says what is in it
+// With 3, 6 and 7 every field of `seen` is 0. Malformed is: under 4 octets left where a payload is due; a length under
+// 4 or past the end; octets after the last payload; a Notify under 8 octets, or with an SPI past its length; one of the
+// notify types above with an SPI, or with data of another size; a second UPDATE_SA_ADDRESSES, NO_ADDITIONAL_ADDRESSES,
+// COOKIE2, NO_NATS_ALLOWED or NAT_DETECTION_DESTINATION_IP; NO_ADDITIONAL_ADDRESSES together with an address.
+unmavreth_reading unmavreth_read(uint8_t first, const uint8_t *body, size_t octets);
+
+// A part of a body: where it starts and how many octets it has.
+typedef struct unmavreth_part {
+    const uint8_t *start;
+    size_t octets;
+} unmavreth_part;
+UNMAVRETH_SIZE(unmavreth_part, 16);
+UNMAVRETH_AT(unmavreth_part, start, 0);
+UNMAVRETH_AT(unmavreth_part, octets, 8);
+
+// Hands out a cookie as a part of the body, by the place and the length that a reading or a reply of this body told:
+// *out becomes the `cookie_len` octets at `cookie`, or an empty part if there is none or if they would run past the
+// end. On entry *out must hold some valid part, such as { body, 0 }. The part is of use for as long as the host
+// leaves the body alone.
+void unmavreth_cookie(unmavreth_part *out, const uint8_t *body, size_t octets, uint16_t cookie, uint16_t cookie_len);
+
+// What NO_NATS_ALLOWED holds, from the body that was read and what was seen in it; family 0 and zeros if there is
+// none.
+unmavreth_pair unmavreth_no_nats(const uint8_t *body, size_t octets, unmavreth_seen seen);
+
+// The first sixteen additional addresses, from the body that was read and what was seen in it; zeros in the places
+// past the count.
+unmavreth_addresses_list unmavreth_addresses(const uint8_t *body, size_t octets, unmavreth_seen seen);
+
+// ----------------------------------------------------------------------------------------------- answering a request
+
+// All that handling a request gives back but the tables and the response's octets.
+typedef struct unmavreth_reply {
+    uint8_t number;
+    uint8_t update;      // enum unmavreth_update; none with every number but 0
+    uint8_t list;        // enum unmavreth_list; none with every number but 0
+    uint8_t first;       // the type of the response's first payload: 41, or 0 if the response is empty
+    uint16_t left_off;   // how many addresses of a list that was kept were over sixteen
+    uint16_t payloads;   // of the request; 0 with 1 to 7
+    uint16_t offset;     // with 6 and 7, where the payload begins, else 0
+    uint16_t cookie;     // place of the request's COOKIE2; 0 if there is none, and with 1 to 7
+    uint16_t cookie_len; // its length, 0 likewise
+    uint16_t length;     // octets of the response
+} unmavreth_reply;
+UNMAVRETH_SIZE(unmavreth_reply, 16);
+UNMAVRETH_AT(unmavreth_reply, number, 0);
+UNMAVRETH_AT(unmavreth_reply, update, 1);
+UNMAVRETH_AT(unmavreth_reply, list, 2);
+UNMAVRETH_AT(unmavreth_reply, first, 3);
+UNMAVRETH_AT(unmavreth_reply, left_off, 4);
+UNMAVRETH_AT(unmavreth_reply, payloads, 6);
+UNMAVRETH_AT(unmavreth_reply, offset, 8);
+UNMAVRETH_AT(unmavreth_reply, cookie, 10);
+UNMAVRETH_AT(unmavreth_reply, cookie_len, 12);
+UNMAVRETH_AT(unmavreth_reply, length, 14);
+
+// Handles one decrypted INFORMATIONAL request for an IKE SA of which our end is the original responder.
+//   spi, id              the gateway's SPI of the IKE SA, and the request's message ID
+//   pair                 the addresses and ports of the packet that brought the request
+//   source, destination  the gateway's two NAT detection values for the response; lent with every request
+//   first, body, octets  the decrypted payload chain
+//   out, out_octets      where the response goes
+// Numbers, in the order of the checks, and what each leaves of the tables and of the output:
+//    1  `records` is not 128, the SPI is 0, a NAT detection value has not 20 octets, the pair's family is not 4 or 6,
+//       or an IPv4 address of the pair has a tail that is not zero
+//    2  the output has under 128 octets, however short the response would be
+//    3  the body has over 4,096 octets
+//    4  no IKE record has this SPI
+//    5  MOBIKE was not agreed for it
+//         With 1 to 5 every field of every place and every octet of the output stay as they were; `length` is 0.
+//    6  malformed                     } as in unmavreth_read
+//    7  an unknown critical payload   }
+//         With 6 and 7 every field of every place stays as it was. The response is INVALID_SYNTAX, or
+//         UNSUPPORTED_CRITICAL_PAYLOAD with the payload's type; no COOKIE2.
+//    8  a new update (its ID exceeds the update mark) whose NO_NATS_ALLOWED is not the packet's addresses and ports
+//    9  a new update, and no rule of the policy matches the packet's pair
+//         With 8 and 9 that IKE record's unknown tally grows as with 0 and its update mark becomes the ID, so that an
+//         older update is stale from now on; no other field of any place changes. The response is
+//         UNEXPECTED_NAT_DETECTED or UNACCEPTABLE_ADDRESSES, then the request's COOKIE2 if it had one.
+//    0  done. That IKE record's tally grows by the unknown payloads and the unknown notifications. Then, by `update`:
+//         applied   its update mark becomes the ID; its pair, and the pair of each IPsec record in use that it owns,
+//                   become the packet's
+//         stale     the ID does not exceed the update mark: the update has no effect
+//       and by `list`:
+//         replaced  its additional addresses become the request's first sixteen (none, with NO_ADDITIONAL_ADDRESSES),
+//                   zeros in the places after them; its list mark becomes the ID
+//         stale     the ID does not exceed the list mark: the list has no effect
+//       No other field of any place changes. The response is, for a request with an update (a stale one too) and both
+//       kinds of NAT detection, the two lent values, source first; then the request's COOKIE2 if it had one; it may
+//       be empty.
+// The response stands at the start of the output; octets past its `length` stay as they were.
+unmavreth_reply unmavreth_request(unmavreth_ike_table *ike, unmavreth_ipsec *ipsec, size_t records,
+                                  const unmavreth_policy *policy, uint64_t spi, uint32_t id, unmavreth_pair pair,
+                                  const uint8_t *source, size_t source_octets, const uint8_t *destination,
+                                  size_t destination_octets, uint8_t first, const uint8_t *body, size_t octets,
+                                  uint8_t *out, size_t out_octets);
+
+// ----------------------------------------------------------------------------------------------- the initiator's end
+
+// What a request is to carry. Both kinds of NAT detection are asked for, or neither.
+typedef struct unmavreth_ask {
+    bool update;          // UPDATE_SA_ADDRESSES
+    bool no_nats;         // NO_NATS_ALLOWED with `pair`
+    bool nat_source;      // NAT_DETECTION_SOURCE_IP with `source`
+    bool nat_destination; // NAT_DETECTION_DESTINATION_IP with `destination`
+    bool no_additional;   // NO_ADDITIONAL_ADDRESSES
+    uint16_t count;       // how many of `addresses`; 0 without no_additional says nothing about them
+} unmavreth_ask;
+UNMAVRETH_SIZE(unmavreth_ask, 8);
+UNMAVRETH_AT(unmavreth_ask, update, 0);
+UNMAVRETH_AT(unmavreth_ask, no_nats, 1);
+UNMAVRETH_AT(unmavreth_ask, nat_source, 2);
+UNMAVRETH_AT(unmavreth_ask, nat_destination, 3);
+UNMAVRETH_AT(unmavreth_ask, no_additional, 4);
+UNMAVRETH_AT(unmavreth_ask, count, 6);
+
+typedef struct unmavreth_written {
+    uint8_t number;
+    uint8_t first;   // the type of the first payload: 41, or 0 if nothing was written
+    uint16_t length; // octets written
+} unmavreth_written;
+UNMAVRETH_SIZE(unmavreth_written, 4);
+UNMAVRETH_AT(unmavreth_written, number, 0);
+UNMAVRETH_AT(unmavreth_written, first, 1);
+UNMAVRETH_AT(unmavreth_written, length, 2);
+
+// Writes a request, those asked for in this order: update, NO_NATS_ALLOWED, NAT source, NAT destination,
+// NO_ADDITIONAL_ADDRESSES or the addresses, COOKIE2 (asked for by a cookie of other than 0 octets). What is not asked
+// for, and addresses past the count, are not looked at. Numbers, in the order of the checks:
+//    1  count is over 16, or not 0 with no_additional; one NAT kind alone, or a NAT value that is asked for has not
+//       20 octets; the pair or an address that is asked for has a family other than 4 and 6, or an IPv4 tail that is
+//       not zero; the cookie has not 0 or 8 to 64 octets
+//    2  the output has under 564 octets, however short the request would be
+//    0  written to the start of the output; octets past `length` stay as they were
+// With 1 and 2 every octet of the output stays as it was; `first` and `length` are 0.
+//
+// A request for everything has 21 Notify payloads. strongSwan 5.9.8 refuses a message with more than 20 and destroys
+// the IKE SA: where the peer may be one, ask for at most 15 addresses with all else.
+unmavreth_written unmavreth_write(unmavreth_ask ask, unmavreth_pair pair, unmavreth_addresses_list addresses,
+                                  const uint8_t *source, size_t source_octets, const uint8_t *destination,
+                                  size_t destination_octets, const uint8_t *cookie, size_t cookie_octets,
+                                  uint8_t *out, size_t out_octets);
+
+typedef struct unmavreth_assessment {
+    uint8_t number;
+    uint8_t outcome;   // enum unmavreth_outcome; 0 with every number but 0
+    uint16_t payloads; // of the response; 0 with every number but 0
+    uint16_t offset;   // with 6 and 7, where the payload begins, else 0
+    uint32_t tally;    // what was unknown in it: a cookie that was not sent too, errors not; 0 with every number but 0
+} unmavreth_assessment;
+UNMAVRETH_SIZE(unmavreth_assessment, 12);
+UNMAVRETH_AT(unmavreth_assessment, number, 0);
+UNMAVRETH_AT(unmavreth_assessment, outcome, 1);
+UNMAVRETH_AT(unmavreth_assessment, payloads, 2);
+UNMAVRETH_AT(unmavreth_assessment, offset, 4);
+UNMAVRETH_AT(unmavreth_assessment, tally, 8);
+
+// Says what the response to a request comes to; `sent` is the cookie of that request, 0 octets if it had none.
+// Numbers, in the order of the checks:
+//    1  `sent` has not 0 or 8 to 64 octets
+//    3  the body has over 4,096 octets
+//    6  malformed                     } as in unmavreth_read
+//    7  an unknown critical payload   }
+//    0  read whole. The outcome is the first of these that holds: close (a cookie was sent, and another one came
+//       back, or none and no error either); the first error as NAT seen, unacceptable or failed; accepted.
+unmavreth_assessment unmavreth_response(const uint8_t *sent, size_t sent_octets, uint8_t first, const uint8_t *body,
+                                        size_t octets);
+
+#undef UNMAVRETH_AT
+#undef UNMAVRETH_SIZE
+#undef UNMAVRETH_ASSERT
+
+#ifdef __cplusplus
+}
+#endif
+
+#endif

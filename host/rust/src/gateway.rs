@@ -1,0 +1,72 @@
+//! The tables and the policy of one gateway, owned together.
+use crate::layout::{IkeRecord, IpsecRecord, Pair, Policy, Reply, Rule};
+use crate::{Number, Request};
+
+/// A gateway's tables and policy, empty at first. A host that keeps them elsewhere lends them to the
+/// functions of this crate, to which each call here is handed.
+#[derive(Debug, Clone, PartialEq, Eq)]
+pub struct Gateway {
+    /// The IKE records.
+    pub ike: Box<[IkeRecord; 32]>,
+    /// The IPsec records.
+    pub ipsec: Box<[IpsecRecord; 128]>,
+    /// The address policy.
+    pub policy: Policy,
+}
+
+impl Gateway {
+    /// Empty tables and the empty policy, which accepts nothing.
+    pub fn new() -> Self {
+        Gateway {
+            ike: Box::new([IkeRecord::FREE; 32]),
+            ipsec: Box::new([IpsecRecord::FREE; 128]),
+            policy: Policy::EMPTY,
+        }
+    }
+
+    /// As [`open_ike`](crate::open_ike).
+    pub fn open_ike(&mut self, spi: u64, mobike: bool, pair: &Pair) -> Number {
+        crate::open_ike(&mut self.ike, spi, mobike, pair)
+    }
+
+    /// As [`open_ipsec`](crate::open_ipsec).
+    pub fn open_ipsec(&mut self, spi: u32, owner: u64) -> Number {
+        crate::open_ipsec(&self.ike, &mut self.ipsec[..], spi, owner)
+    }
+
+    /// As [`close_ike`](crate::close_ike).
+    pub fn close_ike(&mut self, spi: u64) -> Number {
+        crate::close_ike(&mut self.ike, &mut self.ipsec[..], spi)
+    }
+
+    /// As [`close_ipsec`](crate::close_ipsec).
+    pub fn close_ipsec(&mut self, spi: u32) -> Number {
+        crate::close_ipsec(&mut self.ipsec[..], spi)
+    }
+
+    /// As [`set_policy`](crate::set_policy), with all of these rules; over 16 of them are refused there.
+    pub fn set_policy(&mut self, rules: &[Rule]) -> Number {
+        let count = u16::try_from(rules.len()).unwrap_or(u16::MAX);
+        let mut places = [Rule::NONE; 16];
+        for (place, rule) in places.iter_mut().zip(rules) {
+            *place = *rule;
+        }
+        crate::set_policy(&mut self.policy, count, &places)
+    }
+
+    /// As [`acceptable`](crate::acceptable).
+    pub fn acceptable(&self, pair: &Pair) -> bool {
+        crate::acceptable(&self.policy, pair)
+    }
+
+    /// As [`handle`](crate::handle).
+    pub fn handle(&mut self, request: &Request<'_>, out: &mut [u8]) -> Reply {
+        crate::handle(&mut self.ike, &mut self.ipsec[..], &self.policy, request, out)
+    }
+}
+
+impl Default for Gateway {
+    fn default() -> Self {
+        Gateway::new()
+    }
+}

@@ -1,0 +1,53 @@
+//! What the calls give back beside a bare number.
+
+/// What [`handle`](crate::handle) gives: all but the tables and the response's octets.
+#[repr(C)]
+#[derive(Debug, Clone, Copy, PartialEq, Eq)]
+pub struct Reply {
+    pub(crate) number: u8,
+    pub(crate) update: u8,
+    pub(crate) list: u8,
+    pub(crate) first: u8,
+    pub(crate) left_off: u16,
+    pub(crate) payloads: u16,
+    pub(crate) offset: u16,
+    pub(crate) cookie: u16,
+    pub(crate) cookie_len: u16,
+    pub(crate) length: u16,
+}
+
+/// What [`write`](crate::write) gives beside the octets.
+#[repr(C)]
+#[derive(Debug, Clone, Copy, PartialEq, Eq)]
+pub struct Written {
+    pub(crate) number: u8,
+    pub(crate) first: u8,
+    pub(crate) length: u16,
+}
+
+/// What [`assess`](crate::assess) gives.
+#[repr(C)]
+#[derive(Debug, Clone, Copy, PartialEq, Eq)]
+pub struct Assessment {
+    pub(crate) number: u8,
+    pub(crate) outcome: u8,
+    pub(crate) payloads: u16,
+    pub(crate) offset: u16,
+    pub(crate) tally: u32,
+}
+
+/// A part of lent octets: where it begins and how many there are.
+#[repr(C)]
+#[derive(Clone, Copy)]
+pub(crate) struct Part {
+    pub(crate) start: *const u8,
+    pub(crate) octets: usize,
+}
+
+laid_out!(Reply, size 16, align 2, {
+    number: 0, update: 1, list: 2, first: 3, left_off: 4, payloads: 6, offset: 8, cookie: 10,
+    cookie_len: 12, length: 14,
+});
+laid_out!(Written, size 4, align 2, { number: 0, first: 1, length: 2 });
+laid_out!(Assessment, size 12, align 4, { number: 0, outcome: 1, payloads: 2, offset: 4, tally: 8 });
+laid_out!(Part, size 16, align 8, { start: 0, octets: 8 });

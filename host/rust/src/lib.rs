@@ -1,0 +1,78 @@
+//! The MOBIKE part of a VPN gateway (RFC 4555), as a safe interface over the proved library.
+//!
+//! Cryptography, sockets, key exchange and timers stay with the host. It hands over decrypted payloads
+//! with the packet's addresses; the library decides, changes the tables that are lent to it, and writes
+//! the response. Each function here passes on whatever it is given and tells the number that comes
+//! back: nothing panics, and nothing is refused that the library doesn't refuse.
+//!
+//! The tables are lent, and no table is copied. [`Gateway`] owns one set of them, for a host that has
+//! no other place for them.
+//!
+//! It links `libhost.a`, which `rt staticlib host` proves and writes to `target/staticlib`; the environment
+//! variable `UNMAVRETH_LIBRARY_DIRECTORY` names another directory.
+//!
+//! A whole exchange, from the initiator's update to what it makes of the response:
+//!
+//! ```
+//! use unmavreth::{assess, write, Ask, Draft, Effect, Gateway, Number, Outcome, Pair, Request, Rule};
+//!
+//! // The responder's end: one IKE SA with one IPsec SA, and where peers may move to.
+//! let old = Pair::ipv4(([203, 0, 113, 5], 4500), ([192, 0, 2, 1], 4500));
+//! let mut gateway = Gateway::new();
+//! assert_eq!(gateway.open_ike(7, true, &old), Number::Done);
+//! assert_eq!(gateway.open_ipsec(70, 7), Number::Done);
+//! let rule = Rule::ipv4(([198, 51, 100, 0], 24), ([192, 0, 2, 0], 24));
+//! assert_eq!(gateway.set_policy(&[rule]), Number::Done);
+//!
+//! // The initiator's end writes an update, with a cookie for the return routability check.
+//! let ask = Ask { update: true, ..Ask::default() };
+//! let sent = [1, 2, 3, 4, 5, 6, 7, 8];
+//! let mut out = [0; 564];
+//! let written = write(&Draft { ask, cookie: &sent, ..Draft::default() }, &mut out);
+//! assert_eq!((written.number(), written.length()), (Number::Done, 24));
+//!
+//! // The request arrives from another address, and is handled.
+//! let new = Pair::ipv4(([198, 51, 100, 7], 4500), ([192, 0, 2, 1], 4500));
+//! let request = Request {
+//!     spi: 7,
+//!     id: 0,
+//!     pair: new,
+//!     nat_source: &[0; 20],
+//!     nat_destination: &[0; 20],
+//!     first: written.first(),
+//!     body: written.body(&out),
+//! };
+//! let mut answer = [0; 128];
+//! let reply = gateway.handle(&request, &mut answer);
+//! assert_eq!((reply.number(), reply.update()), (Number::Done, Effect::Applied));
+//! assert_eq!(reply.cookie(request.body), sent);
+//! assert_eq!((gateway.ike[0].pair, gateway.ipsec[0].pair), (new, new));
+//!
+//! // The response goes back, and brings the cookie.
+//! let assessed = assess(&sent, reply.first(), reply.response(&answer));
+//! assert_eq!((assessed.number(), assessed.outcome()), (Number::Done, Outcome::Accepted));
+//! ```
+#![deny(missing_docs)]
+#![deny(unsafe_op_in_unsafe_fn)]
+
+mod gateway;
+mod initiator;
+mod layout;
+mod numbers;
+mod policy;
+mod raw;
+mod reader;
+mod records;
+mod responder;
+
+pub use gateway::Gateway;
+pub use initiator::{assess, write, Draft};
+pub use layout::{
+    Address, Ask, Assessment, Flag, IkeRecord, IpsecRecord, Pair, Places, Policy, Reading, Reply,
+    Rule, Seen, Tally, Written,
+};
+pub use numbers::{Effect, Number, Outcome};
+pub use policy::{acceptable, set_policy};
+pub use reader::{addresses, cookie, no_nats, read};
+pub use records::{close_ike, close_ipsec, open_ike, open_ipsec};
+pub use responder::{handle, Request};

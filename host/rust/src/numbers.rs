@@ -1,0 +1,141 @@
+//! The numbers that the calls give back, by their meaning.
+
+/// The number that a call gives back. Any octet has a meaning here, so that looking at one never fails.
+#[derive(Debug, Clone, Copy, PartialEq, Eq)]
+pub enum Number {
+    /// 0: done.
+    Done,
+    /// 1: a family other than 4 or 6, an IPv4 tail that isn't zero, an SPI of 0, an IPsec list not of
+    /// 128 records, a NAT value not of 20 octets, or a cookie to send not of 0 or 8 to 64 octets.
+    BadArgument,
+    /// 2: the output is under 128 octets, or 564 for the writer.
+    OutputTooShort,
+    /// 3: the body is over 4,096 octets.
+    BodyTooLong,
+    /// 4: no such record.
+    NoSuchRecord,
+    /// 5: MOBIKE was not agreed.
+    MobikeNotAgreed,
+    /// 6: the chain is malformed.
+    Malformed,
+    /// 7: a critical payload of a type that is not known.
+    UnknownCritical,
+    /// 8: the addresses were altered on the way.
+    AddressesAltered,
+    /// 9: the pair is not acceptable.
+    NotAcceptable,
+    /// 10: all places are in use.
+    Full,
+    /// 11: the SPI is in use in that table.
+    SpiInUse,
+    /// 12: a policy of over 16 rules, or a prefix that is too long.
+    PolicyTooLong,
+    /// A number that no call gives.
+    Other(u8),
+}
+
+impl Number {
+    /// Whether the call was done.
+    pub fn is_done(self) -> bool {
+        self == Number::Done
+    }
+}
+
+impl From<u8> for Number {
+    fn from(number: u8) -> Self {
+        match number {
+            0 => Number::Done,
+            1 => Number::BadArgument,
+            2 => Number::OutputTooShort,
+            3 => Number::BodyTooLong,
+            4 => Number::NoSuchRecord,
+            5 => Number::MobikeNotAgreed,
+            6 => Number::Malformed,
+            7 => Number::UnknownCritical,
+            8 => Number::AddressesAltered,
+            9 => Number::NotAcceptable,
+            10 => Number::Full,
+            11 => Number::SpiInUse,
+            12 => Number::PolicyTooLong,
+            other => Number::Other(other),
+        }
+    }
+}
+
+impl From<Number> for u8 {
+    fn from(number: Number) -> Self {
+        match number {
+            Number::Done => 0,
+            Number::BadArgument => 1,
+            Number::OutputTooShort => 2,
+            Number::BodyTooLong => 3,
+            Number::NoSuchRecord => 4,
+            Number::MobikeNotAgreed => 5,
+            Number::Malformed => 6,
+            Number::UnknownCritical => 7,
+            Number::AddressesAltered => 8,
+            Number::NotAcceptable => 9,
+            Number::Full => 10,
+            Number::SpiInUse => 11,
+            Number::PolicyTooLong => 12,
+            Number::Other(other) => other,
+        }
+    }
+}
+
+/// What became of an update, or of a list of additional addresses.
+#[derive(Debug, Clone, Copy, PartialEq, Eq)]
+pub enum Effect {
+    /// 0: the request carries none, or it is answered with another number than 0.
+    None,
+    /// 1: the update is applied, or the list replaced.
+    Applied,
+    /// 2: its message ID doesn't exceed the mark, and it has no effect.
+    Stale,
+    /// A number that no call gives.
+    Other(u8),
+}
+
+impl From<u8> for Effect {
+    fn from(effect: u8) -> Self {
+        match effect {
+            0 => Effect::None,
+            1 => Effect::Applied,
+            2 => Effect::Stale,
+            other => Effect::Other(other),
+        }
+    }
+}
+
+/// What a response comes to.
+#[derive(Debug, Clone, Copy, PartialEq, Eq)]
+pub enum Outcome {
+    /// 0: it was refused with another number than 0.
+    None,
+    /// 1: the IKE SA is to be closed, for the return routability check failed.
+    Close,
+    /// 2: the peer says that the addresses were altered on the way.
+    NatSeen,
+    /// 3: the peer doesn't accept the addresses.
+    Unacceptable,
+    /// 4: another error.
+    Failed,
+    /// 5: accepted.
+    Accepted,
+    /// A number that no call gives.
+    Other(u8),
+}
+
+impl From<u8> for Outcome {
+    fn from(outcome: u8) -> Self {
+        match outcome {
+            0 => Outcome::None,
+            1 => Outcome::Close,
+            2 => Outcome::NatSeen,
+            3 => Outcome::Unacceptable,
+            4 => Outcome::Failed,
+            5 => Outcome::Accepted,
+            other => Outcome::Other(other),
+        }
+    }
+}

@@ -1,0 +1,97 @@
+//! The C interface of `libhost.a`. A start and a count are those of memory that the caller lends for
+//! the call; nothing lent for writing may overlap anything else that is lent.
+use crate::layout::{
+    AddressList, Ask, Assessment, IkeRecord, IpsecRecord, Pair, Part, Policy, Reading, Reply, Rule,
+    Seen, Written,
+};
+
+extern "C" {
+    pub(crate) fn unmavreth_read(first: u8, body: *const u8, octets: usize) -> Reading;
+
+    /// `*out` must hold a valid part on entry.
+    pub(crate) fn unmavreth_cookie(
+        out: *mut Part,
+        body: *const u8,
+        octets: usize,
+        cookie: u16,
+        cookie_len: u16,
+    );
+
+    pub(crate) fn unmavreth_no_nats(body: *const u8, octets: usize, seen: Seen) -> Pair;
+
+    pub(crate) fn unmavreth_addresses(body: *const u8, octets: usize, seen: Seen) -> AddressList;
+
+    pub(crate) fn unmavreth_response(
+        sent: *const u8,
+        sent_octets: usize,
+        first: u8,
+        body: *const u8,
+        octets: usize,
+    ) -> Assessment;
+
+    pub(crate) fn unmavreth_write(
+        ask: Ask,
+        pair: Pair,
+        addresses: AddressList,
+        source: *const u8,
+        source_octets: usize,
+        destination: *const u8,
+        destination_octets: usize,
+        cookie: *const u8,
+        cookie_octets: usize,
+        out: *mut u8,
+        out_octets: usize,
+    ) -> Written;
+
+    pub(crate) fn unmavreth_open_ike(
+        ike: *mut [IkeRecord; 32],
+        spi: u64,
+        mobike: bool,
+        pair: Pair,
+    ) -> u8;
+
+    pub(crate) fn unmavreth_open_ipsec(
+        ike: *const [IkeRecord; 32],
+        ipsec: *mut IpsecRecord,
+        records: usize,
+        spi: u32,
+        owner: u64,
+    ) -> u8;
+
+    pub(crate) fn unmavreth_close_ike(
+        ike: *mut [IkeRecord; 32],
+        ipsec: *mut IpsecRecord,
+        records: usize,
+        spi: u64,
+    ) -> u8;
+
+    pub(crate) fn unmavreth_close_ipsec(ipsec: *mut IpsecRecord, records: usize, spi: u32) -> u8;
+
+    pub(crate) fn unmavreth_set_policy(
+        policy: *mut Policy,
+        count: u16,
+        rules: *const [Rule; 16],
+    ) -> u8;
+
+    /// A `bool` in C, taken as the octet that it is.
+    pub(crate) fn unmavreth_acceptable(policy: *const Policy, pair: Pair) -> u8;
+
+    pub(crate) fn unmavreth_request(
+        ike: *mut [IkeRecord; 32],
+        ipsec: *mut IpsecRecord,
+        records: usize,
+        policy: *const Policy,
+        spi: u64,
+        id: u32,
+        pair: Pair,
+        source: *const u8,
+        source_octets: usize,
+        destination: *const u8,
+        destination_octets: usize,
+        first: u8,
+        body: *const u8,
+        octets: usize,
+        out: *mut u8,
+        out_octets: usize,
+    ) -> Reply;
+}

@@ -1,0 +1,61 @@
+//! Payload chains, addresses and tables that the tests share.
+#![allow(dead_code)]
+use unmavreth::{Gateway, Number, Pair, Request, Rule};
+
+pub const NAT_SOURCE: u16 = 16388;
+pub const NAT_DESTINATION: u16 = 16389;
+pub const IP4: u16 = 16397;
+pub const IP6: u16 = 16398;
+pub const NO_ADDITIONAL: u16 = 16399;
+pub const UPDATE: u16 = 16400;
+pub const COOKIE2: u16 = 16401;
+pub const NO_NATS: u16 = 16402;
+
+pub const OLD: Pair = Pair::ipv4(([203, 0, 113, 5], 500), ([192, 0, 2, 1], 501));
+pub const NEW: Pair = Pair::ipv4(([198, 51, 100, 7], 4500), ([192, 0, 2, 1], 4501));
+pub const RULE: Rule = Rule::ipv4(([198, 51, 100, 0], 24), ([192, 0, 2, 0], 24));
+pub const COOKIE: [u8; 9] = [1, 2, 3, 4, 5, 6, 7, 8, 9];
+
+/// The lent NAT detection values.
+pub const VALUES: [[u8; 20]; 2] = [[0x51; 20], [0x52; 20]];
+
+/// A payload: its type, its flags, and what stands after its header.
+pub type Payload = (u8, u8, Vec<u8>);
+
+pub fn notify(kind: u16, data: &[u8]) -> Payload {
+    (41, 0, [&[0, 0], &kind.to_be_bytes()[..], data].concat())
+}
+
+pub fn bare(kind: u8) -> Payload {
+    (kind, 0, vec![])
+}
+
+/// The payloads as a chain: the first type, and the body.
+pub fn chain(payloads: &[Payload]) -> (u8, Vec<u8>) {
+    let kinds: Vec<u8> = payloads.iter().map(|payload| payload.0).chain([0]).collect();
+    let mut body = Vec::new();
+    for ((_, flags, rest), next) in payloads.iter().zip(&kinds[1..]) {
+        body.extend([*next, *flags]);
+        body.extend((4 + rest.len() as u16).to_be_bytes());
+        body.extend(rest);
+    }
+    (kinds[0], body)
+}
+
+/// One IKE record, with SPI 7 and the old pair, that agreed on MOBIKE; an IPsec record of it, with SPI
+/// 70; another IKE record, with SPI 8, that didn't agree; and one rule.
+pub fn gateway() -> Gateway {
+    let mut gateway = Gateway::new();
+    assert_eq!(gateway.open_ike(7, true, &OLD), Number::Done);
+    assert_eq!(gateway.open_ike(8, false, &OLD), Number::Done);
+    assert_eq!(gateway.open_ipsec(70, 7), Number::Done);
+    assert_eq!(gateway.open_ipsec(80, 8), Number::Done);
+    assert_eq!(gateway.set_policy(&[RULE]), Number::Done);
+    gateway
+}
+
+/// A request to the first record, with ID 0 and the new pair.
+pub fn request<'a>((first, body): &'a (u8, Vec<u8>)) -> Request<'a> {
+    let [nat_source, nat_destination] = &VALUES;
+    Request { spi: 7, id: 0, pair: NEW, nat_source, nat_destination, first: *first, body }
+}

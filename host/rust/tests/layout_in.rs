@@ -1,0 +1,154 @@
+//! Every field of the structs that the library is given: it changes a result that is known, so that a
+//! field at a wrong place would be seen.
+mod common;
+use common::*;
+use unmavreth::{
+    acceptable, addresses, no_nats, write, Address, Ask, Draft, Effect, Flag, Number, Pair, Policy,
+    Rule, Seen,
+};
+
+/// Octets that are all different.
+fn octets(from: u8) -> [u8; 16] {
+    std::array::from_fn(|at| from + at as u8)
+}
+
+fn written(draft: &Draft) -> Vec<u8> {
+    let mut out = [0; 564];
+    let written = write(draft, &mut out);
+    assert_eq!(written.number(), Number::Done);
+    written.body(&out).to_vec()
+}
+
+#[test]
+fn a_pair_is_written_field_by_field() {
+    let ask = Ask { no_nats: true, ..Ask::default() };
+    let pair = Pair::ipv6((octets(1), 0x1234), (octets(101), 0x5678));
+    let data = [&octets(1)[..], &octets(101), &[0x12, 0x34, 0x56, 0x78]].concat();
+    let draft = Draft { ask, pair, ..Draft::default() };
+    assert_eq!(written(&draft), chain(&[notify(NO_NATS, &data)]).1);
+    let draft = Draft { ask, pair: NEW, ..Draft::default() };
+    let data = [198, 51, 100, 7, 192, 0, 2, 1, 0x11, 0x94, 0x11, 0x95];
+    assert_eq!(written(&draft), chain(&[notify(NO_NATS, &data)]).1);
+}
+
+#[test]
+fn an_ask_asks_for_each() {
+    let [nat_source, nat_destination] = &VALUES;
+    let mut list = [Address::NONE; 16];
+    (list[0], list[1]) = (Address::ipv4([10, 0, 0, 1]), Address::ipv6(octets(1)));
+    let draft = |ask, cookie| Draft {
+        ask,
+        pair: NEW,
+        addresses: list,
+        nat_source,
+        nat_destination,
+        cookie,
+    };
+    let none = Ask::default();
+    let update = notify(UPDATE, &[]);
+    let asked = Ask { update: true, ..none };
+    assert_eq!(written(&draft(asked, &[])), chain(&[update]).1);
+    let asked = Ask { nat_source: true, nat_destination: true, ..none };
+    let both = [notify(NAT_SOURCE, nat_source), notify(NAT_DESTINATION, nat_destination)];
+    assert_eq!(written(&draft(asked, &[])), chain(&both).1);
+    let asked = Ask { no_additional: true, ..none };
+    let both = [notify(NO_ADDITIONAL, &[]), notify(COOKIE2, &COOKIE)];
+    assert_eq!(written(&draft(asked, &COOKIE)), chain(&both).1);
+    let asked = Ask { count: 2, ..none };
+    let both = [notify(IP4, &[10, 0, 0, 1]), notify(IP6, &octets(1))];
+    assert_eq!(written(&draft(asked, &[])), chain(&both).1);
+    for one in [Ask { nat_source: true, ..none }, Ask { nat_destination: true, ..none }] {
+        assert_eq!(write(&draft(one, &[]), &mut [0; 564]).number(), Number::BadArgument);
+    }
+}
+
+#[test]
+fn each_of_sixteen_addresses_is_written() {
+    let addresses = std::array::from_fn(|at| Address::ipv6(octets(10 * at as u8)));
+    let draft = Draft { ask: Ask { count: 16, ..Ask::default() }, addresses, ..Draft::default() };
+    let listed: Vec<Payload> = addresses.iter().map(|one| notify(IP6, &one.octets)).collect();
+    assert_eq!(written(&draft), chain(&listed).1);
+}
+
+/// Only rule `place` of a policy matters, its prefixes taken whole.
+fn accepts_at(place: usize, rule: Rule, pair: &Pair) -> bool {
+    let mut policy = Policy { count: place as u16 + 1, ..Policy::EMPTY };
+    policy.rules[place] = rule;
+    let accepted = acceptable(&policy, pair);
+    policy.count -= 1;
+    assert!(!acceptable(&policy, pair), "a rule past the count");
+    accepted
+}
+
+#[test]
+fn each_field_of_each_rule_is_asked() {
+    let pair = Pair::ipv6((octets(1), 1), (octets(101), 2));
+    for place in 0..16 {
+        let rule = Rule::ipv6((octets(1), 128), (octets(101), 128));
+        assert!(accepts_at(place, rule, &pair));
+        assert!(!accepts_at(place, Rule { family: 4, ..rule }, &pair));
+        for at in 0..16 {
+            let mut other = rule;
+            other.source[at] ^= 1;
+            assert!(!accepts_at(place, other, &pair));
+            other.source_len = at as u8 * 8 + 7;
+            assert!(accepts_at(place, other, &pair));
+            let mut other = rule;
+            other.destination[at] ^= 1;
+            assert!(!accepts_at(place, other, &pair));
+            other.destination_len = at as u8 * 8 + 7;
+            assert!(accepts_at(place, other, &pair));
+        }
+    }
+}
+
+#[test]
+fn a_policy_is_kept_as_it_is_set() {
+    let rules: [Rule; 16] = std::array::from_fn(|at| {
+        Rule::ipv6((octets(at as u8), at as u8), (octets(100 + at as u8), 128 - at as u8))
+    });
+    let mut policy = Policy::EMPTY;
+    assert_eq!(unmavreth::set_policy(&mut policy, 16, &rules), Number::Done);
+    assert_eq!(policy, Policy { count: 16, rules });
+    assert_eq!(unmavreth::set_policy(&mut policy, 3, &rules), Number::Done);
+    assert_eq!((policy.count, &policy.rules[..3]), (3, &rules[..3]));
+    assert_eq!(policy.rules[3..], [Rule::NONE; 13]);
+}
+
+#[test]
+fn what_was_seen_is_given_back() {
+    let body: Vec<u8> = (0..200).collect();
+    let mut seen = Seen { no_nats: 20, no_nats_len: 12, ..Seen::default() };
+    let pair = Pair::ipv4(([20, 21, 22, 23], 0x1c1d), ([24, 25, 26, 27], 0x1e1f));
+    assert_eq!(no_nats(&body, &seen), pair);
+    seen.no_nats_len = 13;
+    assert_eq!(no_nats(&body, &seen), Pair::NONE);
+    seen.list.places = std::array::from_fn(|at| 11 * at as u16);
+    seen.list.families = std::array::from_fn(|at| [4, 6, 6][at % 3]);
+    for (at, told) in addresses(&body, &seen).iter().enumerate() {
+        let from = 11 * at as u8;
+        let four = Address::ipv4([from, from + 1, from + 2, from + 3]);
+        let six = Address::ipv6(octets(from));
+        assert_eq!(*told, [four, six, six][at % 3]);
+    }
+}
+
+#[test]
+fn each_field_of_a_record_matters() {
+    let both = chain(&[notify(UPDATE, &[]), notify(NO_ADDITIONAL, &[]), bare(200)]);
+    let told = |change: fn(&mut unmavreth::IkeRecord)| {
+        let mut gateway = gateway();
+        change(&mut gateway.ike[0]);
+        let reply = gateway.handle(&unmavreth::Request { id: 5, ..request(&both) }, &mut [0; 128]);
+        (reply.number(), reply.update(), reply.list(), gateway.ike[0].unknown)
+    };
+    let (done, applied, stale) = (Number::Done, Effect::Applied, Effect::Stale);
+    assert_eq!(told(|_| ()), (done, applied, applied, 1));
+    assert_eq!(told(|record| record.update_mark = 6), (done, stale, applied, 1));
+    assert_eq!(told(|record| record.update_mark = 5), (done, applied, applied, 1));
+    assert_eq!(told(|record| record.list_mark = 6), (done, applied, stale, 1));
+    assert_eq!(told(|record| record.unknown = 0x0102_0304).3, 0x0102_0305);
+    assert_eq!(told(|record| record.unknown = u32::MAX).3, u32::MAX);
+    assert_eq!(told(|record| record.mobike = Flag::NO).0, Number::MobikeNotAgreed);
+    assert_eq!(told(|record| record.spi = 1 << 40).0, Number::NoSuchRecord);
+}

@@ -1,0 +1,184 @@
+//! Every field of the structs that the library fills has the value that is known for it.
+mod common;
+use common::*;
+use unmavreth::{
+    assess, read, Address, Effect, Flag, IkeRecord, IpsecRecord, Number, Outcome, Pair, Places,
+    Request, Seen, Tally,
+};
+
+/// A chain with every kind of notification that may stand together, errors and unknown ones.
+fn mixed() -> (u8, Vec<u8>) {
+    chain(&[
+        notify(UPDATE, &[]),
+        notify(NAT_SOURCE, &[1; 20]),
+        notify(NAT_DESTINATION, &[2; 20]),
+        notify(NO_NATS, &[3; 36]),
+        notify(COOKIE2, &COOKIE),
+        notify(IP4, &[10, 0, 0, 1]),
+        notify(IP6, &[7; 16]),
+        notify(38, &[]),
+        notify(41, &[]),
+        notify(40000, &[]),
+        bare(200),
+        bare(33),
+    ])
+}
+
+#[test]
+fn every_field_of_a_reading() {
+    let (first, body) = mixed();
+    let reading = read(first, &body);
+    assert_eq!((reading.number(), reading.critical(), reading.offset()), (Number::Done, 0, 0));
+    let seen = reading.seen();
+    let tally = Tally {
+        payloads: 12,
+        unknown_payloads: 1,
+        unknown_notifies: 3,
+        errors: 2,
+        first_error: 38,
+    };
+    assert_eq!(seen.tally, tally);
+    assert_eq!((seen.update, seen.no_additional), (Flag::YES, Flag::NO));
+    assert_eq!((seen.nat_source, seen.nat_destination), (16, 44));
+    assert_eq!((seen.no_nats, seen.no_nats_len), (72, 36));
+    assert_eq!((seen.cookie, seen.cookie_len), (116, 9));
+    let (mut places, mut families) = ([0; 16], [0; 16]);
+    (places[0], places[1], families[0], families[1]) = (133, 145, 4, 6);
+    assert_eq!(seen.list, Places { count: 2, places, families });
+    assert_eq!(reading.cookie(&body), COOKIE);
+}
+
+#[test]
+fn the_other_flag_of_a_reading() {
+    let (first, body) = chain(&[notify(NO_ADDITIONAL, &[])]);
+    let reading = read(first, &body);
+    assert_eq!((reading.seen().update, reading.seen().no_additional), (Flag::NO, Flag::YES));
+}
+
+/// The family of the address at a place of a list, and its octets' count.
+fn family_at(at: usize) -> (u8, usize) {
+    match at % 3 {
+        0 => (4, 4),
+        _ => (6, 16),
+    }
+}
+
+fn listed_at(at: usize) -> Payload {
+    let (family, width) = family_at(at);
+    notify(if family == 4 { IP4 } else { IP6 }, &vec![at as u8; width])
+}
+
+#[test]
+fn every_place_of_a_list() {
+    let listed: Vec<Payload> = (0..17).map(listed_at).collect();
+    let (first, body) = chain(&listed);
+    let reading = read(first, &body);
+    let list = reading.seen().list;
+    assert_eq!(list.count, 17);
+    let told = unmavreth::addresses(&body, reading.seen());
+    let mut place = 8;
+    for (at, one) in told.iter().enumerate() {
+        let (family, width) = family_at(at);
+        assert_eq!((list.places[at], list.families[at]), (place, family));
+        let mut octets = [0; 16];
+        octets[..width].fill(at as u8);
+        assert_eq!(*one, Address { family, octets });
+        place += 8 + width as u16;
+    }
+}
+
+#[test]
+fn a_refused_reading() {
+    let (first, body) = chain(&[bare(33), (200, 0x80, vec![])]);
+    let reading = read(first, &body);
+    let told = (reading.number(), reading.critical(), reading.offset());
+    assert_eq!(told, (Number::UnknownCritical, 200, 4));
+    assert_eq!(*reading.seen(), Seen::default());
+}
+
+#[test]
+fn no_nats_field_by_field() {
+    let data: Vec<u8> = (1..=36).collect();
+    let (first, body) = chain(&[notify(NO_NATS, &data)]);
+    let octets = |from: u8| std::array::from_fn(|at| from + at as u8);
+    let pair = Pair::ipv6((octets(1), 0x2122), (octets(17), 0x2324));
+    assert_eq!(unmavreth::no_nats(&body, read(first, &body).seen()), pair);
+}
+
+#[test]
+fn every_field_of_a_record_and_a_reply() {
+    let listed = (1..=18).map(|at| notify(IP4, &[10, 0, 0, at]));
+    let others = [notify(UPDATE, &[]), bare(200), notify(COOKIE2, &COOKIE)];
+    let came = chain(&others.into_iter().chain(listed).collect::<Vec<_>>());
+    let mut gateway = gateway();
+    let reply = gateway.handle(&Request { id: 0x0a0b_0c0d, ..request(&came) }, &mut [0; 128]);
+    assert_eq!((reply.number(), reply.first(), reply.length()), (Number::Done, 41, 17));
+    assert_eq!((reply.update(), reply.list()), (Effect::Applied, Effect::Applied));
+    assert_eq!((reply.left_off(), reply.payloads(), reply.offset()), (2, 21, 0));
+    assert_eq!(reply.cookie(&came.1), COOKIE);
+    let record = IkeRecord {
+        spi: 7,
+        mobike: Flag::YES,
+        pair: NEW,
+        update_mark: 0x0a0b_0c0e,
+        list_mark: 0x0a0b_0c0e,
+        count: 16,
+        addresses: std::array::from_fn(|at| Address::ipv4([10, 0, 0, at as u8 + 1])),
+        unknown: 1,
+    };
+    assert_eq!(gateway.ike[0], record);
+    let others = [
+        IpsecRecord { spi: 70, owner: 7, pair: NEW },
+        IpsecRecord { spi: 80, owner: 8, pair: OLD },
+    ];
+    assert_eq!(gateway.ipsec[..2], others);
+}
+
+#[test]
+fn a_refused_reply() {
+    let mut came = chain(&[bare(33), bare(34), notify(UPDATE, &[])]);
+    came.1[8 + 3] = 7;
+    let reply = gateway().handle(&request(&came), &mut [0; 128]);
+    assert_eq!((reply.number(), reply.first(), reply.length()), (Number::Malformed, 41, 8));
+    assert_eq!((reply.left_off(), reply.payloads(), reply.offset()), (0, 0, 8));
+    assert!(reply.cookie(&came.1).is_empty());
+}
+
+#[test]
+fn the_two_marks_are_told_apart() {
+    let mut gateway = gateway();
+    let update = chain(&[notify(UPDATE, &[])]);
+    gateway.handle(&Request { id: 4, ..request(&update) }, &mut [0; 128]);
+    assert_eq!((gateway.ike[0].update_mark, gateway.ike[0].list_mark), (5, 0));
+    let list = chain(&[notify(NO_ADDITIONAL, &[])]);
+    let reply = gateway.handle(&Request { id: 3, ..request(&list) }, &mut [0; 128]);
+    assert_eq!((reply.update(), reply.list()), (Effect::None, Effect::Applied));
+    assert_eq!((gateway.ike[0].update_mark, gateway.ike[0].list_mark), (5, 4));
+    let reply = gateway.handle(&Request { id: 3, ..request(&update) }, &mut [0; 128]);
+    assert_eq!((reply.update(), reply.list()), (Effect::Stale, Effect::None));
+}
+
+#[test]
+fn every_field_of_an_opened_record() {
+    let mut gateway = gateway();
+    let pair = Pair::ipv6(([1; 16], 2), ([3; 16], 4));
+    assert_eq!(gateway.open_ike(0x0102_0304_0506_0708, true, &pair), Number::Done);
+    let opened =
+        IkeRecord { spi: 0x0102_0304_0506_0708, mobike: Flag::YES, pair, ..IkeRecord::FREE };
+    assert_eq!(gateway.ike[2], opened);
+    assert_eq!(gateway.open_ipsec(0x1122_3344, opened.spi), Number::Done);
+    assert_eq!(gateway.ipsec[2], IpsecRecord { spi: 0x1122_3344, owner: opened.spi, pair });
+}
+
+#[test]
+fn every_field_of_an_assessment() {
+    let (first, body) = chain(&[notify(40, &[]), notify(40000, &[]), bare(200), bare(201)]);
+    let assessed = assess(&[], first, &body);
+    assert_eq!((assessed.number(), assessed.outcome()), (Number::Done, Outcome::Unacceptable));
+    assert_eq!((assessed.payloads(), assessed.offset(), assessed.tally()), (4, 0, 3));
+    let (first, mut body) = chain(&[bare(200), bare(201)]);
+    body[7] = 3;
+    let assessed = assess(&[], first, &body);
+    assert_eq!((assessed.number(), assessed.outcome()), (Number::Malformed, Outcome::None));
+    assert_eq!((assessed.payloads(), assessed.offset(), assessed.tally()), (0, 4, 0));
+}
