@@ -3,8 +3,8 @@
 // What a call gives is shown to `black_box` before it is given back, so that the call isn't the last
 // thing that the function does: a jump into the library could not be told from leaving the function.
 use reference::asking::Arguments;
+use reference::assess::Assessed;
 use reference::faults::Faults;
-use reference::judge::Judged;
 use reference::reply::Handled;
 use reference::tables::Tables;
 use std::hint::black_box;
@@ -96,8 +96,8 @@ pub fn counted_second_write(arguments: &Arguments, faults: Faults) -> reference:
 
 #[inline(never)]
 #[no_mangle]
-pub fn counted_second_assess(sent: &[u8], first: u8, body: &[u8], faults: Faults) -> Judged {
-    let assessed = reference::judge::judge(sent, first, body, faults);
+pub fn counted_second_assess(sent: &[u8], first: u8, body: &[u8], faults: Faults) -> Assessed {
+    let assessed = reference::assess::assess(sent, first, body, faults);
     black_box(&assessed);
     assessed
 }

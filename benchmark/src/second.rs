@@ -6,8 +6,8 @@ use crate::job::{Handling, Job};
 use crate::ours::BEFORE;
 use crate::told::Told;
 use reference::asking::{Arguments, Ask};
+use reference::assess::Assessed;
 use reference::faults::Faults;
-use reference::judge::Judged;
 use reference::outcome::Outcome;
 use reference::reader::Reading;
 use reference::request::Request;
@@ -23,7 +23,7 @@ pub fn told(job: &Job) -> Told {
         Job::Handle(handling) => handled(handling, false),
         Job::Write(draft) => written(reference::writer::write(&arguments(draft), NONE)),
         Job::Assess { first, body } => {
-            assessed(reference::judge::judge(&COOKIE, *first, body, NONE))
+            assessed(reference::assess::assess(&COOKIE, *first, body, NONE))
         }
     }
 }
@@ -137,7 +137,7 @@ fn written(written: Written) -> Told {
     Told { fields, octets: vec![written.output], tables: None }
 }
 
-fn assessed(assessed: Judged) -> Told {
+fn assessed(assessed: Assessed) -> Told {
     let fields = vec![
         ("number", assessed.number.into()),
         ("outcome", assessed.outcome.into()),

@@ -358,12 +358,13 @@ UNMAVRETH_AT(unmavreth_part, octets, 8);
 // leaves the body alone.
 void unmavreth_cookie(unmavreth_part *out, const uint8_t *body, size_t octets, uint16_t cookie, uint16_t cookie_len);
 
-// What NO_NATS_ALLOWED holds, from the body that was read and what was seen in it; family 0 and zeros if there is
-// none.
+// What NO_NATS_ALLOWED holds, from the body that was read and what was seen in it: the `no_nats_len` octets at `no_nats`.
+// Family 0 and zeros if there is none, or if these are not 12 or 36 octets within the body, which no reading tells.
 unmavreth_pair unmavreth_no_nats(const uint8_t *body, size_t octets, unmavreth_seen seen);
 
-// The first sixteen additional addresses, from the body that was read and what was seen in it; zeros in the places
-// past the count.
+// The first sixteen additional addresses, from the body that was read and what was seen in it. Places past the count
+// are not looked at, and are given as zeros. An address of another family than 4 and 6, or that would run past the end
+// of the body, is given as its family and zeros; no reading tells one.
 unmavreth_addresses_list unmavreth_addresses(const uint8_t *body, size_t octets, unmavreth_seen seen);
 
 // ----------------------------------------------------------------------------------------------- answering a request

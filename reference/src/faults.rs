@@ -372,7 +372,7 @@ const OF_ORDERS: [(Fault, &str); 8] = [
     (Fault::FirstMarkIgnored, "first-mark-ignored"),
 ];
 
-const OF_JUDGE: [(Fault, &str); 19] = [
+const OF_ASSESS: [(Fault, &str); 19] = [
     (Fault::SentShort, "sent-short"),
     (Fault::Sent65, "sent-65"),
     (Fault::BodyBeforeSent, "body-before-sent"),
@@ -474,7 +474,7 @@ impl NamedFault {
             Kind::Tables => &OF_TABLES,
             Kind::Requests => &OF_REQUESTS,
             Kind::Orders => &OF_ORDERS,
-            Kind::Judge => &OF_JUDGE,
+            Kind::Assess => &OF_ASSESS,
             Kind::Writer => &OF_WRITER,
             Kind::RoundTrips => &OF_ROUND_TRIPS,
         };
@@ -501,7 +501,8 @@ impl Faults {
 #[cfg(test)]
 mod tests {
     use super::*;
-    use crate::cases::judge::{self, JudgeCases};
+    use crate::assess::assess;
+    use crate::cases::assess::{self, AssessCases};
     use crate::cases::orders::{self, OrdersCases};
     use crate::cases::reader::ReaderCases;
     use crate::cases::requests::{self, RequestsCases};
@@ -509,7 +510,6 @@ mod tests {
     use crate::cases::tables::TablesCases;
     use crate::cases::writer::WriterCases;
     use crate::handler::handle;
-    use crate::judge::judge;
     use crate::orders::broken;
     use crate::outcome::Outcome;
     use crate::reader::read;
@@ -551,10 +551,10 @@ mod tests {
         !broken.is_empty()
     }
 
-    fn shows_in_judge(cases: &JudgeCases, number: u64, fault: Fault) -> bool {
-        let judge::Case { sent, first, body } = cases.case(number);
-        let sound = judge(&sent, first, &body, Faults::NONE);
-        sound != judge(&sent, first, &body, Faults::only(fault))
+    fn shows_in_assess(cases: &AssessCases, number: u64, fault: Fault) -> bool {
+        let assess::Case { sent, first, body } = cases.case(number);
+        let sound = assess(&sent, first, &body, Faults::NONE);
+        sound != assess(&sent, first, &body, Faults::only(fault))
     }
 
     fn shows_in_writer(cases: &WriterCases, number: u64, fault: Fault) -> bool {
@@ -570,7 +570,7 @@ mod tests {
     fn every_fault_changes_some_outcome() {
         let (reader, tables) = (ReaderCases::new(1), TablesCases::new(1));
         let (requests, orders) = (RequestsCases::new(1), OrdersCases::new(1));
-        let (judge, writer) = (JudgeCases::new(1), WriterCases::new(1));
+        let (assess, writer) = (AssessCases::new(1), WriterCases::new(1));
         let round_trips = RoundTripsCases::new(1);
         for NamedFault { fault, name, kind } in NamedFault::all() {
             let found = (0..20_000).any(|number| match kind {
@@ -578,7 +578,7 @@ mod tests {
                 Kind::Tables => shows_in_tables(&tables, number, fault),
                 Kind::Requests => shows_in_requests(&requests, number, fault),
                 Kind::Orders => shows_in_orders(&orders, number, fault),
-                Kind::Judge => shows_in_judge(&judge, number, fault),
+                Kind::Assess => shows_in_assess(&assess, number, fault),
                 Kind::Writer => shows_in_writer(&writer, number, fault),
                 Kind::RoundTrips => shows_in_round_trips(&round_trips, number, fault),
             });

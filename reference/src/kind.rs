@@ -6,7 +6,7 @@ pub enum Kind {
     Tables,
     Requests,
     Orders,
-    Judge,
+    Assess,
     Writer,
     RoundTrips,
 }
@@ -17,7 +17,7 @@ impl Kind {
         Kind::Tables,
         Kind::Requests,
         Kind::Orders,
-        Kind::Judge,
+        Kind::Assess,
         Kind::Writer,
         Kind::RoundTrips,
     ];
@@ -28,7 +28,7 @@ impl Kind {
             Kind::Tables => "tables",
             Kind::Requests => "requests",
             Kind::Orders => "orders",
-            Kind::Judge => "judge",
+            Kind::Assess => "responses",
             Kind::Writer => "writer",
             Kind::RoundTrips => "round-trips",
         }

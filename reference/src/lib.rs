@@ -2,6 +2,7 @@
 pub mod address;
 pub mod asking;
 pub mod asking_fields;
+pub mod assess;
 pub mod calls;
 pub mod cases;
 pub mod chain;
@@ -13,7 +14,6 @@ pub mod flaws;
 pub mod given_list;
 pub mod handler;
 pub mod hostile_lists;
-pub mod judge;
 pub mod kind;
 pub mod lent;
 pub mod lent_rules;

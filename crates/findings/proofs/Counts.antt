@@ -25,7 +25,7 @@ one s (Notify k number len) place =
     either-tally (is k Unknown) (unknownNotify (counted (s .tally) 0) number) (counted (s .tally) 0) refl
 
 -- A payload counts for one at most in each count.
-one-more : (b : Bool) (x : ℕ) → cond b (x + 1) x ≤ x + 1
+pub one-more : (b : Bool) (x : ℕ) → cond b (x + 1) x ≤ x + 1
 one-more true x = omega arith
 one-more false x = omega arith
 

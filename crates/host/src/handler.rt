@@ -2,14 +2,13 @@
 // changes in it stored; what it owns follows.
 use address::pair::Pair;
 use lent::ike::ike_at;
+use lent::ike::ike_change;
 use lent::ike::ike_place;
-use lent::ike::ike_store;
 use lent::owned::follow_if;
 use lent::owned::ipsec_count;
 use lent::rules::policy_of;
 use policy::rules::Policy;
 use responder::core::Reply;
-use responder::core::changed;
 use responder::handle::answer;
 use tables::ike::IkeRecord;
 use tables::ike::marks_of;
@@ -59,8 +58,7 @@ pub extern "C" fn unmavreth_request(
         body,
         out,
     );
-    let new = changed(entry, c, pair, body);
-    ike_store(ike, place, new);
+    ike_change(ike, place, c, pair, body);
     follow_if(ipsec, c.moves, spi, pair);
     c.reply
 }

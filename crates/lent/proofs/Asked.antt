@@ -1,13 +1,16 @@
 -- The calls on the lent list and the lent table that several walks make, each as one step, known by the callee's contract alone. At the head of the context stand what the reference owns and its token, and while the operands are read two items in their stead; what is passed for good leaves what says its last value, behind one item.
 --     counts, finds-ipsec, stores-ipsec      a `&mut [IpsecRecord]` to `ipsec_count`, to `ipsec_place`, and for good to `ipsec_store`
---     finds-ike, reads-ike, stores-ike       a `&mut [IkeRecord; 32]` to `ike_place`, to `ike_at`, and for good to `ike_store`
+--     finds-ike, reads-ike, stores-ike       a `&mut [IkeRecord; 32]` to `ike_place`, to `ike_at`, and for good to `ike_store`.        changes-ike      the same to `ike_change`, beside a `&[u8]`
 --     reads-policy, reads-lent, stores-policy      a `&Policy` to `policy_of`, a `&mut Policy` to it, and for good to `policy_store`.        reads-rules      a `&[Rule; 16]` to `rules_of`
 -- Assumes `Given`, and that the table of calls is monotone under a frame.
 use Rattle.lent.proofs.Kit.{_≡_, refl, ℕ, _<_, _^_, List, [], _∷_, length, getD, set, URA, fullShare, Place, Body, erased, w32, w64, seq, call, vunit, vint, vptr, SProp, id⊢, Lft, Share, flft, fres, Memory, Routine, Heap, Env, Calls, Loops, Atoms, Fun, Given, Item, ‵, Post, runs, lands, Seq}
-use Rattle.lent.proofs.Kit.{Step, step, _$_, move, Opds, FmC, Is, uint-makes, uint-vals, uint-tells, nothing-tells, u32, u64, usize, RefT, MutRef, ShrRef, ptr-vals, MutSlice, Room, slice-vals, finally, only, Triple}
+use Rattle.lent.proofs.Kit.{Step, step, _$_, move, drop, split, join, fsplit, fjoin, u8, ShrSlice, owned, nothing, Opds, FmC, Is, uint-makes, uint-vals, uint-tells, nothing-tells, u32, u64, usize, RefT, MutRef, ShrRef, ptr-vals, MutSlice, Room, slice-vals, finally, only, Triple}
 use mir.Syntax.{Opd as Operand}
 use denote.Struct.Laws as LL
 use Rattle.octets.specs.Lists.{placeOf}
+use Rattle.address.specs.declared.pair.Pair.{Pair}
+use Rattle.address.proofs.pair.Pair as P
+use Rattle.address.proofs.pair.Pair.Laws as P′
 use Rattle.policy.specs.declared.rules.Policy.{Policy}
 use Rattle.policy.specs.declared.rules.Rule.{Rule}
 use Rattle.policy.proofs.rules.Policy as Y
@@ -19,13 +22,19 @@ use Rattle.tables.proofs.ike.IkeRecord as I
 use Rattle.tables.proofs.ike.IkeRecord.Laws as I′
 use Rattle.tables.proofs.ipsec.IpsecRecord as S
 use Rattle.tables.proofs.ipsec.IpsecRecord.Laws as S′
-use Rattle.lent.proofs.Calls.{_&_, Told, no-token, list-last, ref-last, gives, calls-for, calls-to}
+use Rattle.responder.specs.Core.{changedBy}
+use Rattle.responder.specs.declared.core.CoreAnswer.{CoreAnswer}
+use Rattle.responder.proofs.core.CoreAnswer as D
+use Rattle.responder.proofs.core.CoreAnswer.Laws as D′
+use Rattle.lent.proofs.Calls.{_&_, Told, token, no-token, list-last, ref-last, gives, calls-for, calls-to}
 use Rattle.lent.proofs.Loans.{renamed, lent-list, list-over, lent-array, lent-ref, ref-over, copies-ref}
 use Rattle.lent.proofs.IkeTable as Ike
 use Rattle.lent.proofs.IpsecTable.{R, rec-vals}
 use Rattle.lent.proofs.PolicyTypes as Kept
 use Rattle.lent.proofs.ike.ike_at as at
 use Rattle.lent.proofs.ike.ike_at.Symbol as at-def
+use Rattle.lent.proofs.ike.ike_change as change
+use Rattle.lent.proofs.ike.ike_change.Symbol as change-def
 use Rattle.lent.proofs.ike.ike_place as home
 use Rattle.lent.proofs.ike.ike_place.Symbol as home-def
 use Rattle.lent.proofs.ike.ike_store as put
@@ -80,6 +89,16 @@ module _ {M : Type 1} {𝓤 : URA M} {H : Heap 𝓤} {A : Atoms 𝓤} {K : Type 
     stores-ike known i new i-is new-is os s = gives t (usize ∷ Ike.R ∷ []) (uint-makes 𝓤 H A W w64 & LL.makes I.the-type I′.the-plain 𝓤 H A & tt) (i, (new, tt)) (uint-vals w64 i, (Ike.rec-vals new, tt)) (i-is, (new-is, tt)) $
         calls-to t fm put.ended (put.clauses 𝓤 H A at-mem run) known (((κ, tt), (q, tt), tt, (x, (i, (new, tt))), (ptr-vals x, (uint-vals w64 i, (Ike.rec-vals new, tt)))), tt) (id⊢ 𝓤 _) (os _)
         nothing-tells (λ ws. ws .0 ≡ set (x .now) i new) (λ r ws. id⊢ 𝓤 _) (λ ws e. ref-last t $ s (ws .0) e)
+
+    pub changes-ike : Triple 𝓤 (C change-def.name) (Told 𝓤 H A change.ended (change.clauses 𝓤 H A at-mem run)) → (i : ℕ) (c : CoreAnswer) (pair : Pair) {κ′ : Lft} {q′ : Share} (body : RefT (List ℕ)) → Is usize i (uint-vals w64 i) → Is D.the-row c (LL.vals D.the-type D′.the-laws c) → Is P.the-row pair (LL.vals P.the-type P′.the-laws pair)
+        → ((j : Item 𝓤) → Opds K W (j ∷ Γ) E ops (vptr (x .ptr .0) (x .ptr .1) ∷ vint w64 i ∷ only (LL.vals D.the-type D′.the-laws c) ∷ only (LL.vals P.the-type P′.the-laws pair) ∷ only (slice-vals body) ∷ []))
+        → ((zs : List IkeRecord) → zs ≡ set (x .now) i (changedBy c pair (body .now) (getD (x .now) i noIke)) → Seq K W (‵ (fres (x .name) (Ike.Q .coded .code zs)) ∷ ‵ (flft κ q) ∷ ‵ (flft κ′ q′) ∷ Γ) (lands C Λ E d vunit rest p))
+        → Seq K W (‵ (MutRef erased κ Ike.Q .own x (ptr-vals x)) ∷ ‵ (flft κ q) ∷ ‵ (ShrSlice erased κ′ u8 .own body (slice-vals body)) ∷ ‵ (flft κ′ q′) ∷ Γ) (runs C Λ E (seq (call change-def.name ops d) rest) p)
+    changes-ike known i c pair {κ′} {q′} body i-is c-is pair-is os s =
+        nothing t $ move t (3 ∷ 0 ∷ []) $ fjoin t $ owned t P.the-row (Is P.the-row) (LL.makes P.the-type P′.the-plain 𝓤 H A) pair _ pair-is $ fjoin t $ owned t D.the-row (Is D.the-row) (LL.makes D.the-type D′.the-plain 𝓤 H A) c _ c-is $ fjoin t $
+        owned t usize (Is usize) (uint-makes 𝓤 H A W w64) i _ i-is $ fjoin t $ move t (1 ∷ 0 ∷ []) $ fjoin t $ move t (2 ∷ []) $ token t $ move t (2 ∷ 0 ∷ []) $ join t $
+        calls-to t fm change.ended (change.clauses 𝓤 H A at-mem run) known (((κ, (κ′, tt)), (q, (q′, tt)), tt, (x, (i, (c, (pair, (body, tt))))), (ptr-vals x, (uint-vals w64 i, (LL.vals D.the-type D′.the-laws c, (LL.vals P.the-type P′.the-laws pair, (slice-vals body, tt)))))), tt) (id⊢ 𝓤 _) (os _)
+        nothing-tells (λ ws. ws .0 ≡ set (x .now) i (changedBy c pair (body .now) (getD (x .now) i noIke))) (λ r ws. id⊢ 𝓤 _) (λ ws e. fsplit t $ move t (1 ∷ []) $ drop t $ move t (1 ∷ []) $ split t $ move t (1 ∷ []) $ no-token t $ move t (2 ∷ 1 ∷ []) $ s (ws .0) e)
 
   module _ {κ : Lft} {q : Share} (x : RefT Policy) where
     module _ (known : Triple 𝓤 (C read-def.name) (Told 𝓤 H A read.ended (read.clauses 𝓤 H A at-mem run))) (os : (i j : Item 𝓤) → Opds K W (i ∷ j ∷ Γ) E ops (ptr-vals x)) where

@@ -12,7 +12,7 @@ R = S.the-row
 abbrev pub Q : RattleType
 Q = Array R 32
 
-abbrev pub table-slot : Slot 1
+abbrev pub table-slot : {n : ℕ} → Slot n
 table-slot = ArrayOf (plain (λ _. R)) (λ κs. tt) 32
 
 -- a number's local, and the parameter's

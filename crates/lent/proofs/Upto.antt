@@ -1,6 +1,7 @@
 -- A list whose first i elements have been replaced by f of them: what a loop over a slice has made of it after i turns. And the loop's variant: i, at most the length, ordered by what is left.
 -- Assumes nothing.
-use Rattle.lent.proofs.Kit.{_≡_, refl, sym, ap, _∙_, subst, Bool, true, false, not, List, [], _∷_, map, WellFounded, InvImage·wf, ℕ, zero, suc, _+_, _-_, _≤_, _<_, add-one-le, Nat·lt-wfRel, T, ltb, ltb→lt, nltb→le, length, set, getD}
+use Rattle.lent.proofs.Kit.{_≡_, refl, sym, ap, _∙_, subst, true, false, List, [], _∷_, map, WellFounded, InvImage·wf, ℕ, zero, suc, _+_, _-_, _≤_, _<_, add-one-le, Nat·lt-wfRel, ltb, ltb→lt, nltb→le, length, set, getD}
+use Rattle.lent.proofs.Walk.{tested as outcome}
 use native.Mathlib.Nat.{not-suc-le-zero, le-of-suc-le-suc, le-antisymm}
 use native.Mathlib.Numerals.{add-one}
 
@@ -47,10 +48,6 @@ module _ (m : ℕ) where
 
   abbrev pub after : (i : Upto) → i .0 < m → Upto
   after i l = (i .0 + 1, add-one-le l)
-
-  outcome : (y : Bool) {X : Type 1} → (T y → y ≡ true → X) → (T (not y) → y ≡ false → X) → X
-  outcome true h₁ h₂ = h₁ tt refl
-  outcome false h₁ h₂ = h₂ tt refl
 
   -- the outcome of the loop's test, as an equation
   pub tested : (i : Upto) {X : Type 1} → (i .0 < m → ltb (i .0) m ≡ true → X) → (i .0 ≡ m → ltb (i .0) m ≡ false → X) → X

@@ -1,10 +1,14 @@
-// The lent IKE table: the lowest place with an SPI, and the record at a place, read and stored.
+// The lent IKE table: the lowest place with an SPI, and the record at a place, read, stored, and changed by an answer.
+use address::pair::Pair;
+use responder::core::CoreAnswer;
+use responder::core::changed;
 use tables::ike::IkeRecord;
 use tables::ike::no_ike;
 ghost use mathlib.Core.Path.{_≡_};
 ghost use lib.ListN.{getD, set};
 ghost use Rattle.octets.specs.Lists.{placeOf};
 ghost use Rattle.tables.specs.Records.{ikeSpi, noIke};
+ghost use Rattle.responder.specs.Core.{changedBy};
 
 // The lowest place with this SPI, or 32 where there is none; of SPI 0, the lowest free place.
 pub fn ike_place(records: &[IkeRecord; 32], spi: u64) -> usize
@@ -36,5 +40,15 @@ pub fn ike_store(records: &mut [IkeRecord; 32], i: usize, new: IkeRecord)
 {
     if i < 32 {
         records[i] = new;
+    }
+}
+
+// Changes the record at a place by an answer, in place; nothing past the end.
+pub fn ike_change(records: &mut [IkeRecord; 32], i: usize, a: CoreAnswer, pair: Pair, body: &[u8])
+    ensures { λ _. ⌜ now (records .exit) ≡ set (now (records .entry)) i (changedBy a pair (now (body .entry)) (getD (now (records .entry)) i noIke)) ⌝ }
+{
+    if i < 32 {
+        let x = records[i];
+        records[i] = changed(x, a, pair, body);
     }
 }

@@ -4,6 +4,7 @@ use address::address::address_fits;
 use address::address::width_of;
 use address::pair::Pair;
 ghost use mathlib.Core.Path.{_≡_};
+ghost use mathlib.Core.Bool.{cond};
 ghost use Prim.Native.Nat.{_≤_};
 ghost use lib.ListN.{take};
 ghost use Rattle.octets.specs.Lists.{all};
@@ -100,32 +101,26 @@ pub fn is_acceptable(policy: Policy, pair: Pair) -> bool
     false
 }
 
-// Whether each of the first n rules fits.
-pub fn all_rules_fit(rules: [Rule; 16], n: usize) -> bool
-    requires { ⌜ n ≤ 16 ⌝ }
-    ensures { λ r. ⌜ r ≡ all ruleFits (take n rules) ⌝ }
+// Whether a rule passes one of the two tests: of its lengths, or of its addresses.
+pub fn passes(rule: Rule, lengths: bool) -> bool
+    ensures { λ r. ⌜ r ≡ cond lengths lengthsFit ruleFits rule ⌝ }
 {
-    let mut i = 0;
-    while i < n {
-        let rule = rules[i];
-        if rule_fits(rule) {
-            i += 1;
-        } else {
-            return false;
-        }
+    if lengths {
+        lengths_fit(rule)
+    } else {
+        rule_fits(rule)
     }
-    true
 }
 
-// Whether the lengths of each of the first n rules fit.
-pub fn all_lengths_fit(rules: [Rule; 16], n: usize) -> bool
+// Whether each of the first n rules passes that test.
+pub fn all_pass(rules: [Rule; 16], n: usize, lengths: bool) -> bool
     requires { ⌜ n ≤ 16 ⌝ }
-    ensures { λ r. ⌜ r ≡ all lengthsFit (take n rules) ⌝ }
+    ensures { λ r. ⌜ r ≡ all (cond lengths lengthsFit ruleFits) (take n rules) ⌝ }
 {
     let mut i = 0;
     while i < n {
         let rule = rules[i];
-        if lengths_fit(rule) {
+        if passes(rule, lengths) {
             i += 1;
         } else {
             return false;
@@ -164,8 +159,8 @@ pub fn set_policy(policy: Policy, count: u16, rules: [Rule; 16]) -> PolicyAnswer
         return PolicyAnswer { number: 12, policy };
     }
     let n = count as usize;
-    if all_rules_fit(rules, n) {
-        if all_lengths_fit(rules, n) {
+    if all_pass(rules, n, false) {
+        if all_pass(rules, n, true) {
             let kept = kept_rules(rules, n);
             let new = Policy { count, rules: kept };
             PolicyAnswer {

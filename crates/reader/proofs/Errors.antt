@@ -1,7 +1,6 @@
 -- The errors are among the unknown notifications of a reading.
-use Prim.Native.Nat.{ℕ, _+_, _≤_}
+use Prim.Native.Nat.{ℕ, _≤_}
 use mathlib.Core.List.{List}
-use mathlib.Core.Bool.{Bool, true, false, cond}
 use native.Mathlib.Omega.{arith}
 use lib.Dec.{ltb}
 use Rattle.payload.specs.declared.notify.NotifyKind.{NotifyKind}
@@ -10,16 +9,13 @@ use Rattle.payload.specs.declared.payload.Content.{Content}
 use Rattle.payload.specs.declared.payload.Content.the-variants.{Skipped, Unknown as UnknownPayload, Notify}
 use Rattle.findings.specs.Seen.{noted, contentNoted}
 use Rattle.findings.specs.declared.seen.Seen.{Seen}
+use Rattle.findings.proofs.Counts.{one-more}
 use Rattle.reader.specs.Chain.{reading}
 use Rattle.reader.proofs.Chain.{DataFits}
 use Rattle.reader.proofs.Kept.{kept}
 
 abbrev Among : Seen → Type 0
 Among s = s .tally .errors ≤ s .tally .«unknown_notifies»
-
-one-more : (b : Bool) (x : ℕ) → cond b (x + 1) x ≤ x + 1
-one-more true x = omega arith
-one-more false x = omega arith
 
 noted-among : (s : Seen) (k : NotifyKind) (number place len : ℕ) → Among s → Among (noted s k number place len)
 unfolding noted

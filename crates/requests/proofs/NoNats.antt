@@ -13,11 +13,11 @@ pub taken : (width : ℕ) (octets : List ℕ) → length octets ≡ 16 → width
 taken width octets l w = length-take width octets ∙ omega (arith, l, w)
 
 module _ (width : ℕ) (source destination : List ℕ) (s : length source ≡ 16) (d : length destination ≡ 16) (w : width ≤ 16)
-    (one two : List ℕ) (first : one ≡ placed (replicate 36 0) 0 (take width source)) where
+    {one : List ℕ} (first : one ≡ placed (replicate 36 0) 0 (take width source)) where
   pub one-length : length one ≡ 36
   one-length = rw first (length-placed (replicate 36 0) 0 (take width source) (omega (arith, taken width source s w, length-replicate {A = ℕ} 36 0)) ∙ length-replicate {A = ℕ} 36 0)
 
-  module _ (second : two ≡ placed one width (take width destination)) where
+  module _ {two : List ℕ} (second : two ≡ placed one width (take width destination)) where
     pub two-length : length two ≡ 36
     two-length = rw second (length-placed one width (take width destination) (omega (arith, taken width destination d w, one-length)) ∙ one-length)
 

@@ -65,7 +65,7 @@ pub fn is_unaltered(n: NoNats, pair: Pair) -> bool
 }
 
 // What an update that is not stale is answered: 8 altered on the way, 9 not acceptable, 0 applied.
-pub fn judge_update(policy: Policy, n: NoNats, pair: Pair) -> u8
+pub fn verdict_on(policy: Policy, n: NoNats, pair: Pair) -> u8
     ensures { λ r. ⌜ r ≡ verdict policy n pair ⌝ }
 {
     if is_unaltered(n, pair) {
@@ -160,5 +160,5 @@ pub fn decide(policy: Policy, n: NoNats, seen: Seen, pair: Pair, id: u32, marks:
     let unknown = t.unknown_payloads as u32 + t.unknown_notifies as u32;
     let mut new = marks;
     new.unknown = add_tally(marks.unknown, unknown);
-    decide_update(judge_update(policy, n, pair), seen, id, new)
+    decide_update(verdict_on(policy, n, pair), seen, id, new)
 }

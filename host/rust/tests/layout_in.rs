@@ -125,6 +125,8 @@ fn what_was_seen_is_given_back() {
     assert_eq!(no_nats(&body, &seen), Pair::NONE);
     seen.list.places = std::array::from_fn(|at| 11 * at as u16);
     seen.list.families = std::array::from_fn(|at| [4, 6, 6][at % 3]);
+    assert_eq!(addresses(&body, &seen), [Address::NONE; 16]);
+    seen.list.count = 16;
     for (at, told) in addresses(&body, &seen).iter().enumerate() {
         let from = 11 * at as u8;
         let four = Address::ipv4([from, from + 1, from + 2, from + 3]);

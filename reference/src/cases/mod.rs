@@ -1,5 +1,5 @@
 // The cases that the programs are compared on: each one is made from the seed and its number alone.
-pub mod judge;
+pub mod assess;
 pub mod orders;
 pub mod reader;
 pub mod requests;

@@ -1,5 +1,5 @@
 // The kinds that this program runs, and the cases of each.
-use crate::judge;
+use crate::assess;
 use crate::orders;
 use crate::reader;
 use crate::report::Detail;
@@ -7,7 +7,7 @@ use crate::requests;
 use crate::round_trips;
 use crate::tables;
 use crate::writer;
-use reference::cases::judge::JudgeCases;
+use reference::cases::assess::AssessCases;
 use reference::cases::orders::OrdersCases;
 use reference::cases::reader::ReaderCases;
 use reference::cases::requests::RequestsCases;
@@ -22,11 +22,11 @@ pub const TURNS: &[Kind] = &[
     Kind::Reader,
     Kind::Requests,
     Kind::Tables,
-    Kind::Judge,
+    Kind::Assess,
     Kind::Reader,
     Kind::Requests,
     Kind::Tables,
-    Kind::Judge,
+    Kind::Assess,
     Kind::Requests,
     Kind::Orders,
     Kind::Writer,
@@ -65,7 +65,7 @@ pub struct Cases {
     tables: TablesCases,
     requests: RequestsCases,
     orders: OrdersCases,
-    judge: JudgeCases,
+    assess: AssessCases,
     writer: WriterCases,
     round_trips: RoundTripsCases,
 }
@@ -77,7 +77,7 @@ impl Cases {
             tables: TablesCases::new(seed),
             requests: RequestsCases::new(seed),
             orders: OrdersCases::new(seed),
-            judge: JudgeCases::new(seed),
+            assess: AssessCases::new(seed),
             writer: WriterCases::new(seed),
             round_trips: RoundTripsCases::new(seed),
         }
@@ -89,7 +89,7 @@ impl Cases {
             Kind::Tables => tables::run(self.tables.case(number), faults, detail),
             Kind::Requests => requests::run(self.requests.case(number), faults, detail),
             Kind::Orders => orders::run(self.orders.case(number), faults, detail),
-            Kind::Judge => judge::run(self.judge.case(number), faults, detail),
+            Kind::Assess => assess::run(self.assess.case(number), faults, detail),
             Kind::Writer => writer::run(self.writer.case(number), faults, detail),
             Kind::RoundTrips => round_trips::run(self.round_trips.case(number), faults, detail),
         }

@@ -1,6 +1,6 @@
 // The comparison: runs both programs on the same cases and tells every difference.
 mod arguments;
-mod judge;
+mod assess;
 mod kinds;
 mod orders;
 mod ours;

@@ -1,6 +1,6 @@
 // The verified library: its C interface, and its answers in the form in which they are compared.
+pub mod assess;
 pub mod cookie;
-pub mod judge;
 pub mod reader;
 pub mod requests;
 pub mod tables;

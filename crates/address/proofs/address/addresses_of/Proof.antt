@@ -30,10 +30,7 @@ addresses-of-spec =
     (λ c. search needs)
     (λ c. search needs)
     (λ c. search needs)
-    (λ c.
-    let a = c .before .before .before .args in
-    let l = c .before .before .loop in
-    (omega arith, joins-one addressOf noAddress (a .t1) (a .t2) 16 (search needs) (search needs) (l .out) (l .i) 0 [] (omega arith) (l .inv .1)))
+    (λ c. (omega arith, joins-one addressOf noAddress _ _ 16 (search needs) (search needs) _ _ 0 [] (omega arith) (c .before .before .loop .inv .1)))
     (λ c.
     let same : c .before .loop .i ≡ c .before .before .args .n = omega arith in
     rw (← same) (c .before .loop .inv .1)))

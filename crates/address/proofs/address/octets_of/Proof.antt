@@ -5,7 +5,7 @@ use mathlib.Core.Path.{_≡_, refl}
 use mathlib.Core.List.{[]}
 use borrow.Author.Needs.{needs}
 use native.Mathlib.Omega.{arith}
-use lib.ListN.{length, replicate}
+use lib.ListN.{replicate}
 use Rattle.octets.proofs.Mapped.{unmapped, mapped, maps-one, maps-all}
 use Rattle.address.specs.Address.{addressOf}
 use Rattle.address.specs.declared.address.Address.{Address}
@@ -31,13 +31,5 @@ octets-of-spec =
     (λ c. search needs)
     (λ c. search needs)
     (λ c. search needs)
-    (λ c.
-    let a = c .before .before .before .before .args in
-    let l = c .before .before .before .loop in
-    let long : length (a .t1) ≡ 16 = search (needs, unmapped) in
-    (omega arith, maps-one (λ (x : Address). x .octets) (replicate 16 0) (a .t1) 16 long (l .out) (l .i) (addressOf 0 []) (omega arith) (l .inv .1)))
-    (λ c.
-    let a = c .before .before .args in
-    let l = c .before .loop in
-    let long : length (a .t1) ≡ 16 = search (needs, unmapped) in
-    maps-all (λ (x : Address). x .octets) (replicate 16 0) (a .t1) 16 long (l .out) (l .i) (omega arith) (l .inv .1)))
+    (λ c. (omega arith, maps-one (λ (x : Address). x .octets) (replicate 16 0) (c .before .before .before .before .args .t1) 16 (search (needs, unmapped)) _ _ (addressOf 0 []) (omega arith) (c .before .before .before .loop .inv .1)))
+    (λ c. maps-all (λ (x : Address). x .octets) (replicate 16 0) (c .before .before .args .t1) 16 (search (needs, unmapped)) _ (c .before .loop .i) (omega arith) (c .before .loop .inv .1)))

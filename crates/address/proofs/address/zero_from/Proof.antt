@@ -1,13 +1,15 @@
 -- `address::address::zero_from` meets its contract. The loop's invariant: what is left to test decides.
 -- Assumes nothing.
-use Prim.Native.Nat.{_≤_, _-_}
+use Prim.Native.Nat.{ℕ, _+_, _-_, _≤_, _<_}
 use mathlib.Core.Path.{_≡_, refl, sym, _∙_}
+use mathlib.Core.List.{List}
+use mathlib.Core.Bool.{_&&_}
 use borrow.Author.Needs.{needs}
 use native.Mathlib.Omega.{arith}
-use lib.ListN.{length, drop}
+use lib.ListN.{length, getD, drop}
 use borrow.Author.Tests.{eq-eqb, ne-eqb}
 use Rattle.octets.specs.Lists.{all}
-use Rattle.octets.proofs.Tests.{all-on, all-stop, all-end}
+use Rattle.octets.proofs.Tests.{all-step, all-end}
 use Rattle.address.specs.Address.{isZero}
 use Rattle.address.proofs.address.zero_from.Statement.{statement}
 use Rattle.address.proofs.address.zero_from.Tie as tie
@@ -18,6 +20,17 @@ Inv-loop from octets i₀ i = (i ≤ 16) × (all isZero (drop from octets) ≡ a
 abbrev μ-loop : tie.MeasureT-loop
 μ-loop from octets i₀ i = 16 - i
 
+module _ (c : tie.At-loop Inv-loop μ-loop) where
+  abbrev octets : List ℕ
+  octets = c .before .args .t1
+
+  long : length octets ≡ 16
+  long = search needs
+
+  -- one turn of the loop
+  step : c .loop .i < 16 → all isZero (drop (c .before .args .from) octets) ≡ isZero (getD octets (c .loop .i) 0) && all isZero (drop (c .loop .i + 1) octets)
+  step h = c .loop .inv .1 ∙ all-step isZero octets (c .loop .i) 0 (omega (arith, long))
+
 pub zero-from-spec : {M : Type 1} → statement M
 zero-from-spec =
     tie.close
@@ -26,20 +39,8 @@ zero-from-spec =
     μ-loop
     (λ c. (c .pre, refl))
     (λ c. search needs)
-    (λ c.
-    let a = c .before .before .before .args in
-    let l = c .before .before .loop in
-    let long : length (a .t1) ≡ 16 = search needs in
-    sym (l .inv .1 ∙ all-stop isZero (a .t1) (l .i) 0 (omega arith) (ne-eqb _ _ (c .if1 .taken))))
+    (λ c. sym (rw (ne-eqb _ _ (c .if1 .taken)) at (step (c .before .before) (omega arith))))
     (λ c. search needs)
     (λ c. search needs)
-    (λ c.
-    let a = c .before .before .before .args in
-    let l = c .before .before .loop in
-    let long : length (a .t1) ≡ 16 = search needs in
-    (omega arith, l .inv .1 ∙ all-on isZero (a .t1) (l .i) 0 (omega arith) (eq-eqb _ _ (c .if1 .left))))
-    (λ c.
-    let a = c .before .before .args in
-    let l = c .before .loop in
-    let long : length (a .t1) ≡ 16 = search needs in
-    sym (l .inv .1 ∙ all-end isZero (a .t1) (l .i) (omega arith))))
+    (λ c. (omega arith, rw (eq-eqb _ _ (c .if1 .left)) at (step (c .before .before) (omega arith))))
+    (λ c. sym (c .before .loop .inv .1 ∙ all-end isZero (octets (c .before)) (c .before .loop .i) (omega (arith, long (c .before))))))

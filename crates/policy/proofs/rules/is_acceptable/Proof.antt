@@ -1,13 +1,13 @@
 -- `policy::rules::is_acceptable` meets its contract. The loop's invariant: the rules not yet asked decide.
 -- Assumes nothing.
-use Prim.Native.Nat.{_≤_, _-_}
+use Prim.Native.Nat.{_+_, _-_, _≤_, min}
 use mathlib.Core.Path.{_≡_, refl, sym, _∙_}
-use mathlib.Core.Bool.{Bool}
+use mathlib.Core.Bool.{Bool, false, _||_}
 use borrow.Author.Needs.{needs}
 use native.Mathlib.Omega.{arith}
 use lib.ListN.{length, drop, take}
 use Rattle.octets.specs.Lists.{any}
-use Rattle.octets.proofs.Tests.{front-any-on, front-any-stop, front-any-end}
+use Rattle.octets.proofs.Tests.{front-any-step, front-any-end}
 use Rattle.octets.proofs.Mapped.{unmapped}
 use Rattle.address.specs.declared.pair.Pair.{Pair}
 use Rattle.policy.specs.Policy.{ruleMatches, acceptable}
@@ -25,6 +25,25 @@ Inv-loop pair policy count i₀ i =
 abbrev μ-loop : tie.MeasureT-loop
 μ-loop pair policy count i₀ i = 16 - i
 
+long : (c : tie.At-loop Inv-loop μ-loop) → length (c .before .args .t1 .rules) ≡ 16
+long c = search (needs, unmapped)
+
+none-left : (c : tie.At-loop Inv-loop μ-loop) → let p = c .before .args .t1 in
+    min (p .count) 16 ≤ c .loop .i → false ≡ any (accepts (c .before .args .pair)) (take (p .count) (p .rules))
+none-left c h =
+    let p = c .before .args .t1 in
+    sym (c .loop .inv .1 ∙ front-any-end (accepts (c .before .args .pair)) (p .rules) (p .count) (c .loop .i) (omega (arith, long c)))
+
+-- one turn of the loop
+step : (c : tie.After-rule-matches Inv-loop μ-loop) → let l = c .before .before .before .before in
+    let p = l .before .args .t1 in
+    let f = accepts (l .before .args .pair) in
+    any f (take (p .count) (p .rules)) ≡ c .rule-matches .result || any f (drop (l .loop .i + 1) (take (p .count) (p .rules)))
+step c =
+    let l = c .before .before .before .before in
+    let p = l .before .args .t1 in
+    l .loop .inv .1 ∙ rw (c .rule-matches .ensures) (front-any-step (accepts (l .before .args .pair)) (p .rules) (p .count) (l .loop .i) _ (c .before .before .if1 .left) (omega (arith, long l)))
+
 pub is-acceptable-spec : {M : Type 1} → statement M
 unfolding acceptable
 is-acceptable-spec =
@@ -34,33 +53,12 @@ is-acceptable-spec =
     μ-loop
     (λ c. search needs)
     (λ c. (search needs, refl))
-    (λ c.
-    let a = c .before .before .before .args in
-    let l = c .before .before .loop in
-    sym (l .inv .1 ∙ front-any-end (accepts (a .pair)) (a .t1 .rules) (a .t1 .count) (l .i) (omega arith)))
+    (λ c. none-left (c .before .before) (omega arith))
     (λ c. search needs)
     (λ c. search needs)
     (λ c κs. search needs)
-    (λ c.
-    let a = c .before .before .before .before .before .before .args in
-    let l = c .before .before .before .before .before .loop in
-    let long : length (a .t1 .rules) ≡ 16 = search (needs, unmapped) in
-    sym (l .inv .1
-    ∙ front-any-stop (accepts (a .pair)) (a .t1 .rules) (a .t1 .count) (l .i) _ (c .before .before .before .if1 .left) (omega arith)
-    (sym (c .before .rule-matches .ensures) ∙ c .if2 .taken)))
+    (λ c. sym (rw (c .if2 .taken) at (step (c .before))))
     (λ c. search needs)
     (λ c. search needs)
-    (λ c.
-    let a = c .before .before .before .before .before .before .args in
-    let l = c .before .before .before .before .before .loop in
-    let long : length (a .t1 .rules) ≡ 16 = search (needs, unmapped) in (
-      omega arith,
-      l .inv .1
-          ∙ front-any-on (accepts (a .pair)) (a .t1 .rules) (a .t1 .count) (l .i) _ (c .before .before .before .if1 .left) (omega arith)
-          (sym (c .before .rule-matches .ensures) ∙ c .if2 .left),
-    ))
-    (λ c.
-    let a = c .before .before .args in
-    let l = c .before .loop in
-    let long : length (a .t1 .rules) ≡ 16 = search (needs, unmapped) in
-    sym (l .inv .1 ∙ front-any-end (accepts (a .pair)) (a .t1 .rules) (a .t1 .count) (l .i) (omega arith))))
+    (λ c. (omega arith, rw (c .if2 .left) at (step (c .before))))
+    (λ c. none-left (c .before) (omega arith)))

@@ -19,18 +19,18 @@ set-policy-spec =
     (λ c.
     rw (
       le-ltb _ _ (c .before .before .before .before .before .if1 .left),
-      sym (c .before .before .before .before .all-rules-fit .ensures) ∙ c .before .before .before .if2 .taken,
-      sym (c .before .before .all-lengths-fit .ensures) ∙ c .before .if3 .taken,
+      sym (c .before .before .before .before .all-pass .ensures) ∙ c .before .before .before .if2 .taken,
+      sym (c .before .before .all-pass2 .ensures) ∙ c .before .if3 .taken,
       c .kept-rules .ensures,
     ))
     (λ c.
     rw (
       le-ltb _ _ (c .before .before .before .before .if1 .left),
-      sym (c .before .before .before .all-rules-fit .ensures) ∙ c .before .before .if2 .taken,
-      sym (c .before .all-lengths-fit .ensures) ∙ c .if3 .left,
+      sym (c .before .before .before .all-pass .ensures) ∙ c .before .before .if2 .taken,
+      sym (c .before .all-pass2 .ensures) ∙ c .if3 .left,
     ))
     (λ c.
     rw (
       le-ltb _ _ (c .before .before .if1 .left),
-      sym (c .before .all-rules-fit .ensures) ∙ c .if2 .left,
+      sym (c .before .all-pass .ensures) ∙ c .if2 .left,
     )))

@@ -2,11 +2,35 @@
 -- Assumes nothing.
 use borrow.Author.Needs.{needs}
 use mathlib.Core.Path.{_≡_, refl, sym}
-use lib.ListN.{length}
+use lib.ListN.{length, take}
 use native.Mathlib.Omega.{arith}
 use Rattle.requests.proofs.NoNats.{taken, one-length, two-length, copied}
 use Rattle.requests.proofs.put.no_nats_octets.Statement.{statement}
 use Rattle.requests.proofs.put.no_nats_octets.Tie as tie
+
+module _ (c : tie.Start) where
+  long-source : length (c .args .t2) ≡ 16
+  long-source = omega (arith, c .good .1 .0)
+
+  long-destination : length (c .args .t3) ≡ 16
+  long-destination = omega (arith, c .good .1 .1 .0)
+
+  taken-source : length (take (c .args .width) (c .args .t2)) ≡ c .args .width
+  taken-source = taken (c .args .width) (c .args .t2) long-source (c .pre)
+
+  taken-destination : length (take (c .args .width) (c .args .t3)) ≡ c .args .width
+  taken-destination = taken (c .args .width) (c .args .t3) long-destination (c .pre)
+
+-- the array keeps its length
+after-one : (c : tie.After-copy-octets) → length (c .copy-octets .last .0) ≡ 36
+after-one c =
+    let s = c .before .before .before in
+    one-length (s .args .width) (s .args .t2) (s .args .t3) (long-source s) (long-destination s) (s .pre) (c .copy-octets .ensures)
+
+after-two : (c : tie.After-copy-octets2) → length (c .copy-octets2 .last .0) ≡ 36
+after-two c =
+    let s = c .before .before .before .before .before .before .before in
+    two-length (s .args .width) (s .args .t2) (s .args .t3) (long-source s) (long-destination s) (s .pre) (c .before .before .before .before .copy-octets .ensures) (c .copy-octets2 .ensures)
 
 pub no-nats-octets-spec : {M : Type 1} → statement M
 no-nats-octets-spec =
@@ -17,68 +41,18 @@ no-nats-octets-spec =
     (λ c. search needs)
     (λ c. search needs)
     (λ c. refl)
-    (λ c.
-    let a = c .before .args in
-    let p = c .before .pre in
-    let s : length (a .t2) ≡ 16 = omega (arith, c .before .good .1 .0) in
-    let d : length (a .t3) ≡ 16 = omega (arith, c .before .good .1 .1 .0) in
-    omega (arith, p, s))
-    (λ c.
-    let a = c .before .before .args in
-    let p = c .before .before .pre in
-    let s : length (a .t2) ≡ 16 = omega (arith, c .before .before .good .1 .0) in
-    let d : length (a .t3) ≡ 16 = omega (arith, c .before .before .good .1 .1 .0) in
-    sym (taken (a .width) (a .t2) s p))
-    (λ c κs.
-    let a = c .before .before .args in
-    let p = c .before .before .pre in
-    let s : length (a .t2) ≡ 16 = omega (arith, c .before .before .good .1 .0) in
-    let d : length (a .t3) ≡ 16 = omega (arith, c .before .before .good .1 .1 .0) in
-    omega (arith, p, taken (a .width) (a .t2) s p))
-    (λ c.
-    let a = c .before .before .before .before .before .args in
-    let p = c .before .before .before .before .before .pre in
-    let s : length (a .t2) ≡ 16 = omega (arith, c .before .before .before .before .before .good .1 .0) in
-    let d : length (a .t3) ≡ 16 = omega (arith, c .before .before .before .before .before .good .1 .1 .0) in
-    sym (one-length (a .width) (a .t2) (a .t3) s d p (c .before .before .copy-octets .last .0) (a .t2) (c .before .before .copy-octets .ensures)))
-    (λ c.
-    let a = c .before .before .before .before .before .args in
-    let p = c .before .before .before .before .before .pre in
-    let s : length (a .t2) ≡ 16 = omega (arith, c .before .before .before .before .before .good .1 .0) in
-    let d : length (a .t3) ≡ 16 = omega (arith, c .before .before .before .before .before .good .1 .1 .0) in
-    omega (arith, p, d))
-    (λ c.
-    let a = c .before .before .before .before .before .before .args in
-    let p = c .before .before .before .before .before .before .pre in
-    let s : length (a .t2) ≡ 16 = omega (arith, c .before .before .before .before .before .before .good .1 .0) in
-    let d : length (a .t3) ≡ 16 = omega (arith, c .before .before .before .before .before .before .good .1 .1 .0) in
-    sym (taken (a .width) (a .t3) d p))
-    (λ c κs.
-    let a = c .before .before .before .before .before .before .args in
-    let p = c .before .before .before .before .before .before .pre in
-    let s : length (a .t2) ≡ 16 = omega (arith, c .before .before .before .before .before .before .good .1 .0) in
-    let d : length (a .t3) ≡ 16 = omega (arith, c .before .before .before .before .before .before .good .1 .1 .0) in
-    rw (one-length (a .width) (a .t2) (a .t3) s d p (c .before .before .before .copy-octets .last .0) (a .t2) (c .before .before .before .copy-octets .ensures))
-    (omega (arith, p, taken (a .width) (a .t3) d p)))
-    (λ c.
-    let a = c .before .before .before .before .before .before .before .before .before .args in
-    let p = c .before .before .before .before .before .before .before .before .before .pre in
-    let s : length (a .t2) ≡ 16 = omega (arith, c .before .before .before .before .before .before .before .before .before .good .1 .0) in
-    let d : length (a .t3) ≡ 16 = omega (arith, c .before .before .before .before .before .before .before .before .before .good .1 .1 .0) in
-    sym (two-length (a .width) (a .t2) (a .t3) s d p (c .before .before .before .before .before .before .copy-octets .last .0) (c .before .before .copy-octets2 .last .0) (c .before .before .before .before .before .before .copy-octets .ensures) (c .before .before .copy-octets2 .ensures)))
+    (λ c. omega (arith, c .before .pre, long-source (c .before)))
+    (λ c. sym (taken-source (c .before .before)))
+    (λ c κs. omega (arith, c .before .before .pre, taken-source (c .before .before)))
+    (λ c. sym (after-one (c .before .before)))
+    (λ c. omega (arith, c .before .before .before .before .before .pre, long-destination (c .before .before .before .before .before)))
+    (λ c. sym (taken-destination (c .before .before .before .before .before .before)))
+    (λ c κs. rw (after-one (c .before .before .before)) (omega (arith, c .before .before .before .before .before .before .pre, taken-destination (c .before .before .before .before .before .before))))
+    (λ c. sym (after-two (c .before .before)))
     (λ c. omega arith)
     (λ c. refl)
-    (λ c κs.
-    let a = c .before .before .before .before .before .before .before .before .before .before .args in
-    let p = c .before .before .before .before .before .before .before .before .before .before .pre in
-    let s : length (a .t2) ≡ 16 = omega (arith, c .before .before .before .before .before .before .before .before .before .before .good .1 .0) in
-    let d : length (a .t3) ≡ 16 = omega (arith, c .before .before .before .before .before .before .before .before .before .before .good .1 .1 .0) in
-    rw (two-length (a .width) (a .t2) (a .t3) s d p (c .before .before .before .before .before .before .before .copy-octets .last .0) (c .before .before .before .copy-octets2 .last .0) (c .before .before .before .before .before .before .before .copy-octets .ensures) (c .before .before .before .copy-octets2 .ensures))
-    (omega (arith, p)))
+    (λ c κs. rw (after-two (c .before .before .before)) (omega (arith, c .before .before .before .before .before .before .before .before .before .before .pre)))
     (λ c.
-    let a = c .before .before .before .before .before .before .before .before .before .before .before .before .args in
-    let p = c .before .before .before .before .before .before .before .before .before .before .before .before .pre in
-    let s : length (a .t2) ≡ 16 = omega (arith, c .before .before .before .before .before .before .before .before .before .before .before .before .good .1 .0) in
-    let d : length (a .t3) ≡ 16 = omega (arith, c .before .before .before .before .before .before .before .before .before .before .before .before .good .1 .1 .0) in
-    copied (a .width) (a .t2) (a .t3) s d p (c .before .before .before .before .before .before .before .before .before .copy-octets .last .0) (c .before .before .before .before .before .copy-octets2 .last .0) (c .before .before .before .before .before .before .before .before .before .copy-octets .ensures) (c .before .before .before .before .before .copy-octets2 .ensures)
-    (a .source-port) (a .destination-port) (c .before .copy-octets3 .last .0) (c .before .copy-octets3 .ensures)))
+    let s = c .before .before .before .before .before .before .before .before .before .before .before .before in
+    copied (s .args .width) (s .args .t2) (s .args .t3) (long-source s) (long-destination s) (s .pre) (c .before .before .before .before .before .before .before .before .before .copy-octets .ensures) (c .before .before .before .before .before .copy-octets2 .ensures)
+    (s .args .source-port) (s .args .destination-port) (c .before .copy-octets3 .last .0) (c .before .copy-octets3 .ensures)))

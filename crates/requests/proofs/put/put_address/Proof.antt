@@ -1,16 +1,32 @@
 -- `requests::put::put_address` meets its contract.
 -- Assumes nothing.
 use borrow.Author.Needs.{needs}
-use mathlib.Core.Path.{_∙_}
+use Prim.Native.Nat.{_≤_}
+use mathlib.Core.Path.{_≡_, sym, _∙_}
 use native.Mathlib.Omega.{arith}
-use lib.ListN.{take, length-take}
+use lib.ListN.{length, take}
 use Rattle.address.specs.Address.{widthOf}
 use Rattle.address.proofs.Width.{width-small}
 use Rattle.writing.proofs.Placed.{length-notify}
 use Rattle.writing.proofs.Chained.{chained-one}
 use Rattle.requests.specs.Request.{addressNotify, addressNumber}
+use Rattle.requests.proofs.NoNats.{taken}
 use Rattle.requests.proofs.put.put_address.Statement.{statement}
 use Rattle.requests.proofs.put.put_address.Tie as tie
+
+-- The octets of the address that are put.
+module _ (c : tie.After-width-of) where
+  abbrev start : tie.Start
+  start = c .before .before .before
+
+  small : c .width-of .result ≤ 16
+  small = omega (arith, width-small (start .args .family), c .width-of .ensures)
+
+  long : length (start .args .t5) ≡ 16
+  long = omega (arith, start .good .1 .1 .1 .1)
+
+  sized : length (take (c .width-of .result) (start .args .t5)) ≡ c .width-of .result
+  sized = taken (c .width-of .result) (start .args .t5) long small
 
 pub put-address-spec : {M : Type 1} → statement M
 put-address-spec =
@@ -19,26 +35,11 @@ put-address-spec =
     (λ c κs. search needs)
     (λ c κs. search needs)
     (λ c. search needs)
-    (λ c.
-    let a = c .before .before .before .before .args in
-    let w = width-small (a .family) in
-    let e = c .before .width-of .ensures in
-    let g = c .before .before .before .before .good in
-    omega (arith, w, e, g .1 .1 .1 .1))
-    (λ c.
-    let a = c .before .before .before .before .before .args in
-    let w = width-small (a .family) in
-    let e = c .before .before .width-of .ensures in
-    let g = c .before .before .before .before .before .good in
-    let n = length-take (c .before .before .width-of .result) (a .t5) in
-    omega (arith, w, e, g .1 .1 .1 .1, n))
+    (λ c. omega (arith, small (c .before), long (c .before)))
+    (λ c. sym (sized (c .before .before)))
     (λ c κs.
-    let a = c .before .before .before .before .before .args in
-    let w = width-small (a .family) in
-    let e = c .before .before .width-of .ensures in
-    let n = length-take (c .before .before .width-of .result) (a .t5) in
-    let p = c .before .before .before .before .before .pre in
-    (omega (arith, w, e, n, p), omega (arith, w, e, n)))
+    let w = c .before .before in
+    (omega (arith, small w, sized w, start w .pre), omega (arith, small w, sized w)))
     (λ c. search needs)
     (λ c.
     let a = c .before .before .before .before .before .before .before .before .args in

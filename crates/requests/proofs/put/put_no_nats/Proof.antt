@@ -3,12 +3,33 @@
 use borrow.Author.Needs.{needs}
 use Prim.Native.Nat.{ℕ, _+_}
 use mathlib.Core.Path.{_≡_, ap, _∙_}
+use mathlib.Core.List.{List}
 use native.Mathlib.Omega.{arith}
 use lib.ListN.{length, take, replicate}
 use Rattle.requests.specs.Request.{noNatsOctets}
 use Rattle.requests.proofs.NoNats.{data-length, front}
 use Rattle.requests.proofs.put.put_no_nats.Statement.{statement}
 use Rattle.requests.proofs.put.put_no_nats.Tie as tie
+
+-- The octets that are put.
+module _ (c : tie.After-no-nats-octets) where
+  abbrev start : tie.Start
+  start = c .before .before
+
+  abbrev size : ℕ
+  size = start .args .width + start .args .width + 4
+
+  abbrev octets : List ℕ
+  octets = let a = start .args in noNatsOctets (a .width) (a .source) (a .destination) (a .source-port) (a .destination-port)
+
+  sized : length octets ≡ size
+  sized =
+      let a = start .args in
+      let g = start .good .1 .1 .1 .1 .1 in
+      data-length (a .width) (a .source-port) (a .destination-port) (a .source) (a .destination) (omega (arith, g .0)) (omega (arith, g .1 .0)) (start .pre .1)
+
+  same : take size (c .no-nats-octets .result) ≡ octets
+  same = ap (take size) (c .no-nats-octets .ensures) ∙ front (replicate {A = ℕ} 36 0) octets size sized
 
 pub put-no-nats-spec : {M : Type 1} → statement M
 put-no-nats-spec =
@@ -18,34 +39,9 @@ put-no-nats-spec =
     (λ c. search needs)
     (λ c. search needs)
     (λ c. search needs)
-    (λ c.
-    let a = c .before .before .before .before .args in
-    let g = c .before .before .before .before .good .1 .1 .1 .1 .1 in
-    let p = c .before .before .before .before .pre in
-    let s : length (a .source) ≡ 16 = omega (arith, g .0) in
-    let d : length (a .destination) ≡ 16 = omega (arith, g .1 .0) in
-    let o = c .before .before .no-nats-octets in
-    let l = data-length (a .width) (a .source-port) (a .destination-port) (a .source) (a .destination) s d (p .1) in
-    let same = ap (take (a .width + a .width + 4)) (o .ensures) ∙ front (replicate {A = ℕ} 36 0) (noNatsOctets (a .width) (a .source) (a .destination) (a .source-port) (a .destination-port)) (a .width + a .width + 4) l in
-    rw (same, l))
+    (λ c. rw (same (c .before .before), sized (c .before .before)))
     (λ c κs.
-    let a = c .before .before .before .before .args in
-    let g = c .before .before .before .before .good .1 .1 .1 .1 .1 in
     let p = c .before .before .before .before .pre in
-    let s : length (a .source) ≡ 16 = omega (arith, g .0) in
-    let d : length (a .destination) ≡ 16 = omega (arith, g .1 .0) in
-    let o = c .before .before .no-nats-octets in
-    let l = data-length (a .width) (a .source-port) (a .destination-port) (a .source) (a .destination) s d (p .1) in
-    let same = ap (take (a .width + a .width + 4)) (o .ensures) ∙ front (replicate {A = ℕ} 36 0) (noNatsOctets (a .width) (a .source) (a .destination) (a .source-port) (a .destination-port)) (a .width + a .width + 4) l in
-    rw (same, l) (omega (arith, p), omega (arith, p)))
+    rw (same (c .before .before), sized (c .before .before)) (omega (arith, p), omega (arith, p)))
     (λ c. search needs)
-    (λ c.
-    let a = c .before .before .before .before .before .before .before .args in
-    let g = c .before .before .before .before .before .before .before .good .1 .1 .1 .1 .1 in
-    let p = c .before .before .before .before .before .before .before .pre in
-    let s : length (a .source) ≡ 16 = omega (arith, g .0) in
-    let d : length (a .destination) ≡ 16 = omega (arith, g .1 .0) in
-    let o = c .before .before .before .before .before .no-nats-octets in
-    let l = data-length (a .width) (a .source-port) (a .destination-port) (a .source) (a .destination) s d (p .1) in
-    let same = ap (take (a .width + a .width + 4)) (o .ensures) ∙ front (replicate {A = ℕ} 36 0) (noNatsOctets (a .width) (a .source) (a .destination) (a .source-port) (a .destination-port)) (a .width + a .width + 4) l in
-    rw (← same) (c .before .before .put-if .ensures)))
+    (λ c. rw (← same (c .before .before .before .before .before)) (c .before .before .put-if .ensures)))

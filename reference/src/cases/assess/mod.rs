@@ -1,4 +1,4 @@
-// The judge's cases: the cookie that was sent, and a response.
+// The assess's cases: the cookie that was sent, and a response.
 mod listed;
 mod responses;
 
@@ -32,14 +32,14 @@ impl Kinded for Case {
     }
 }
 
-pub type JudgeCases = Seeded<Case>;
+pub type AssessCases = Seeded<Case>;
 
 #[cfg(test)]
 mod tests {
     use super::*;
+    use crate::assess::assess;
     use crate::cases::seeded::met;
     use crate::faults::Faults;
-    use crate::judge::judge;
 
     #[test]
     fn random_cases_meet_every_answer_often() {
@@ -48,8 +48,8 @@ mod tests {
         let with_sent = with_sent.map(|(number, outcome)| (number, outcome, false));
         let without = without.map(|(number, outcome)| (number, outcome, true));
         met::assert_often(&[&with_sent[..], &without].concat(), |case: Case| {
-            let judged = judge(&case.sent, case.first, &case.body, Faults::NONE);
-            (judged.number, judged.outcome, case.sent.is_empty())
+            let assessed = assess(&case.sent, case.first, &case.body, Faults::NONE);
+            (assessed.number, assessed.outcome, case.sent.is_empty())
         });
     }
 }

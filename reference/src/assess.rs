@@ -1,4 +1,4 @@
-// The judge of responses at the display's end: a verdict by the cookie sent and the response.
+// The assessment of responses at the display's end: a verdict by the cookie sent and the response.
 use crate::asking::may_be_sent;
 use crate::calls::Refusal;
 use crate::chain::{self, Class};
@@ -17,9 +17,9 @@ pub enum Verdict {
     Accepted = 5,
 }
 
-/// What the judge gives back, in the form in which the two programs are compared.
+/// What the assess gives back, in the form in which the two programs are compared.
 #[derive(Debug, Clone, Copy, Default, PartialEq, Eq)]
-pub struct Judged {
+pub struct Assessed {
     pub number: u8,
     /// The verdict's number; 0 with refusals.
     pub outcome: u8,
@@ -29,7 +29,7 @@ pub struct Judged {
     pub tally: u32,
 }
 
-impl Judged {
+impl Assessed {
     /// Every field by name, to be shown.
     pub fn fields(&self) -> Vec<(String, String)> {
         let fields = [
@@ -43,26 +43,26 @@ impl Judged {
     }
 }
 
-/// Judges a response to a request that was sent with this cookie; an empty one is none.
-pub fn judge(sent: &[u8], first: u8, body: &[u8], faults: Faults) -> Judged {
+/// Assesses a response to a request that was sent with this cookie; an empty one is none.
+pub fn assess(sent: &[u8], first: u8, body: &[u8], faults: Faults) -> Assessed {
     let reading = reader::read(first, body, faults);
     let answer = reading.answer;
     let too_long_first = answer == Answer::BodyTooLong && faults.on(Fault::BodyBeforeSent);
     if !may_be_sent(sent.len(), faults) && !too_long_first {
-        return Judged { number: Refusal::Argument as u8, ..Judged::default() };
+        return Assessed { number: Refusal::Argument as u8, ..Assessed::default() };
     }
     if answer != Answer::Read {
         let (number, offset) = (answer.number(), answer.offset());
         let kept = faults.on(Fault::RefusalTally);
         let tally = if kept { unknown_before(first, body, offset, faults) } else { 0 };
-        return Judged { number, offset: offset as u16, tally, ..Judged::default() };
+        return Assessed { number, offset: offset as u16, tally, ..Assessed::default() };
     }
     let summary = &reading.summary;
     let verdict = verdict(sent, summary, faults);
     let untallied = verdict == Verdict::Close && faults.on(Fault::CloseUntallied);
     let tally = if untallied { 0 } else { tally(sent, summary, faults) };
     let payloads = summary.payloads as u16;
-    Judged { number: 0, outcome: verdict as u8, payloads, offset: 0, tally }
+    Assessed { number: 0, outcome: verdict as u8, payloads, offset: 0, tally }
 }
 
 fn verdict(sent: &[u8], summary: &Summary, faults: Faults) -> Verdict {
@@ -169,16 +169,16 @@ mod tests {
         (types[0], body)
     }
 
-    fn judged(sent: &[u8], notifications: &[(u16, &[u8])], unknown: usize) -> Judged {
+    fn assessed(sent: &[u8], notifications: &[(u16, &[u8])], unknown: usize) -> Assessed {
         let (first, body) = response(notifications, unknown);
-        judge(sent, first, &body, Faults::NONE)
+        assess(sent, first, &body, Faults::NONE)
     }
 
     fn verdict_of(sent: &[u8], notifications: &[(u16, &[u8])]) -> u8 {
-        let judged = judged(sent, notifications, 0);
-        assert_eq!((judged.number, judged.offset), (0, 0));
-        assert_eq!(usize::from(judged.payloads), notifications.len());
-        judged.outcome
+        let assessed = assessed(sent, notifications, 0);
+        assert_eq!((assessed.number, assessed.offset), (0, 0));
+        assert_eq!(usize::from(assessed.payloads), notifications.len());
+        assessed.outcome
     }
 
     #[test]
@@ -232,22 +232,22 @@ mod tests {
     fn the_tally_leaves_errors_out_and_adds_an_unasked_cookie() {
         let mixed: [(u16, &[u8]); 4] =
             [(40, &[]), (16384, &[]), (COOKIE2, &SENT), (16396, &[1, 2])];
-        assert_eq!(judged(&SENT, &mixed, 2).tally, 3);
-        assert_eq!(judged(&NONE, &mixed, 2).tally, 4);
-        let closed = judged(&OTHER, &mixed, 2);
+        assert_eq!(assessed(&SENT, &mixed, 2).tally, 3);
+        assert_eq!(assessed(&NONE, &mixed, 2).tally, 4);
+        let closed = assessed(&OTHER, &mixed, 2);
         assert_eq!((closed.outcome, closed.payloads, closed.tally), (1, 6, 3));
     }
 
     #[test]
     fn refusals_give_0() {
-        let refused = |number, offset| Judged { number, offset, ..Judged::default() };
-        let judge = |sent: &[u8], first, body: &[u8]| judge(sent, first, body, Faults::NONE);
+        let refused = |number, offset| Assessed { number, offset, ..Assessed::default() };
+        let assess = |sent: &[u8], first, body: &[u8]| assess(sent, first, body, Faults::NONE);
         for size in [1, 7, 65, 66, 300] {
-            assert_eq!(judge(&vec![1; size], 41, &[0; 4097]), refused(1, 0));
+            assert_eq!(assess(&vec![1; size], 41, &[0; 4097]), refused(1, 0));
         }
-        assert_eq!(judge(&[1; 64], 200, &[0; 4097]), refused(3, 0));
-        assert_eq!(judge(&SENT, 200, &[41, 0, 0, 4, 0, 0, 0, 7, 0, 0, 0]), refused(6, 4));
-        assert_eq!(judge(&NONE, 200, &[201, 0, 0, 4, 0, 0x80, 0, 4]), refused(7, 4));
-        assert_eq!(judge(&NONE, 0, &[0; 4096]), refused(6, 0));
+        assert_eq!(assess(&[1; 64], 200, &[0; 4097]), refused(3, 0));
+        assert_eq!(assess(&SENT, 200, &[41, 0, 0, 4, 0, 0, 0, 7, 0, 0, 0]), refused(6, 4));
+        assert_eq!(assess(&NONE, 200, &[201, 0, 0, 4, 0, 0x80, 0, 4]), refused(7, 4));
+        assert_eq!(assess(&NONE, 0, &[0; 4096]), refused(6, 0));
     }
 }

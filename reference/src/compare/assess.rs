@@ -1,16 +1,16 @@
-// A response judged by both programs.
+// A response assessed by both programs.
 use crate::kinds::Verdict;
 use crate::ours;
 use crate::report::{self, Detail};
-use reference::cases::judge::Case;
+use reference::assess;
+use reference::cases::assess::Case;
 use reference::faults::Faults;
-use reference::judge;
 use reference::show::hex;
 
 pub fn run(case: Case, faults: Faults, detail: Detail) -> Verdict {
     let Case { sent, first, body } = case;
-    let ours = ours::judge::judge(&sent, first, &body);
-    let reference = judge::judge(&sent, first, &body, faults);
+    let ours = ours::assess::assess(&sent, first, &body);
+    let reference = assess::assess(&sent, first, &body, faults);
     Verdict::of(ours == reference, detail, || {
         let mut lines = vec![format!("  cookie sent: {}", hex(&sent))];
         lines.extend(report::chain(first, &body));

@@ -1,14 +1,14 @@
--- `responder::decide::judge_update` meets its contract.
+-- `responder::decide::verdict_on` meets its contract.
 -- Assumes nothing.
 use borrow.Author.Needs.{needs}
 use mathlib.Core.Path.{sym, _∙_}
 use Rattle.responder.specs.Decide.{verdict}
-use Rattle.responder.proofs.decide.judge_update.Statement.{statement}
-use Rattle.responder.proofs.decide.judge_update.Tie as tie
+use Rattle.responder.proofs.decide.verdict_on.Statement.{statement}
+use Rattle.responder.proofs.decide.verdict_on.Tie as tie
 
-pub judge-update-spec : {M : Type 1} → statement M
+pub verdict-on-spec : {M : Type 1} → statement M
 unfolding verdict
-judge-update-spec =
+verdict-on-spec =
     tie.close
     (tie.spec
     (λ c κs. search needs)
