@@ -1,4 +1,4 @@
-// Measures how much stack a call takes: it runs on a stack filled with a pattern, and what is no longer the pattern was used.
+// Measures how much stack a call takes: it runs on a stack filled with a pattern, and what no longer has it was used.
 #define _GNU_SOURCE
 #include <pthread.h>
 #include <stdio.h>
@@ -31,8 +31,9 @@ static void *nothing(void *unused)
 static void *request(void *unused)
 {
     unmavreth_pair pair = {.family = 4};
-    unmavreth_reply reply = unmavreth_request(&ike, ipsec, UNMAVRETH_IPSEC_RECORDS, &policy, 7, 0, pair, nat, sizeof nat,
-                                              nat, sizeof nat, SKIPPED_TYPE, body, sizeof body, out, sizeof out);
+    unmavreth_reply reply =
+        unmavreth_request(&ike, ipsec, UNMAVRETH_IPSEC_RECORDS, &policy, 7, 0, pair, nat, sizeof nat, nat, sizeof nat,
+                          SKIPPED_TYPE, body, sizeof body, out, sizeof out);
     if (reply.number != UNMAVRETH_DONE || reply.payloads != sizeof body / SHORT_PAYLOAD) {
         fprintf(stderr, "stack: the request was answered %u\n", reply.number);
         exit(1);
@@ -63,7 +64,8 @@ int main(void)
         return 2;
     // The C library binds its functions at their first call, on the caller's stack: not what is measured here.
     used(request);
-    printf("\nStack of a request with 1,024 payloads, the most that a body has room for, beside that of a thread which does\n"
-           "nothing: %zu octets.\n", used(request) - used(nothing));
+    printf("\nStack of a request with 1,024 payloads, the most that a body has room for, beside that of a thread which\n"
+           "does nothing: %zu octets.\n",
+           used(request) - used(nothing));
     return 0;
 }

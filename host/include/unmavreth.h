@@ -14,9 +14,9 @@
 //
 // The promises are about fields and octets, not about padding: compare records field by field, not with memcmp.
 //
-// Stack: reading a chain (unmavreth_read, unmavreth_request, unmavreth_response) calls itself once for each 32 payloads,
-// at most 33 deep. How much stack that takes is not proved; a request with 1,024 payloads was measured to take under
-// 19,000 octets (./bench). Call from a thread with at least 64 KiB of stack.
+// Stack: reading a chain (unmavreth_read, unmavreth_request, unmavreth_response) calls itself once for each 32
+// payloads, at most 33 deep. How much stack that takes is not proved; a request with 1,024 payloads was measured to
+// take under 19,000 octets (./bench). Call from a thread with at least 64 KiB of stack.
 #ifndef UNMAVRETH_H
 #define UNMAVRETH_H
 
@@ -358,8 +358,9 @@ UNMAVRETH_AT(unmavreth_part, octets, 8);
 // leaves the body alone.
 void unmavreth_cookie(unmavreth_part *out, const uint8_t *body, size_t octets, uint16_t cookie, uint16_t cookie_len);
 
-// What NO_NATS_ALLOWED holds, from the body that was read and what was seen in it: the `no_nats_len` octets at `no_nats`.
-// Family 0 and zeros if there is none, or if these are not 12 or 36 octets within the body, which no reading tells.
+// What NO_NATS_ALLOWED holds, from the body that was read and what was seen in it: the `no_nats_len` octets at
+// `no_nats`. Family 0 and zeros if there is none, or if these are not 12 or 36 octets within the body, which no
+// reading tells.
 unmavreth_pair unmavreth_no_nats(const uint8_t *body, size_t octets, unmavreth_seen seen);
 
 // The first sixteen additional addresses, from the body that was read and what was seen in it. Places past the count
