@@ -1,5 +1,7 @@
-// The library's records and policy in the second program's form, field by field.
+// The library's records, openings and policy in the second program's form, field by field.
 use reference::address::{Address, AddressPair};
+use reference::agreed::Agreed;
+use reference::opening_both::Opening;
 use reference::policy::{Policy, Rule};
 use reference::tables::{IkeRecord, IpsecRecord, Tables};
 
@@ -17,10 +19,14 @@ pub fn pair(of: &unmavreth::Pair) -> AddressPair {
     }
 }
 
+fn agreed(of: &unmavreth::Agreed) -> Agreed {
+    Agreed { mobike: u8::from(of.mobike.is_set()) }
+}
+
 fn ike(of: &unmavreth::IkeRecord) -> IkeRecord {
     IkeRecord {
         spi: of.spi,
-        mobike: u8::from(of.mobike.is_set()),
+        agreed: agreed(&of.agreed),
         pair: pair(&of.pair),
         update_mark: of.update_mark,
         list_mark: of.list_mark,
@@ -32,6 +38,10 @@ fn ike(of: &unmavreth::IkeRecord) -> IkeRecord {
 
 fn ipsec(of: &unmavreth::IpsecRecord) -> IpsecRecord {
     IpsecRecord { spi: of.spi, owner: of.owner, pair: pair(&of.pair) }
+}
+
+pub fn opening(of: &unmavreth::Opening) -> Opening {
+    Opening { spi: of.spi, agreed: agreed(&of.agreed), pair: pair(&of.pair), child: of.child }
 }
 
 fn rule(of: &unmavreth::Rule) -> Rule {

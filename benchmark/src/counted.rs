@@ -4,22 +4,26 @@
 // thing that the function does: a jump into the library could not be told from leaving the function.
 use reference::asking::Arguments;
 use reference::assess::Assessed;
+use reference::calls::Call;
 use reference::faults::Faults;
 use reference::reply::Handled;
 use reference::tables::Tables;
 use std::hint::black_box;
 use unmavreth::{
-    Assessment, Draft, IkeRecord, IpsecRecord, Policy, Reading, Reply, Request, Written,
+    Assessment, Draft, IkeRecord, IpsecRecord, Number, Opening, Policy, Reading, Reply, Request,
+    Written,
 };
 
 /// The names that callgrind is told. With a wrong one nothing is counted, which is an error.
-pub const NAMES: [&str; 8] = [
+pub const NAMES: [&str; 10] = [
     "counted_ours_read",
     "counted_ours_handle",
+    "counted_ours_open",
     "counted_ours_write",
     "counted_ours_assess",
     "counted_second_read",
     "counted_second_handle",
+    "counted_second_open",
     "counted_second_write",
     "counted_second_assess",
 ];
@@ -44,6 +48,18 @@ pub fn counted_ours_handle(
     let reply = unmavreth::handle(ike, ipsec, policy, request, out);
     black_box(&reply);
     reply
+}
+
+#[inline(never)]
+#[no_mangle]
+pub fn counted_ours_open(
+    ike: &mut [IkeRecord; 32],
+    ipsec: &mut [IpsecRecord],
+    opening: &Opening,
+) -> Number {
+    let number = unmavreth::open(ike, ipsec, opening);
+    black_box(&number);
+    number
 }
 
 #[inline(never)]
@@ -84,6 +100,14 @@ pub fn counted_second_handle<'a>(
     let handled = reference::handler::handle(request, tables, faults);
     black_box(&handled);
     handled
+}
+
+#[inline(never)]
+#[no_mangle]
+pub fn counted_second_open(call: &Call, tables: &mut Tables, faults: Faults) -> u8 {
+    let number = call.make(tables, faults);
+    black_box(&number);
+    number
 }
 
 #[inline(never)]

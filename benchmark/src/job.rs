@@ -1,10 +1,11 @@
 // What a row's call is given, on either side.
 use crate::chains::{self, COOKIE, NAT_DESTINATION, NAT_SOURCE, NOTIFY};
-use unmavreth::{Address, Ask, Draft, Gateway, Pair, Request, Rule};
+use unmavreth::{Address, Agreed, Ask, Draft, Flag, Gateway, Opening, Pair, Request, Rule};
 
 pub enum Job {
     Read { first: u8, body: Vec<u8> },
     Handle(Box<Handling>),
+    Open(Box<OpeningBoth>),
     Write(Box<Draft<'static>>),
     Assess { first: u8, body: Vec<u8> },
 }
@@ -21,6 +22,12 @@ pub struct Handling {
     pub room: usize,
 }
 
+/// An opening of both records, with the tables that are lent for it.
+pub struct OpeningBoth {
+    pub gateway: Gateway,
+    pub opening: Opening,
+}
+
 pub const OWNER: u64 = 7;
 const OTHER: u64 = 8;
 const ID: u32 = 3;
@@ -34,10 +41,10 @@ impl Handling {
     /// This request to the first of two records, each of which owns two IPsec records.
     pub fn of(first: u8, body: Vec<u8>) -> Self {
         let mut gateway = with_policy();
-        for spi in [OWNER, OTHER] {
-            gateway.open_ike(spi, true, &OLD);
+        for (spi, child) in [(OWNER, 71), (OTHER, 81)] {
+            gateway.open(&opening(spi, child));
         }
-        for (spi, owner) in [(71, OWNER), (81, OTHER), (72, OWNER), (82, OTHER)] {
+        for (spi, owner) in [(72, OWNER), (82, OTHER)] {
             gateway.open_ipsec(spi, owner);
         }
         Handling::on(gateway, first, body)
@@ -50,16 +57,7 @@ impl Handling {
 
     /// The update, to the last of 32 records, which owns this many of 128 IPsec records.
     pub fn owning(owned: usize) -> Self {
-        let mut gateway = with_policy();
-        for spi in 101..132 {
-            gateway.open_ike(spi, true, &OLD);
-        }
-        gateway.open_ike(OWNER, true, &OLD);
-        for place in 0..128 {
-            let owner = if place < owned { OWNER } else { 101 };
-            gateway.open_ipsec(1000 + place as u32, owner);
-        }
-        Handling::on(gateway, NOTIFY, chains::update())
+        Handling::on(full(owned), NOTIFY, chains::update())
     }
 
     /// The request as the library is given it.
@@ -74,6 +72,36 @@ impl Handling {
             body: &self.body,
         }
     }
+}
+
+impl OpeningBoth {
+    pub fn on_empty() -> Self {
+        OpeningBoth { gateway: with_policy(), opening: opening(OWNER, 71) }
+    }
+
+    /// Of SPIs that no record has.
+    pub fn on_full() -> Self {
+        OpeningBoth { gateway: full(128), opening: opening(OTHER, 81) }
+    }
+}
+
+fn opening(spi: u64, child: u32) -> Opening {
+    Opening { spi, agreed: Agreed { mobike: Flag::YES }, pair: OLD, child }
+}
+
+/// All places in use; the last of 32 records owns this many of 128 IPsec records, the first ones.
+fn full(owned: usize) -> Gateway {
+    let mut gateway = with_policy();
+    // Closes each first IPsec record again, so that the list can begin with those that are owned.
+    for spi in (101..132).chain([OWNER]) {
+        gateway.open(&opening(spi, 1000));
+        gateway.close_ipsec(1000);
+    }
+    for place in 0..128 {
+        let owner = if place < owned { OWNER } else { 101 };
+        gateway.open_ipsec(1000 + place as u32, owner);
+    }
+    gateway
 }
 
 fn with_policy() -> Gateway {

@@ -2,8 +2,9 @@
 use crate::chains::COOKIE;
 use crate::convert;
 use crate::counted::*;
-use crate::job::{Handling, Job};
+use crate::job::{Handling, Job, OpeningBoth};
 use crate::told::Told;
+use reference::tables::Tables;
 use std::hint::black_box;
 use unmavreth::{
     Assessment, Draft, Gateway, IkeRecord, IpsecRecord, Policy, Reading, Reply, Written,
@@ -17,6 +18,7 @@ pub fn told(job: &Job) -> Told {
     match job {
         Job::Read { first, body } => reading(body, &unmavreth::read(*first, body)),
         Job::Handle(handling) => handled(handling, false),
+        Job::Open(opening) => opened(opening, false),
         Job::Write(draft) => {
             let mut out = vec![BEFORE; 564];
             let told = unmavreth::write(draft, &mut out);
@@ -34,6 +36,7 @@ pub fn counted(job: &Job) -> Told {
             reading(body, &black_box(counted_ours_read(black_box(*first), black_box(body))))
         }
         Job::Handle(handling) => handled(handling, true),
+        Job::Open(opening) => opened(opening, true),
         Job::Write(draft) => count_write(draft),
         Job::Assess { first, body } => assessed(&black_box(counted_ours_assess(
             black_box(&COOKIE),
@@ -49,8 +52,8 @@ fn count_write(draft: &Draft) -> Told {
     written(&told, out)
 }
 
-/// What is lent for a request. It begins where a cache line does, for how octets are copied depends on
-/// where they lie, and the heap would put it here or there.
+/// What is lent for a request or an opening. It begins where a cache line does, for how octets are
+/// copied depends on where they lie, and the heap would put it here or there.
 #[repr(align(64))]
 struct Lent {
     ike: [IkeRecord; 32],
@@ -59,9 +62,19 @@ struct Lent {
     out: [u8; 128],
 }
 
+impl Lent {
+    fn of(gateway: &Gateway) -> Box<Self> {
+        let Gateway { ike, ipsec, policy } = gateway.clone();
+        Box::new(Lent { ike: *ike, ipsec: *ipsec, policy, out: [BEFORE; 128] })
+    }
+
+    fn tables(&self) -> Tables {
+        convert::tables(&self.ike, &self.ipsec, &self.policy)
+    }
+}
+
 fn handled(handling: &Handling, count: bool) -> Told {
-    let Gateway { ike, ipsec, policy } = handling.gateway.clone();
-    let mut lent = Box::new(Lent { ike: *ike, ipsec: *ipsec, policy, out: [BEFORE; 128] });
+    let mut lent = Lent::of(&handling.gateway);
     let request = handling.request();
     let call = if count { counted_ours_handle } else { unmavreth::handle };
     let reply = black_box(call(
@@ -72,8 +85,19 @@ fn handled(handling: &Handling, count: bool) -> Told {
         black_box(&mut lent.out[..handling.room]),
     ));
     let octets = vec![reply.cookie(&handling.body).to_vec(), lent.out[..handling.room].to_vec()];
-    let tables = Some(convert::tables(&lent.ike, &lent.ipsec, &lent.policy));
-    Told { fields: replied(&reply), octets, tables }
+    Told { fields: replied(&reply), octets, tables: Some(lent.tables()) }
+}
+
+fn opened(opening: &OpeningBoth, count: bool) -> Told {
+    let mut lent = Lent::of(&opening.gateway);
+    let call = if count { counted_ours_open } else { unmavreth::open };
+    let number = black_box(call(
+        black_box(&mut lent.ike),
+        black_box(&mut lent.ipsec[..]),
+        black_box(&opening.opening),
+    ));
+    let fields = vec![("number", u8::from(number).into())];
+    Told { fields, octets: vec![], tables: Some(lent.tables()) }
 }
 
 fn replied(reply: &Reply) -> Vec<(&'static str, u64)> {

@@ -1,6 +1,6 @@
 // The rows: which call each counts, on what, and what it must tell.
 use crate::chains::{self, NOTIFY, SKIPPED};
-use crate::job::{draft, Handling, Job, ELSEWHERE};
+use crate::job::{draft, Handling, Job, OpeningBoth, ELSEWHERE};
 use unmavreth::Flag;
 
 #[derive(Clone, Copy)]
@@ -53,6 +53,7 @@ pub fn all() -> Vec<Row> {
     rows.extend(long_chains());
     rows.extend(full_tables());
     rows.extend(refusals());
+    rows.extend(openings());
     rows.extend(initiator());
     rows.extend([256, 512, 1024, 2048, 4096].map(by_octets));
     rows.extend([0, 32, 64, 128].map(by_records));
@@ -142,7 +143,7 @@ fn refusals() -> Vec<Row> {
         refused(3, "refused 3: a body of 4,097 octets", || handling(SKIPPED, vec![0; 4097])),
         refused(4, "refused 4: no such record", || changed(|of| of.spi = 9)),
         refused(5, "refused 5: MOBIKE not agreed", || {
-            changed(|of| of.gateway.ike[0].mobike = Flag::NO)
+            changed(|of| of.gateway.ike[0].agreed.mobike = Flag::NO)
         }),
         refused(6, "refused 6: malformed at the first payload", || {
             handling(NOTIFY, chains::malformed())
@@ -152,6 +153,16 @@ fn refusals() -> Vec<Row> {
             handling(NOTIFY, chains::altered())
         }),
         refused(9, "refused 9: the pair not acceptable", || changed(|of| of.pair = ELSEWHERE)),
+    ]
+}
+
+fn openings() -> Vec<Row> {
+    let empty = || Job::Open(Box::new(OpeningBoth::on_empty()));
+    let full = || Job::Open(Box::new(OpeningBoth::on_full()));
+    let opened = "an IKE record and its first IPsec record, opened on empty tables";
+    vec![
+        row("opened", opened, empty, &[("number", 0)]),
+        row("opened-full", "the same, refused 10: full tables", full, &[("number", 10)]),
     ]
 }
 

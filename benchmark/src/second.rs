@@ -2,11 +2,12 @@
 use crate::chains::{COOKIE, NAT_DESTINATION};
 use crate::convert;
 use crate::counted::*;
-use crate::job::{Handling, Job};
+use crate::job::{Handling, Job, OpeningBoth};
 use crate::ours::BEFORE;
 use crate::told::Told;
 use reference::asking::{Arguments, Ask};
 use reference::assess::Assessed;
+use reference::calls::Call;
 use reference::faults::Faults;
 use reference::outcome::Outcome;
 use reference::reader::Reading;
@@ -21,6 +22,7 @@ pub fn told(job: &Job) -> Told {
     match job {
         Job::Read { first, body } => reading(body, &reference::reader::read(*first, body, NONE)),
         Job::Handle(handling) => handled(handling, false),
+        Job::Open(opening) => opened(opening, false),
         Job::Write(draft) => written(reference::writer::write(&arguments(draft), NONE)),
         Job::Assess { first, body } => {
             assessed(reference::assess::assess(&COOKIE, *first, body, NONE))
@@ -37,6 +39,7 @@ pub fn counted(job: &Job) -> Told {
             reading(body, &black_box(counted_second_read(first, body, black_box(NONE))))
         }
         Job::Handle(handling) => handled(handling, true),
+        Job::Open(opening) => opened(opening, true),
         Job::Write(draft) => {
             let arguments = arguments(draft);
             written(black_box(counted_second_write(black_box(&arguments), black_box(NONE))))
@@ -103,6 +106,15 @@ fn handled(handling: &Handling, count: bool) -> Told {
     ];
     let octets = vec![reply.handed_out.octets.to_vec(), handled.output];
     Told { fields, octets, tables: Some(tables) }
+}
+
+fn opened(opening: &OpeningBoth, count: bool) -> Told {
+    let given = &opening.gateway;
+    let mut tables = convert::tables(&given.ike, &given.ipsec, &given.policy);
+    let opening = Call::OpenBoth(convert::opening(&opening.opening));
+    let call = if count { counted_second_open } else { Call::make };
+    let number = black_box(call(black_box(&opening), black_box(&mut tables), black_box(NONE)));
+    Told { fields: vec![("number", number.into())], octets: vec![], tables: Some(tables) }
 }
 
 fn reading(body: &[u8], reading: &Reading) -> Told {

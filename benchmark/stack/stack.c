@@ -59,8 +59,8 @@ static size_t used(void *(*start)(void *))
 int main(void)
 {
     make_chain();
-    unmavreth_pair pair = {.family = 4};
-    if (unmavreth_open_ike(&ike, 7, true, pair) != UNMAVRETH_DONE)
+    unmavreth_opening opening = {.spi = 7, .agreed = {.mobike = 1}, .pair = {.family = 4}, .child = 70};
+    if (unmavreth_open(&ike, ipsec, UNMAVRETH_IPSEC_RECORDS, opening) != UNMAVRETH_DONE)
         return 2;
     // The C library binds its functions at their first call, on the caller's stack: not what is measured here.
     used(request);

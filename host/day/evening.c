@@ -1,27 +1,9 @@
 // The evening: the gateway closes one IPsec record, then the IKE record with what it still owns.
-#include <stdio.h>
-
+#include "records.h"
 #include "scenes.h"
-#include "words.h"
 
 static const unmavreth_ike FREE_IKE;
 static const unmavreth_ipsec FREE_IPSEC;
-
-static void close_ipsec(day *d, size_t place)
-{
-    tables *t = &d->gateway.tables;
-    uint8_t number = unmavreth_close_ipsec(t->ipsec, UNMAVRETH_IPSEC_RECORDS, t->ipsec[place].spi);
-    printf("  Close the IPsec record at place %zu, answer %u: %s\n", place, number, number_words(number));
-    check_number(&d->checks, "closing the IPsec record", number, UNMAVRETH_DONE);
-}
-
-static void close_ike(day *d, uint64_t spi)
-{
-    tables *t = &d->gateway.tables;
-    uint8_t number = unmavreth_close_ike(&t->ike, t->ipsec, UNMAVRETH_IPSEC_RECORDS, spi);
-    printf("  Close the IKE record, answer %u: %s\n", number, number_words(number));
-    check_number(&d->checks, "closing the IKE record", number, UNMAVRETH_DONE);
-}
 
 static void step(day *d, const tables *before, const tables *expected)
 {

@@ -8,7 +8,10 @@
 
 // The SPIs of the day: our display's IKE record with its two IPsec records, and the neighbour's with one.
 #define OUR_SPI UINT64_C(0x0a11ce0000000001)
+#define OUR_IPSEC_1 UINT32_C(0xc1a50001)
+#define OUR_IPSEC_2 UINT32_C(0xc1a50002)
 #define NEIGHBOUR_SPI UINT64_C(0x0b0b000000000002)
+#define NEIGHBOUR_IPSEC UINT32_C(0xc1a50003)
 enum { OUR_PLACE = 0, NEIGHBOUR_PLACE = 1 };
 
 typedef struct day {

@@ -1,15 +1,12 @@
 // The morning: the gateway sets its policy and opens the records of two displays on the school's Wi-Fi.
-#include <inttypes.h>
 #include <stdio.h>
 #include <string.h>
 
 #include "address.h"
+#include "records.h"
 #include "scenes.h"
 #include "words.h"
 
-#define OUR_IPSEC_1 UINT32_C(0xc1a50001)
-#define OUR_IPSEC_2 UINT32_C(0xc1a50002)
-#define NEIGHBOUR_IPSEC UINT32_C(0xc1a50003)
 enum { RULES = 3 };
 
 static unmavreth_rule rule_of(const char *source, uint8_t source_len, const char *destination, uint8_t destination_len)
@@ -53,44 +50,46 @@ static void ask_policy(day *d, const char *place, unmavreth_pair pair, bool expe
     check_number(&d->checks, "whether the pair is acceptable", accepts, expected);
 }
 
-static void open_ike(day *d, uint64_t spi, uint16_t port)
+// What a display in class is opened with.
+static unmavreth_opening opening_in_class(uint64_t spi, uint16_t port, uint32_t child)
 {
-    unmavreth_pair pair = pair_of(SCHOOL_NAT, port, GATEWAY, IKE_PORT);
-    uint8_t number = unmavreth_open_ike(&d->gateway.tables.ike, spi, true, pair);
-    printf("  Open IKE record %016" PRIx64 ", MOBIKE agreed, answer %u: %s\n", spi, number, number_words(number));
-    check_number(&d->checks, "opening an IKE record", number, UNMAVRETH_DONE);
+    return (unmavreth_opening){
+        .spi = spi,
+        .agreed = {.mobike = true},
+        .pair = pair_of(SCHOOL_NAT, port, GATEWAY, IKE_PORT),
+        .child = child,
+    };
 }
 
-// Opens an IPsec record, which must stand at `place` with the pair of the IKE record at `owner_place`.
-static void open_ipsec(day *d, uint32_t spi, uint64_t owner, size_t place, size_t owner_place)
+// Each record as it must stand once all are opened: at the lowest place that was free, with the pair of its display.
+static tables opened(const unmavreth_opening *ours, const unmavreth_opening *neighbours)
 {
-    tables *t = &d->gateway.tables;
-    uint8_t number = unmavreth_open_ipsec(&t->ike, t->ipsec, UNMAVRETH_IPSEC_RECORDS, spi, owner);
-    printf("  Open IPsec record %08" PRIx32 " of %016" PRIx64 ", answer %u: %s\n", spi, owner, number,
-           number_words(number));
-    check_number(&d->checks, "opening an IPsec record", number, UNMAVRETH_DONE);
-    check_number(&d->checks, "the IPsec record's SPI", t->ipsec[place].spi, spi);
-    check_holds(&d->checks, "the IPsec record has another pair than its IKE record",
-                same_pair(&t->ipsec[place].pair, &t->ike.records[owner_place].pair));
+    tables t = {0};
+    open_expected(&t, OUR_PLACE, 0, ours);
+    t.ipsec[1] = (unmavreth_ipsec){.spi = OUR_IPSEC_2, .owner = OUR_SPI, .pair = ours->pair};
+    open_expected(&t, NEIGHBOUR_PLACE, 2, neighbours);
+    return t;
 }
 
 void morning(day *d)
 {
     checks since = d->checks;
     tables before = d->gateway.tables;
+    unmavreth_opening ours = opening_in_class(OUR_SPI, OUR_SCHOOL_PORT, OUR_IPSEC_1);
+    unmavreth_opening neighbours = opening_in_class(NEIGHBOUR_SPI, NEIGHBOUR_PORT, NEIGHBOUR_IPSEC);
+    tables expected = opened(&ours, &neighbours);
     print_event("Morning. The gateway sets its policy and opens the records of two displays, ours and a\n"
                 "neighbour's, which are on the classroom's Wi-Fi behind one NAT address.");
     set_policy(d);
     printf("  Is it acceptable?\n");
-    ask_policy(d, "school", pair_of(SCHOOL_NAT, OUR_SCHOOL_PORT, GATEWAY, IKE_PORT), true);
+    ask_policy(d, "school", ours.pair, true);
     ask_policy(d, "bus", pair_of(BUS, IKE_PORT, GATEWAY, IKE_PORT), true);
     ask_policy(d, "bus", pair_of(BUS_IP6, IKE_PORT, "2001:db8::1", IKE_PORT), true);
     ask_policy(d, "cafe", pair_of(CAFE, IKE_PORT, GATEWAY, IKE_PORT), false);
-    open_ike(d, OUR_SPI, OUR_SCHOOL_PORT);
-    open_ike(d, NEIGHBOUR_SPI, NEIGHBOUR_PORT);
-    open_ipsec(d, OUR_IPSEC_1, OUR_SPI, 0, OUR_PLACE);
-    open_ipsec(d, OUR_IPSEC_2, OUR_SPI, 1, OUR_PLACE);
-    open_ipsec(d, NEIGHBOUR_IPSEC, NEIGHBOUR_SPI, 2, NEIGHBOUR_PLACE);
+    open_both(d, &ours, UNMAVRETH_DONE);
+    open_ipsec(d, OUR_IPSEC_2, OUR_SPI);
+    open_both(d, &neighbours, UNMAVRETH_DONE);
     print_change(&before, &d->gateway.tables);
+    check_holds(&d->checks, "a field of the tables differs", same_tables(&expected, &d->gateway.tables));
     print_checks(&d->checks, since);
 }

@@ -95,14 +95,19 @@ static bool is_empty(const tables *t)
     return same_tables(t, &empty);
 }
 
+void print_after(const tables *before, const tables *after)
+{
+    if (same_tables(before, after))
+        printf("  Tables after: every field of every place as before\n");
+    else
+        print_tables("Tables after (* changed)", after, before);
+}
+
 void print_change(const tables *before, const tables *after)
 {
     if (is_empty(before))
         printf("  Tables before: no record in use\n");
     else
         print_tables("Tables before", before, before);
-    if (same_tables(before, after))
-        printf("  Tables after: every field of every place as before\n");
-    else
-        print_tables("Tables after (* changed)", after, before);
+    print_after(before, after);
 }

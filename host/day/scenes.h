@@ -26,5 +26,6 @@ void says_the_critical(day *d);
 void moves_to_a_cafe(day *d);
 
 void evening(day *d);
+void night(day *d);
 
 #endif

@@ -8,6 +8,13 @@ uint64_t mark_of(uint32_t id)
     return (uint64_t)id + 1;
 }
 
+void open_expected(tables *t, size_t ike_place, size_t ipsec_place, const unmavreth_opening *opening)
+{
+    unmavreth_ike *ike = &t->ike.records[ike_place];
+    *ike = (unmavreth_ike){.spi = opening->spi, .agreed = opening->agreed, .pair = opening->pair};
+    t->ipsec[ipsec_place] = (unmavreth_ipsec){.spi = opening->child, .owner = opening->spi, .pair = opening->pair};
+}
+
 void move_expected(tables *t, uint64_t spi, unmavreth_pair pair)
 {
     for (size_t i = 0; i < UNMAVRETH_IKE_RECORDS; i++)
@@ -18,12 +25,17 @@ void move_expected(tables *t, uint64_t spi, unmavreth_pair pair)
             t->ipsec[i].pair = pair;
 }
 
+static bool same_agreed(const unmavreth_agreed *a, const unmavreth_agreed *b)
+{
+    return a->mobike == b->mobike;
+}
+
 static bool same_ike(const unmavreth_ike *a, const unmavreth_ike *b)
 {
     for (size_t i = 0; i < UNMAVRETH_ADDRESSES; i++)
         if (!same_address(&a->addresses[i], &b->addresses[i]))
             return false;
-    return a->spi == b->spi && a->mobike == b->mobike && same_pair(&a->pair, &b->pair) &&
+    return a->spi == b->spi && same_agreed(&a->agreed, &b->agreed) && same_pair(&a->pair, &b->pair) &&
            a->update_mark == b->update_mark && a->list_mark == b->list_mark && a->count == b->count &&
            a->unknown == b->unknown;
 }

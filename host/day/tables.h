@@ -12,6 +12,9 @@ typedef struct tables {
 // A message ID as a mark keeps it.
 uint64_t mark_of(uint32_t id);
 
+// The two records that an opening makes, set by the host at these places to say what it expects.
+void open_expected(tables *t, size_t ike_place, size_t ipsec_place, const unmavreth_opening *opening);
+
 // The pair of an IKE record and of each IPsec record that it owns, set by the host to say what it expects.
 void move_expected(tables *t, uint64_t spi, unmavreth_pair pair);
 
@@ -19,5 +22,8 @@ bool same_tables(const tables *a, const tables *b);
 
 // The records in use, before and after a call; `*` stands behind each field that changed.
 void print_change(const tables *before, const tables *after);
+
+// The same without those before the call.
+void print_after(const tables *before, const tables *after);
 
 #endif

@@ -7,7 +7,7 @@
 //
 // What is lent (everything passed by pointer) must, for as long as the call runs:
 //   - be memory that the host owns, of the whole length that it passes; no pointer is null, not even with length 0;
-//   - hold valid values: a bool is 0 or 1 (in structs passed by value too); any other octets are allowed;
+//   - hold valid values: a bool is 0 or 1 (only structs passed by value have one); any other octets are allowed;
 //   - not overlap anything else that is lent to the same call, if it is lent for writing (a pointer without const);
 //   - be left alone by everyone else: no other thread writes it, or reads it if it is lent for writing.
 // No call keeps a pointer to what it was lent; unmavreth_cookie hands out a part of the body that it was lent.
@@ -190,21 +190,29 @@ bool unmavreth_acceptable(const unmavreth_policy *policy, unmavreth_pair pair);
 
 // ------------------------------------------------------------------------------------------------------------ tables
 
-// An IKE record. The place is free if its SPI is 0; all zeros is a free place. A mark that is a
-// message ID is kept as the ID plus one, and no mark as 0: an ID exceeds the mark exactly if mark <= ID.
+// What is agreed when an IKE record is opened. Yes or no is an octet: 0 is no and every other value yes. An opening
+// stores 0 or 1; from then on no call changes it until the record is closed, whatever its value.
+typedef struct unmavreth_agreed {
+    uint8_t mobike; // whether MOBIKE was agreed
+} unmavreth_agreed;
+UNMAVRETH_SIZE(unmavreth_agreed, 1);
+UNMAVRETH_AT(unmavreth_agreed, mobike, 0);
+
+// An IKE record. The place is free if its SPI is 0; all zeros is a free place. A mark that is a message ID is kept as
+// the ID plus one, and no mark as 0: an ID exceeds the mark exactly if mark <= ID.
 typedef struct unmavreth_ike {
-    uint64_t spi;         // the gateway's own SPI of the IKE SA
-    bool mobike;          // whether MOBIKE was agreed
-    unmavreth_pair pair;  // the addresses and ports in use
-    uint64_t update_mark; // of the newest update that was received
-    uint64_t list_mark;   // of the newest list that was kept
-    uint16_t count;       // how many additional addresses are kept
+    uint64_t spi;            // the gateway's own SPI of the IKE SA
+    unmavreth_agreed agreed; // what it was opened with
+    unmavreth_pair pair;     // the addresses and ports in use
+    uint64_t update_mark;    // of the newest update that was received
+    uint64_t list_mark;      // of the newest list that was kept
+    uint16_t count;          // how many additional addresses are kept
     unmavreth_address addresses[UNMAVRETH_ADDRESSES];
     uint32_t unknown; // unknown payloads and unknown notifications, counted; stays at 4,294,967,295 once there
 } unmavreth_ike;
 UNMAVRETH_SIZE(unmavreth_ike, 344);
 UNMAVRETH_AT(unmavreth_ike, spi, 0);
-UNMAVRETH_AT(unmavreth_ike, mobike, 8);
+UNMAVRETH_AT(unmavreth_ike, agreed, 8);
 UNMAVRETH_AT(unmavreth_ike, pair, 10);
 UNMAVRETH_AT(unmavreth_ike, update_mark, 48);
 UNMAVRETH_AT(unmavreth_ike, list_mark, 56);
@@ -230,22 +238,37 @@ UNMAVRETH_AT(unmavreth_ipsec, spi, 0);
 UNMAVRETH_AT(unmavreth_ipsec, owner, 8);
 UNMAVRETH_AT(unmavreth_ipsec, pair, 16);
 
+// What is given to open an IKE record and its first IPsec record, the child SA that IKE_AUTH makes with it.
+typedef struct unmavreth_opening {
+    uint64_t spi;            // of the IKE record
+    unmavreth_agreed agreed; // any values are allowed
+    unmavreth_pair pair;     // of both records
+    uint32_t child;          // the SPI of the IPsec record
+} unmavreth_opening;
+UNMAVRETH_SIZE(unmavreth_opening, 56);
+UNMAVRETH_AT(unmavreth_opening, spi, 0);
+UNMAVRETH_AT(unmavreth_opening, agreed, 8);
+UNMAVRETH_AT(unmavreth_opening, pair, 10);
+UNMAVRETH_AT(unmavreth_opening, child, 48);
+
 // The calls on the tables change them in place. The IPsec records are lent as a start and how many there are, which
 // must be 128. The host begins with tables of zeros. If several places have an SPI, which no sequence of calls on
 // tables of zeros brings about, the lowest is meant. With every number but 0 each of these four calls leaves every
 // field of every place as it was.
 
-// Opens an IKE record at the lowest free place: no marks, no additional addresses, tally 0. Numbers, in the order of
-// the checks:
-//    1  the SPI is 0, the pair's family is not 4 or 6, or an IPv4 address of the pair has a tail that is not zero
-//   11  an IKE record has this SPI
-//   10  no place is free
-//    0  opened; no other place changes
-// Neither the policy nor `mobike` is asked whether it may be opened.
-uint8_t unmavreth_open_ike(unmavreth_ike_table *ike, uint64_t spi, bool mobike, unmavreth_pair pair);
+// Opens an IKE record and its first IPsec record: both, each at the lowest free place of its table, or neither. The
+// IKE record has no marks, no additional addresses, tally 0; the IPsec record has the owner `spi`. Numbers, in the
+// order of the checks:
+//    1  `records` is not 128, one of the SPIs is 0, the pair's family is not 4 or 6, or an IPv4 address of the pair has
+//       a tail that is not zero
+//   11  an IKE record has the SPI `spi`; then, an IPsec record has the SPI `child`
+//   10  no place is free for the IKE record; then, none for the IPsec record
+//    0  both opened; no other place changes
+// Neither the policy nor what is agreed is asked whether they may be opened.
+uint8_t unmavreth_open(unmavreth_ike_table *ike, unmavreth_ipsec *ipsec, size_t records, unmavreth_opening opening);
 
-// Opens an IPsec record at the lowest free place, with the pair of the IKE record `owner`. Numbers, in the order of
-// the checks:
+// Opens a further IPsec record at the lowest free place, with the pair of the IKE record `owner`. Numbers, in the
+// order of the checks:
 //    1  `records` is not 128, or the SPI or the owner is 0
 //    4  no IKE record has the SPI `owner`
 //   11  an IPsec record has this SPI

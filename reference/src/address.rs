@@ -1,7 +1,7 @@
 // Addresses and address pairs as they travel: sixteen octets each, told apart by their family.
 //
-// These structs, and the records of tables.rs and the structs of policy.rs, are laid out as in the
-// library's C interface and so are handed over as they are.
+// These structs, and those that are `repr(C)` in other files, are laid out as in the library's C
+// interface and so are handed over as they are.
 use crate::faults::{Fault, Faults};
 
 /// Addresses are held in 16 octets, IPv4 in the first four with zeros after.
@@ -41,6 +41,17 @@ impl AddressPair {
         source_port: 0,
         destination_port: 0,
     };
+
+    /// The pair as in a packet to the peer.
+    pub fn swapped(&self) -> Self {
+        AddressPair {
+            family: self.family,
+            source: self.destination,
+            destination: self.source,
+            source_port: self.destination_port,
+            destination_port: self.source_port,
+        }
+    }
 
     /// Whether the family is allowed and neither address passes its family's octets.
     pub fn is_sound(&self, faults: Faults) -> bool {

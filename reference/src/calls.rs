@@ -2,18 +2,33 @@
 use crate::address::AddressPair;
 use crate::closing::{close_ike, close_ipsec};
 use crate::faults::Faults;
-use crate::opening::{open_ike, open_ipsec};
+use crate::opening::open_ipsec;
+use crate::opening_both::{open_both, Opening};
 use crate::policy::RuleList;
 use crate::tables::Tables;
 
 #[derive(Debug, Clone)]
 pub enum Call {
-    OpenIke { spi: u64, mobike: bool, pair: AddressPair },
-    OpenIpsec { spi: u32, owner: u64 },
-    CloseIke { spi: u64 },
-    CloseIpsec { spi: u32 },
-    SetPolicy { count: u16, rules: Box<RuleList> },
-    Acceptable { pair: AddressPair },
+    /// Of an IKE record and its first IPsec record.
+    OpenBoth(Opening),
+    /// Of another one.
+    OpenIpsec {
+        spi: u32,
+        owner: u64,
+    },
+    CloseIke {
+        spi: u64,
+    },
+    CloseIpsec {
+        spi: u32,
+    },
+    SetPolicy {
+        count: u16,
+        rules: Box<RuleList>,
+    },
+    Acceptable {
+        pair: AddressPair,
+    },
 }
 
 /// Why a call changes nothing and writes nothing, with its number.
@@ -41,7 +56,7 @@ impl Call {
     /// Makes the call on the tables; its number, or for `Acceptable` 1 if the pair is, else 0.
     pub fn make(&self, tables: &mut Tables, faults: Faults) -> u8 {
         let result = match self {
-            Call::OpenIke { spi, mobike, pair } => open_ike(tables, *spi, *mobike, *pair, faults),
+            Call::OpenBoth(opening) => open_both(tables, opening, faults),
             Call::OpenIpsec { spi, owner } => open_ipsec(tables, *spi, *owner, faults),
             Call::CloseIke { spi } => close_ike(tables, *spi, faults),
             Call::CloseIpsec { spi } => close_ipsec(tables, *spi, faults),

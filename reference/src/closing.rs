@@ -76,11 +76,13 @@ fn close_owned(tables: &mut Tables, closed: &IkeRecord, faults: Faults) {
 mod tests {
     use super::*;
     use crate::address::AddressPair;
+    use crate::agreed::Agreed;
 
     fn tables(ike_spis: &[u64], ipsec: &[(u32, u64)]) -> Tables {
         let mut tables = Tables::empty();
         for (place, &spi) in ike_spis.iter().enumerate() {
-            tables.ike_mut()[place] = IkeRecord { spi, mobike: 1, unknown: 5, ..IkeRecord::FREE };
+            let agreed = Agreed { mobike: 255 };
+            tables.ike_mut()[place] = IkeRecord { spi, agreed, unknown: 5, ..IkeRecord::FREE };
         }
         for (place, &(spi, owner)) in ipsec.iter().enumerate() {
             let pair = AddressPair { family: 4, ..AddressPair::ZERO };

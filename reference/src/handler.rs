@@ -100,6 +100,7 @@ fn told_unfit<'a>(reply: Reply<'a>, unfit: Unfit, faults: Faults) -> Reply<'a> {
 mod tests {
     use super::*;
     use crate::address::AddressPair;
+    use crate::agreed::Agreed;
     use crate::policy::Rule;
     use crate::tables::{IkeRecord, IpsecRecord, Record};
 
@@ -114,7 +115,8 @@ mod tests {
     /// An IKE record, an IPsec record of it, and one of another behind the same address.
     fn tables() -> Tables {
         let mut tables = Tables::empty();
-        tables.ike_mut()[0] = IkeRecord { spi: 7, mobike: 1, pair: OLD, ..IkeRecord::FREE };
+        let agreed = Agreed { mobike: 1 };
+        tables.ike_mut()[0] = IkeRecord { spi: 7, agreed, pair: OLD, ..IkeRecord::FREE };
         tables.ipsec_mut()[0] = IpsecRecord { spi: 1, owner: 7, pair: OLD };
         tables.ipsec_mut()[1] = IpsecRecord { spi: 2, owner: 8, pair: OLD };
         tables.policy.count = 1;

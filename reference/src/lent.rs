@@ -1,6 +1,7 @@
 // Tables as they are lent to the library: each list is the middle of a longer one, the policy stands
 // between rules, and what is around them must stay as it is.
 use crate::address::AddressPair;
+use crate::agreed::Agreed;
 use crate::lent_rules::BetweenRules;
 use crate::policy::Policy;
 use crate::tables::{IkeRecord, IkeTable, IpsecRecord, IpsecTable, Record, Tables};
@@ -13,6 +14,7 @@ const AROUND: usize = 2;
 pub const NO_SPI_GIVEN: u32 = 1;
 
 /// What the records around have, so that any change shows.
+const AGREED: Agreed = Agreed { mobike: 0xa5 };
 const PAIR: AddressPair = AddressPair {
     family: 6,
     source: [0xa5; 16],
@@ -57,7 +59,7 @@ pub struct LentTables {
 impl LentTables {
     /// The tables, for a call that gives these SPIs of an IKE and of an IPsec record.
     pub fn new(tables: &Tables, spi: u64, ipsec_spi: u32) -> Self {
-        let ike = IkeRecord { spi, mobike: 1, pair: PAIR, ..IkeRecord::FREE };
+        let ike = IkeRecord { spi, agreed: AGREED, pair: PAIR, ..IkeRecord::FREE };
         let ipsec = IpsecRecord { spi: ipsec_spi, owner: spi, pair: PAIR };
         LentTables {
             ike: Lent::new(&tables.ike.records, ike),

@@ -1,5 +1,6 @@
 // The second program: the gateway part modelled from the papers alone, and cases to run.
 pub mod address;
+pub mod agreed;
 pub mod asking;
 pub mod asking_fields;
 pub mod assess;
@@ -21,6 +22,8 @@ pub mod list_length;
 pub mod notifications;
 pub mod notify;
 pub mod opening;
+pub mod opening_both;
+pub mod opening_both_faults;
 pub mod orders;
 pub mod outcome;
 pub mod plain;

@@ -6,7 +6,8 @@ use crate::tables::{Tables, IPSEC_PLACES};
 /// Who is lent the list.
 #[derive(Debug, Clone, Copy, PartialEq, Eq)]
 pub enum User {
-    Opening,
+    OpeningBoth,
+    OpeningIpsec,
     Closing,
     Handler,
 }
@@ -14,13 +15,15 @@ pub enum User {
 /// A fault, and whether it lets a list of this length pass.
 type LetPass = (Fault, fn(User, usize) -> bool);
 
-const LET_PASS: [LetPass; 11] = [
+const LET_PASS: [LetPass; 13] = [
     (Fault::ListOf127, |user, length| user != User::Handler && length == 127),
     (Fault::ListOf129, |user, length| user != User::Handler && length == 129),
     (Fault::ListsLonger, |user, length| user != User::Handler && length > 128),
     (Fault::ListLengthOctet, |user, length| user != User::Handler && length % 256 == 128),
     (Fault::ListLength16Bits, |user, length| user != User::Handler && length % 65536 == 128),
-    (Fault::OpenedListsShorter, |user, length| user == User::Opening && length < 128),
+    (Fault::BothAnyList, |user, _| user == User::OpeningBoth),
+    (Fault::BothListsShorter, |user, length| user == User::OpeningBoth && length < 128),
+    (Fault::OpenedListsShorter, |user, length| user == User::OpeningIpsec && length < 128),
     (Fault::ClosedListOf0, |user, length| user == User::Closing && length == 0),
     (Fault::ServedListOf127, |user, length| user == User::Handler && length == 127),
     (Fault::ServedListOf129, |user, length| user == User::Handler && length == 129),

@@ -1,27 +1,9 @@
-// Opening records: the checks in their order, the place that is taken, and what a new record holds.
+// Opening another IPsec record of an IKE record: the checks in their order, the place that is taken.
 use crate::address::AddressPair;
 use crate::calls::{refuse_if, Refusal};
 use crate::faults::{Fault, Faults};
 use crate::list_length::{self, User};
-use crate::tables::{find, free_place, IkeRecord, IpsecRecord, Record, Tables};
-
-/// Checks 1, 11, 10.
-pub fn open_ike(
-    tables: &mut Tables,
-    spi: u64,
-    mobike: bool,
-    pair: AddressPair,
-    faults: Faults,
-) -> Result<(), Refusal> {
-    refuse_if(spi == 0 || !pair.is_sound(faults), Refusal::Argument)?;
-    let place = place_for(&tables.ike.records, spi, faults)?;
-    let mut record = IkeRecord { spi, mobike: u8::from(mobike), pair, ..IkeRecord::FREE };
-    if faults.on(Fault::OpenLeavesList) {
-        record.addresses = tables.ike.records[place].addresses;
-    }
-    tables.ike_mut()[place] = record;
-    Ok(())
-}
+use crate::tables::{find, free_place, IpsecRecord, Record, Tables};
 
 /// Checks 1, 4 (the owner), 11, 10; the new record takes the pair of its IKE record.
 pub fn open_ipsec(
@@ -32,7 +14,7 @@ pub fn open_ipsec(
 ) -> Result<(), Refusal> {
     let no_owner = owner == 0 && !faults.on(Fault::Owner0Unknown);
     refuse_if(spi == 0 || no_owner, Refusal::Argument)?;
-    let list = list_length::check(tables, User::Opening, faults);
+    let list = list_length::check(tables, User::OpeningIpsec, faults);
     if !faults.on(Fault::ListAfterRecord) && !faults.on(Fault::OtherListOpened) {
         list?;
     }
@@ -67,67 +49,52 @@ fn place_for<R: Record>(records: &[R], spi: u64, faults: Faults) -> Result<usize
 #[cfg(test)]
 mod tests {
     use super::*;
+    use crate::agreed::Agreed;
+    use crate::tables::IkeRecord;
 
     const IPV4: AddressPair = AddressPair { family: 4, ..AddressPair::ZERO };
     const IPV6: AddressPair = AddressPair { family: 6, source: [9; 16], ..AddressPair::ZERO };
 
-    fn ike(tables: &mut Tables, spi: u64, pair: AddressPair) -> Result<(), Refusal> {
-        open_ike(tables, spi, true, pair, Faults::NONE)
-    }
-
-    fn ipsec(tables: &mut Tables, spi: u32, owner: u64) -> Result<(), Refusal> {
-        open_ipsec(tables, spi, owner, Faults::NONE)
-    }
-
-    #[test]
-    fn a_new_record_overwrites_what_was_left() {
+    /// IKE records with these SPIs, from the lowest place on, and no IPsec record.
+    fn tables(spis: &[u64]) -> Tables {
         let mut tables = Tables::empty();
-        let left = &mut tables.ike_mut()[0];
-        (left.update_mark, left.list_mark, left.count, left.unknown) = (1, 2, 3, 4);
-        left.addresses[15].family = 6;
-        assert_eq!(ike(&mut tables, 7, IPV6), Ok(()));
-        let new = IkeRecord { spi: 7, mobike: 1, pair: IPV6, ..IkeRecord::FREE };
-        assert_eq!(tables.ike.records[0], new);
+        for (place, &spi) in spis.iter().enumerate() {
+            tables.ike_mut()[place] = IkeRecord { spi, pair: IPV4, ..IkeRecord::FREE };
+        }
+        tables
+    }
+
+    fn open(tables: &mut Tables, spi: u32, owner: u64) -> Result<(), Refusal> {
+        open_ipsec(tables, spi, owner, Faults::NONE)
     }
 
     #[test]
     fn arguments_are_checked_first() {
         let mut tables = Tables::empty();
-        assert_eq!(ike(&mut tables, 0, IPV4), Err(Refusal::Argument));
-        assert_eq!(ike(&mut tables, 7, AddressPair::ZERO), Err(Refusal::Argument));
-        let tail = AddressPair { family: 4, ..IPV6 };
-        assert_eq!(ike(&mut tables, 7, tail), Err(Refusal::Argument));
-        assert_eq!(ipsec(&mut tables, 0, 7), Err(Refusal::Argument));
-        assert_eq!(ipsec(&mut tables, 7, 0), Err(Refusal::Argument));
+        assert_eq!(open(&mut tables, 0, 7), Err(Refusal::Argument));
+        assert_eq!(open(&mut tables, 7, 0), Err(Refusal::Argument));
         assert_eq!(tables, Tables::empty());
     }
 
     #[test]
     fn the_owner_comes_before_the_spi_and_the_spi_before_the_room() {
-        let mut tables = Tables::empty();
-        for spi in 1..=32 {
-            assert_eq!(ike(&mut tables, spi, IPV4), Ok(()));
-        }
-        assert_eq!(ike(&mut tables, 5, IPV4), Err(Refusal::SpiInUse));
-        assert_eq!(ike(&mut tables, 33, IPV4), Err(Refusal::AllInUse));
+        let mut tables = tables(&[1]);
         for spi in 1..=128 {
-            assert_eq!(ipsec(&mut tables, spi, 1), Ok(()));
+            assert_eq!(open(&mut tables, spi, 1), Ok(()));
         }
-        assert_eq!(ipsec(&mut tables, 5, 33), Err(Refusal::NoSuchRecord));
-        assert_eq!(ipsec(&mut tables, 5, 1), Err(Refusal::SpiInUse));
-        assert_eq!(ipsec(&mut tables, 129, 1), Err(Refusal::AllInUse));
+        assert_eq!(open(&mut tables, 5, 33), Err(Refusal::NoSuchRecord));
+        assert_eq!(open(&mut tables, 5, 1), Err(Refusal::SpiInUse));
+        assert_eq!(open(&mut tables, 129, 1), Err(Refusal::AllInUse));
     }
 
     #[test]
     fn a_list_of_another_length_is_refused_before_the_owner_is_looked_for() {
         for length in [0, 1, 127, 129, 300] {
-            let mut tables = Tables::empty().with_ipsec_length(length);
-            assert_eq!(ike(&mut tables, 7, IPV4), Ok(()));
+            let mut tables = tables(&[7]).with_ipsec_length(length);
             let before = tables.clone();
-            assert_eq!(ipsec(&mut tables, 9, 7), Err(Refusal::Argument));
-            assert_eq!(ipsec(&mut tables, 9, 8), Err(Refusal::Argument));
+            assert_eq!(open(&mut tables, 9, 7), Err(Refusal::Argument));
+            assert_eq!(open(&mut tables, 9, 8), Err(Refusal::Argument));
             assert_eq!(tables, before);
-            assert_eq!(ike(&mut tables, 8, IPV4), Ok(()));
         }
     }
 
@@ -136,17 +103,15 @@ mod tests {
         let mut tables = Tables::empty();
         let pair = AddressPair { family: 5, source_port: 1, ..IPV6 };
         tables.ike_mut()[3] = IkeRecord { spi: 7, pair, ..IkeRecord::FREE };
-        tables.ike_mut()[4] = IkeRecord { spi: 7, mobike: 1, pair: IPV4, ..IkeRecord::FREE };
-        assert_eq!(ipsec(&mut tables, 9, 7), Ok(()));
+        let agreed = Agreed { mobike: 1 };
+        tables.ike_mut()[4] = IkeRecord { spi: 7, agreed, pair: IPV4, ..IkeRecord::FREE };
+        assert_eq!(open(&mut tables, 9, 7), Ok(()));
         assert_eq!(tables.ipsec.records[0], IpsecRecord { spi: 9, owner: 7, pair });
     }
 
     #[test]
-    fn spis_have_64_bits() {
-        let mut tables = Tables::empty();
-        assert_eq!(ike(&mut tables, 7, IPV4), Ok(()));
-        assert_eq!(ipsec(&mut tables, 9, (1 << 32) + 7), Err(Refusal::NoSuchRecord));
-        assert_eq!(ike(&mut tables, (1 << 32) + 7, IPV4), Ok(()));
-        assert_eq!(ike(&mut tables, 1 << 32, IPV4), Ok(()));
+    fn owners_have_64_bits() {
+        let mut tables = tables(&[7]);
+        assert_eq!(open(&mut tables, 9, (1 << 32) + 7), Err(Refusal::NoSuchRecord));
     }
 }

@@ -7,7 +7,7 @@ use crate::list_length::{self, User};
 use crate::reader::{self, Answer, MAX_BODY};
 use crate::steps;
 use crate::summary::Summary;
-use crate::tables::{find, same_spi, IkeRecord, Tables};
+use crate::tables::{find, same_spi, IkeRecord, Record, Tables};
 
 pub const NAT_VALUE_LENGTH: usize = 20;
 
@@ -59,7 +59,8 @@ impl Request {
             too_long?;
         }
         let place = self.place(&tables.ike.records, faults)?;
-        let agreed = refuse_if(tables.ike.records[place].mobike == 0, Refusal::MobikeNotAgreed);
+        let kept = tables.ike.records[place].agreed;
+        let agreed = refuse_if(!kept.has_mobike(faults), Refusal::MobikeNotAgreed);
         if !faults.on(Fault::AgreementLast) {
             agreed?;
         }
@@ -98,7 +99,8 @@ impl Request {
     /// Check 4.
     fn place(&self, records: &[IkeRecord], faults: Faults) -> Result<usize, Refusal> {
         let agreed = |record: &IkeRecord| {
-            record.mobike != 0 && record.spi != 0 && same_spi(record.spi, self.spi, faults)
+            let meant = record.is_in_use() && same_spi(record.spi, self.spi, faults);
+            meant && record.agreed.has_mobike(faults)
         };
         let twin =
             if faults.on(Fault::AgreedTwin) { records.iter().position(agreed) } else { None };

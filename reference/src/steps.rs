@@ -114,6 +114,9 @@ pub fn update(
 fn move_records(tables: &mut Tables, place: usize, pair: AddressPair, faults: Faults) {
     let IkeRecord { spi, pair: old, .. } = tables.ike.records[place];
     tables.ike_mut()[place].pair = pair;
+    if faults.on(Fault::MovedAgreed1) {
+        tables.ike_mut()[place].agreed.mobike = 1;
+    }
     if faults.on(Fault::TwinsMove) {
         let twins = tables.ike_mut().iter_mut().filter(|record| record.spi == spi);
         twins.for_each(|twin| twin.pair = pair);

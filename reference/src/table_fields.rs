@@ -1,5 +1,7 @@
 // Tables and calls as they are shown: the fields of a place by name, a call in a line.
+use crate::agreed::Agreed;
 use crate::calls::Call;
+use crate::opening_both::Opening;
 use crate::policy::{Policy, Rule};
 use crate::show;
 use crate::tables::{IkeRecord, IpsecRecord, Record, Tables, IKE_PLACES};
@@ -27,7 +29,7 @@ fn ipsec_at(tables: &Tables, place: usize) -> IpsecRecord {
 fn ike_fields(place: usize, record: &IkeRecord) -> Fields {
     let own = [
         ("SPI", record.spi.to_string()),
-        ("MOBIKE", record.mobike.to_string()),
+        ("MOBIKE", record.agreed.mobike.to_string()),
         ("pair", show::pair(&record.pair)),
         ("update mark", record.update_mark.to_string()),
         ("list mark", record.list_mark.to_string()),
@@ -68,8 +70,9 @@ fn show_rule(rule: &Rule) -> String {
 
 pub fn call_line(call: &Call) -> String {
     match call {
-        Call::OpenIke { spi, mobike, pair } => {
-            format!("open IKE {spi}, MOBIKE {mobike}, {}", show::pair(pair))
+        Call::OpenBoth(Opening { spi, agreed: Agreed { mobike }, pair, child }) => {
+            let pair = show::pair(pair);
+            format!("open IKE {spi} and IPsec {child}, MOBIKE {mobike}, {pair}")
         }
         Call::OpenIpsec { spi, owner } => format!("open IPsec {spi}, owner {owner}"),
         Call::CloseIke { spi } => format!("close IKE {spi}"),

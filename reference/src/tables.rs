@@ -1,5 +1,6 @@
 // The tables: IKE records and IPsec records in their places, and which place an SPI means.
 use crate::address::{Address, AddressPair};
+use crate::agreed::Agreed;
 use crate::faults::{Fault, Faults};
 use crate::policy::Policy;
 use crate::summary::MAX_KEPT;
@@ -24,8 +25,7 @@ pub trait Record {
 #[derive(Debug, Clone, Copy, PartialEq, Eq)]
 pub struct IkeRecord {
     pub spi: u64,
-    /// 0 or 1; an octet, so that any value the library leaves there may be looked at.
-    pub mobike: u8,
+    pub agreed: Agreed,
     pub pair: AddressPair,
     /// 0 for none; a message ID is kept as the number after it.
     pub update_mark: u64,
@@ -66,7 +66,7 @@ pub struct Tables {
 impl Record for IkeRecord {
     const FREE: Self = IkeRecord {
         spi: 0,
-        mobike: 0,
+        agreed: Agreed::NOTHING,
         pair: AddressPair::ZERO,
         update_mark: 0,
         list_mark: 0,

@@ -8,6 +8,7 @@ use native.Mathlib.Decide.{ℕ-discrete}
 use borrow.Author.Tests.{eq-eqb, ne-eqb}
 use lib.Dec.{eqb, ltb}
 use lib.ListN.{length, getD, replicate, length-append}
+use Rattle.octets.specs.Flags.{isYes}
 use Rattle.octets.specs.Lists.{sameAt}
 use Rattle.octets.proofs.Small.{both, chosen}
 use Rattle.address.specs.Address.{noPair}
@@ -45,7 +46,7 @@ early-other fit room octets ike spi =
     chosen Other fit
     (λ e. chosen Other (ltb room 128) (λ e. omega arith)
     (λ e. chosen Other (ltb 4096 octets) (λ e. omega arith)
-    (λ e. chosen Other (hasIke spi ike) (λ e. chosen Other (meant ike spi .mobike) (λ e. omega arith) (λ e. omega arith)) (λ e. omega arith))))
+    (λ e. chosen Other (hasIke spi ike) (λ e. chosen Other (isYes (meant ike spi .agreed .mobike)) (λ e. omega arith) (λ e. omega arith)) (λ e. omega arith))))
     (λ e. omega arith)
 
 -- a chain's first type is 0 exactly if it has no octets

@@ -15,34 +15,38 @@ use policy::rules::Policy;
 use policy::rules::Rule;
 use policy::rules::is_acceptable;
 use policy::rules::set_policy;
+use tables::calls::Opening;
+use tables::calls::both_opening;
 use tables::calls::ike_closing;
-use tables::calls::ike_opening;
 use tables::calls::ipsec_closing;
 use tables::calls::ipsec_opening;
 use tables::ike::IkeRecord;
 use tables::ipsec::IpsecRecord;
 ghost use mathlib.Core.Path.{_≡_};
 ghost use Rattle.policy.specs.Policy.{acceptable, setPolicy};
-ghost use Rattle.tables.specs.Calls.{openIke, openIpsec, closeIke, closeIpsec};
+ghost use Rattle.tables.specs.Calls.{openBoth, openIpsec, closeIke, closeIpsec};
 
-// Opens an IKE record at the lowest free place.
+// Opens an IKE record and its first IPsec record, each at the lowest free place of its table, or neither.
 #[no_mangle]
-pub extern "C" fn unmavreth_open_ike(
+pub extern "C" fn unmavreth_open(
     ike: &mut [IkeRecord; 32],
-    spi: u64,
-    mobike: bool,
-    pair: Pair,
+    ipsec: &mut [IpsecRecord],
+    opening: Opening,
 ) -> u8
-    ensures { λ r. ⌜ (r ≡ openIke (now (ike .entry)) spi mobike pair .number) × (now (ike .exit) ≡ openIke (now (ike .entry)) spi mobike pair .ike) ⌝ }
+    ensures { λ r. ⌜ (let a = openBoth (now (ike .entry)) (now (ipsec .entry)) opening in (r ≡ a .number) × (now (ike .exit) ≡ a .ike) × (now (ipsec .exit) ≡ a .ipsec)) ⌝ }
 {
-    let taken = ike_place(ike, spi);
+    let size = ipsec_count(ipsec);
+    let taken = ike_place(ike, opening.spi);
     let free = ike_place(ike, 0);
-    let c = ike_opening(spi, mobike, pair, taken, free);
+    let child_taken = ipsec_place(ipsec, opening.child);
+    let child_free = ipsec_place(ipsec, 0);
+    let c = both_opening(size, opening, taken, free, child_taken, child_free);
     ike_store(ike, c.place, c.entry);
+    ipsec_store(ipsec, c.child_place, c.child);
     c.number
 }
 
-// Opens an IPsec record at the lowest free place, with the pair of its IKE record.
+// Opens another IPsec record at the lowest free place, with the pair of its IKE record.
 #[no_mangle]
 pub extern "C" fn unmavreth_open_ipsec(
     ike: &[IkeRecord; 32],

@@ -7,3 +7,4 @@ pub mod Mapped
 pub mod Places
 pub mod Each
 pub mod Below
+pub mod Checks

@@ -1,2 +1,4 @@
 pub mod Octets
 pub mod Lists
+pub mod Flags
+pub mod Checks

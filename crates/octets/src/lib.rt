@@ -1,4 +1,5 @@
 // Octets and big-endian numbers: what every layer above reads and writes with.
+pub mod flag;
 
 ghost use mathlib.Core.Path.{_≡_};
 ghost use Prim.Native.Nat.{_+_, _≤_};

@@ -1,4 +1,4 @@
--- What stays the same over any list of requests: where each SPI is found, whether MOBIKE was agreed, how long the tables are.
+-- What stays the same over any list of requests: where each SPI is found, what was agreed, how long the tables are.
 use Prim.Native.Nat.{ℕ, zero, suc}
 use mathlib.Core.Path.{_≡_, refl, sym, ap, _∙_}
 use mathlib.Core.List.{List, [], _∷_}
@@ -21,7 +21,7 @@ use Rattle.reordering.proofs.Steps.{early, place, entry, owners, change
 -- s is alike to t
 pub record Alike (t s : Tables) : Type 0 where
   pub places : (k : ℕ) → placeOf ikeSpi k (s .ike) ≡ placeOf ikeSpi k (t .ike)
-  pub agreed : (k : ℕ) → meant (s .ike) k .mobike ≡ meant (t .ike) k .mobike
+  pub agreed : (k : ℕ) → meant (s .ike) k .agreed ≡ meant (t .ike) k .agreed
   pub ike-long : length (s .ike) ≡ length (t .ike)
   pub ipsec-long : length (s .ipsec) ≡ length (t .ipsec)
 
@@ -31,10 +31,10 @@ alike-self t = record { places = λ k. refl; agreed = λ k. refl; ike-long = ref
 -- so the first five checks give the same number
 pub early-alike : (t s : Tables) → Alike t s → (q : Request) → early s q ≡ early t q
 unfolding recordNumber
-early-alike t s a q = rw (a .ipsec-long, a .places (q .spi), a .ike-long, moby)
+early-alike t s a q = rw (a .ipsec-long, a .places (q .spi), a .ike-long, same)
   where
-    moby : getD (s .ike) (placeOf ikeSpi (q .spi) (t .ike)) noIke .mobike ≡ meant (t .ike) (q .spi) .mobike
-    moby = ap (λ (i : ℕ). getD (s .ike) i noIke .mobike) (sym (a .places (q .spi))) ∙ a .agreed (q .spi)
+    same : getD (s .ike) (placeOf ikeSpi (q .spi) (t .ike)) noIke .agreed ≡ meant (t .ike) (q .spi) .agreed
+    same = ap (λ (i : ℕ). getD (s .ike) i noIke .agreed) (sym (a .places (q .spi))) ∙ a .agreed (q .spi)
 
 -- a stored record that keeps a field keeps it at every place
 set-keeps : {B : Type 0} (f : IkeRecord → B) (xs : List IkeRecord) (p : ℕ) (y : IkeRecord) → f y ≡ f (getD xs p noIke)
@@ -60,8 +60,8 @@ module _ (policy : Policy) where
         places = λ k. change-places q s k ∙ a .places k;
         agreed =
             λ k.
-            ap (λ (i : ℕ). getD (changed (core policy q (entry s q)) q s .ike) i noIke .mobike) (change-places q s k)
-            ∙ set-keeps (λ (r : IkeRecord). r .mobike) (s .ike) (place s q) (core policy q (entry s q) .entry) (core-keeps policy (q .asks) (entry s q) .mobike) (placeOf ikeSpi k (s .ike))
+            ap (λ (i : ℕ). getD (changed (core policy q (entry s q)) q s .ike) i noIke .agreed) (change-places q s k)
+            ∙ set-keeps (λ (r : IkeRecord). r .agreed) (s .ike) (place s q) (core policy q (entry s q) .entry) (core-keeps policy (q .asks) (entry s q) .agreed) (placeOf ikeSpi k (s .ike))
             ∙ a .agreed k;
         ike-long = length-set (s .ike) (place s q) (core policy q (entry s q) .entry) ∙ a .ike-long;
         ipsec-long = owners-long (core policy q (entry s q) .moves) q (s .ipsec) ∙ a .ipsec-long;

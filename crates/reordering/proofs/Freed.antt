@@ -55,7 +55,7 @@ advanced-agree q r d e =
     λ i.
     record {
       spi = e .spi;
-      mobike = e .mobike;
+      agreed = e .agreed;
       pair = agree u (q .asks .pair) (r .asks .pair) (e .pair) i;
       «update_mark» = agree u (idOf q + 1) (idOf r + 1) (e .«update_mark») i;
       «list_mark» = agree l (idOf q + 1) (idOf r + 1) (e .«list_mark») i;

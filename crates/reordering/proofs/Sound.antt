@@ -42,7 +42,7 @@ advanced q e =
     let s = seenIn q in
     record {
       spi = e .spi;
-      mobike = e .mobike;
+      agreed = e .agreed;
       pair = cond (updates q e) (q .asks .pair) (e .pair);
       «update_mark» = cond (updates q e) (idOf q + 1) (e .«update_mark»);
       «list_mark» = cond (lists q e) (idOf q + 1) (e .«list_mark»);
@@ -87,7 +87,7 @@ changed-sound : (u l : Bool) (id n : ℕ) (p : Pair) (list : List Address) (e : 
     → cond relists (relisted n list (remarked m moves p e)) (remarked m moves p e)
     ≡ record {
       spi = e .spi;
-      mobike = e .mobike;
+      agreed = e .agreed;
       pair = cond u p (e .pair);
       «update_mark» = cond u (id + 1) (e .«update_mark»);
       «list_mark» = cond l (id + 1) (e .«list_mark»);

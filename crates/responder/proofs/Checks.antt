@@ -7,6 +7,7 @@ use native.Mathlib.Omega.{arith}
 use borrow.Author.Tests.{eqb-true, ltb-true, ltb-false}
 use lib.Dec.{eqb, ltb}
 use lib.ListN.{length}
+use Rattle.octets.specs.Flags.{isYes}
 use Rattle.octets.specs.Lists.{placeOf}
 use Rattle.octets.proofs.Small.{both}
 use Rattle.address.specs.Address.{pairFits}
@@ -32,12 +33,12 @@ passed true room octets number e = go (ltb room 128) refl (ltb 4096 octets) refl
     go false f true g e = absurd (omega arith)
     go false f false g e = record { fits = refl; room-enough = ltb-false room 128 f; short = ltb-false 4096 octets g; there = e }
 
-pub record-there : (ike : List IkeRecord) (spi : ℕ) → recordNumber ike spi ≡ 0 → (placeOf ikeSpi spi ike < length ike) × (meant ike spi .mobike ≡ true)
+pub record-there : (ike : List IkeRecord) (spi : ℕ) → recordNumber ike spi ≡ 0 → (placeOf ikeSpi spi ike < length ike) × (isYes (meant ike spi .agreed .mobike) ≡ true)
 unfolding recordNumber
-record-there ike spi e = go (hasIke spi ike) refl (meant ike spi .mobike) refl e
+record-there ike spi e = go (hasIke spi ike) refl (isYes (meant ike spi .agreed .mobike)) refl e
   where
-    go : (a : Bool) → hasIke spi ike ≡ a → (b : Bool) → meant ike spi .mobike ≡ b → _≡_ {A = ℕ} (cond a (cond b 0 5) 4) 0
-        → (placeOf ikeSpi spi ike < length ike) × (meant ike spi .mobike ≡ true)
+    go : (a : Bool) → hasIke spi ike ≡ a → (b : Bool) → isYes (meant ike spi .agreed .mobike) ≡ b → _≡_ {A = ℕ} (cond a (cond b 0 5) 4) 0
+        → (placeOf ikeSpi spi ike < length ike) × (isYes (meant ike spi .agreed .mobike) ≡ true)
     go true f true g e = (ltb-true _ _ f, g)
     go true f false g e = absurd (omega arith)
     go false f b g e = absurd (omega arith)

@@ -31,15 +31,15 @@ verdict policy n p = cond (unaltered n p) (cond (acceptable policy p) 0 9) 8
 
 -- 01: "Unknown payloads and unknown notifications are added to that record's tally, one each."
 abbrev pub counted : ℕ → Marks → Marks
-counted n m = record { mobike = m .mobike; «update_mark» = m .«update_mark»; «list_mark» = m .«list_mark»; unknown = tallied (m .unknown) n }
+counted n m = record { agreed = m .agreed; «update_mark» = m .«update_mark»; «list_mark» = m .«list_mark»; unknown = tallied (m .unknown) n }
 
 -- 01: "Otherwise the mark becomes the ID": the least ID that exceeds it is the next.
 abbrev pub marked : ℕ → Marks → Marks
-marked id m = record { mobike = m .mobike; «update_mark» = id + 1; «list_mark» = m .«list_mark»; unknown = m .unknown }
+marked id m = record { agreed = m .agreed; «update_mark» = id + 1; «list_mark» = m .«list_mark»; unknown = m .unknown }
 
 -- 01: "an ID above the list mark replaces list and list mark".
 abbrev pub listMarked : ℕ → Marks → Marks
-listMarked id m = record { mobike = m .mobike; «update_mark» = m .«update_mark»; «list_mark» = id + 1; unknown = m .unknown }
+listMarked id m = record { agreed = m .agreed; «update_mark» = m .«update_mark»; «list_mark» = id + 1; unknown = m .unknown }
 
 abbrev pub decision : ℕ → ℕ → ℕ → ℕ → Marks → Decision
 decision number update list off m = record { number = number; update = update; list = list; «left_off» = off; marks = m }

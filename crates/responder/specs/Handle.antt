@@ -4,6 +4,7 @@ use mathlib.Core.List.{List, [], map}
 use mathlib.Core.Bool.{Bool, cond, _&&_, not}
 use lib.Dec.{eqb, ltb}
 use lib.ListN.{length, getD, set}
+use Rattle.octets.specs.Flags.{isYes}
 use Rattle.octets.specs.Lists.{placeOf}
 use Rattle.address.specs.Address.{pairFits}
 use Rattle.address.specs.declared.pair.Pair.{Pair}
@@ -37,7 +38,7 @@ meant ike spi = getD ike (placeOf ikeSpi spi ike) noIke
 
 -- 01: "4: no such record", "5: MOBIKE not agreed".
 unfoldable pub recordNumber : List IkeRecord → ℕ → ℕ
-recordNumber ike spi = cond (hasIke spi ike) (cond (meant ike spi .mobike) 0 5) 4
+recordNumber ike spi = cond (hasIke spi ike) (cond (isYes (meant ike spi .agreed .mobike)) 0 5) 4
 
 -- 01: "checks 1 to 7 in number order", the first five: whether the arguments fit, the output's and the body's length, the record.
 unfoldable pub checkedNumber : Bool → ℕ → ℕ → ℕ → ℕ
@@ -74,7 +75,7 @@ handledResponse policy ike ipsec q = cond (eqb (earlyNumber ike ipsec q) 0) (cor
 -- The same by what was looked up: how many IPsec records are lent, the lowest place with the SPI, and the marks of the record there.
 -- `proofs/Looked.antt` shows that with this and the tables' change around it a request is handled.
 abbrev pub recordNumberAt : ℕ → Marks → ℕ
-recordNumberAt place m = cond (ltb place 32) (cond (m .mobike) 0 5) 4
+recordNumberAt place m = cond (ltb place 32) (cond (isYes (m .agreed .mobike)) 0 5) 4
 
 abbrev pub earlyNumberAt : ℕ → ℕ → Marks → Request → ℕ
 earlyNumberAt size place m q =

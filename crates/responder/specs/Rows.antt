@@ -9,7 +9,8 @@ use Rattle.address.specs.declared.pair.Pair.{Pair}
 use Rattle.policy.specs.Policy.{noRule}
 use Rattle.policy.specs.declared.rules.Rule.{Rule}
 use Rattle.policy.specs.declared.rules.Policy.{Policy}
-use Rattle.tables.specs.Records.{newIke, noIke, noIpsec}
+use Rattle.tables.specs.Records.{newIke, noIke, noIpsec, remarked}
+use Rattle.tables.specs.declared.ike.Agreed.{Agreed}
 use Rattle.tables.specs.declared.ike.IkeRecord.{IkeRecord}
 use Rattle.responder.specs.Core.{asked}
 use Rattle.responder.specs.Handle.{Request, request, handled, handledResponse}
@@ -45,19 +46,12 @@ pub record Row : Type 0 where
   pub tally : ℕ
   pub response : List ℕ
 
+abbrev agreed : Agreed
+agreed = record { mobike = 1 }
+
 -- a record of SPI 7 for which MOBIKE was agreed, with this mark
 abbrev recordWith : ℕ → IkeRecord
-recordWith mark =
-    record {
-      spi = 7;
-      mobike = true;
-      pair = pair;
-      «update_mark» = mark;
-      «list_mark» = 0;
-      count = 0;
-      addresses = newIke 7 true pair .addresses;
-      unknown = 0;
-    }
+recordWith mark = remarked (record { agreed = agreed; «update_mark» = mark; «list_mark» = 0; unknown = 0 }) false pair (newIke 7 agreed pair)
 
 abbrev asksFor : Row → Request
 asksFor r = request 7 (asked (r .id) pair (replicate 20 1) (replicate 20 2) (r .first) (r .body)) 128

@@ -5,6 +5,7 @@ use crate::core::respond_to;
 use crate::core::unchanged;
 use address::pair::Pair;
 use address::pair::pair_fits;
+use octets::flag::is_yes;
 use policy::rules::Policy;
 use tables::ike::Marks;
 ghost use mathlib.Core.Path.{_≡_};
@@ -39,7 +40,7 @@ pub fn record_number(place: usize, marks: Marks) -> u8
     ensures { λ r. ⌜ r ≡ recordNumberAt place marks ⌝ }
 {
     if place < 32 {
-        if marks.mobike { 0 } else { 5 }
+        if is_yes(marks.agreed.mobike) { 0 } else { 5 }
     } else {
         4
     }

@@ -4,40 +4,41 @@ use mathlib.Core.Path.{_≡_, refl}
 use mathlib.Core.Logic.{_⊎_, inl, inr}
 use mathlib.Core.List.{List, map}
 use mathlib.Core.Bool.{Bool, true, false, _||_, not}
-use borrow.Author.Tests.{ltb-true, ltb-false, eqb-false}
+use borrow.Author.Tests.{ltb-true, ltb-false, eqb-true, eqb-false, not-true, not-false}
 use lib.Dec.{eqb}
 use lib.ListN.{length, getD, set}
 use Rattle.octets.specs.Lists.{placeOf}
-use Rattle.octets.proofs.Small.{neither}
-use Rattle.address.specs.Address.{pairFits}
-use Rattle.address.specs.declared.pair.Pair.{Pair}
-use Rattle.tables.specs.Records.{ikeSpi, ipsecSpi, newIke, noIke, newIpsec, noIpsec, released}
-use Rattle.tables.specs.Calls.{ikeAnswer, ipsecAnswer, closeAnswer, hasIke, hasIpsec, listFits, openIke, openIpsec, closeIke, closeIpsec}
+use Rattle.octets.specs.Checks.{firstFailed}
+use Rattle.octets.proofs.Checks.{all-passed}
+use Rattle.octets.proofs.Small.{both, neither}
+use Rattle.tables.specs.Records.{ikeSpi, ipsecSpi, noIke, newIpsec, noIpsec, released}
+use Rattle.tables.specs.Calls.{ipsecAnswer, tablesAnswer, hasIke, hasIpsec, listFits, openingChecks, openBoth, openIpsec, closeIke, closeIpsec}
+use Rattle.tables.specs.Opened.{BothOpened, NeitherOpened, BothOrNeither}
 use Rattle.tables.specs.declared.ike.IkeRecord.{IkeRecord}
 use Rattle.tables.specs.declared.ipsec.IpsecRecord.{IpsecRecord}
 
-module _ (ike : List IkeRecord) (spi : ℕ) (mobike : Bool) (pair : Pair) where
-  pub record IkeOpened : Type 0 where
-    pub named : spi ≡ 0 → ⊥
-    pub new : length ike ≤ placeOf ikeSpi spi ike
-    pub room : placeOf ikeSpi 0 ike < length ike
-    pub is : openIke ike spi mobike pair ≡ ikeAnswer 0 (set ike (placeOf ikeSpi 0 ike) (newIke spi mobike pair))
+pub both-or-neither : BothOrNeither
+unfolding openBoth
+both-or-neither ike ipsec o = go (eqb number 0) refl
+  where
+    number : ℕ
+    number = firstFailed (openingChecks ike ipsec o)
 
-  pub open-ike-cases : (openIke ike spi mobike pair .ike ≡ ike) ⊎ IkeOpened
-  unfolding openIke
-  open-ike-cases = go (eqb spi 0 || not (pairFits pair)) refl (hasIke spi ike) refl (hasIke 0 ike) refl
-    where
-      go : (a : Bool) → eqb spi 0 || not (pairFits pair) ≡ a → (b : Bool) → hasIke spi ike ≡ b → (c : Bool) → hasIke 0 ike ≡ c → (openIke ike spi mobike pair .ike ≡ ike) ⊎ IkeOpened
-      go true e b f c g = inl (rw e)
-      go false e true f c g = inl (rw (e, f))
-      go false e false f true g =
-          inr (record {
-            named = eqb-false spi 0 (neither (eqb spi 0) (not (pairFits pair)) e .0);
-            new = ltb-false _ _ f;
-            room = ltb-true _ _ g;
-            is = rw (e, f, g);
-          })
-      go false e false f false g = inl (rw (e, f, g))
+    go : (b : Bool) → eqb number 0 ≡ b → BothOpened ike ipsec o ⊎ NeitherOpened ike ipsec o
+    go false e = inr (record { refused = rw e (eqb-false number 0 e); same = rw e; child-same = rw e })
+    go true e =
+        let p = all-passed (openingChecks ike ipsec o) refl (eqb-true number 0 e) in
+        let spis = both (listFits ipsec) _ (not-false _ (p .0)) .1 in
+        let child = both (not (eqb (o .spi) 0)) _ spis in
+        inl (record {
+          named = eqb-false (o .spi) 0 (not-true _ (child .0));
+          child-named = eqb-false (o .child) 0 (not-true _ (both (not (eqb (o .child) 0)) _ (child .1) .0));
+          new = ltb-false _ _ (p .1 .0);
+          child-new = ltb-false _ _ (p .1 .1 .0);
+          room = ltb-true _ _ (not-false _ (p .1 .1 .1 .0));
+          child-room = ltb-true _ _ (not-false _ (p .1 .1 .1 .1 .0));
+          is = rw e;
+        })
 
 module _ (ike : List IkeRecord) (ipsec : List IpsecRecord) (spi owner : ℕ) where
   pub record IpsecOpened : Type 0 where
@@ -74,7 +75,7 @@ module _ (ike : List IkeRecord) (ipsec : List IpsecRecord) (spi : ℕ) where
   pub record IkeClosed : Type 0 where
     pub named : spi ≡ 0 → ⊥
     pub there : placeOf ikeSpi spi ike < length ike
-    pub is : closeIke ike ipsec spi ≡ closeAnswer 0 (set ike (placeOf ikeSpi spi ike) noIke) (map (released spi) ipsec)
+    pub is : closeIke ike ipsec spi ≡ tablesAnswer 0 (set ike (placeOf ikeSpi spi ike) noIke) (map (released spi) ipsec)
 
   pub close-ike-cases : ((closeIke ike ipsec spi .ike ≡ ike) × (closeIke ike ipsec spi .ipsec ≡ ipsec)) ⊎ IkeClosed
   unfolding closeIke

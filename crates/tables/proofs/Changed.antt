@@ -1,18 +1,18 @@
--- Each table call is one change: the number that is told, and one record stored at a place, past the end where nothing is stored.
+-- Each table call is a change: the number that is told, and a record stored at a place, past the end where nothing is stored.
 use Prim.Native.Nat.{ℕ}
 use mathlib.Core.Path.{_≡_, refl}
 use mathlib.Core.List.{List, map}
 use mathlib.Core.Bool.{Bool, true, false, cond, _||_, not}
 use native.Mathlib.Omega.{arith}
+use borrow.Author.Tests.{eqb-true}
 use lib.Dec.{eqb, ltb}
 use lib.ListN.{length, getD, set}
 use lib.Seq.{set-out}
 use Rattle.octets.specs.Lists.{placeOf}
-use Rattle.address.specs.Address.{pairFits}
-use Rattle.address.specs.declared.pair.Pair.{Pair}
-use Rattle.tables.specs.Records.{ikeSpi, ipsecSpi, newIke, noIke, newIpsec, noIpsec, released}
-use Rattle.tables.specs.Calls.{ikeAnswer, ipsecAnswer, closeAnswer, hasIpsec, openIke, openIpsec, closeIke, closeIpsec}
-use Rattle.tables.specs.Changes.{openingNumber, closingNumber, ikeOpening, ipsecOpening, ikeClosing, ipsecClosing}
+use Rattle.tables.specs.Records.{ikeSpi, ipsecSpi, ikeOf, childOf, noIke, newIpsec, noIpsec, released}
+use Rattle.tables.specs.Calls.{ipsecAnswer, tablesAnswer, hasIpsec, openingFits, openBoth, openIpsec, closeIke, closeIpsec}
+use Rattle.tables.specs.Changes.{openingNumber, closingNumber, bothNumber, bothOpening, ipsecOpening, ikeClosing, ipsecClosing}
+use Rattle.tables.specs.declared.calls.Opening.{Opening}
 use Rattle.tables.specs.declared.ike.IkeRecord.{IkeRecord}
 use Rattle.tables.specs.declared.ipsec.IpsecRecord.{IpsecRecord}
 
@@ -21,23 +21,25 @@ unstored : {A : Type 0} (xs : List A) (n : ℕ) (x : A) → length xs ≡ n → 
 unstored xs n x e = set-out xs n x (omega arith)
 
 module _ (ike : List IkeRecord) (long : length ike ≡ 32) where
-  pub opens-ike : (spi : ℕ) (mobike : Bool) (pair : Pair) → let c = ikeOpening spi mobike pair (placeOf ikeSpi spi ike) (placeOf ikeSpi 0 ike) in
-      (c .number ≡ openIke ike spi mobike pair .number) × (set ike (c .place) (c .entry) ≡ openIke ike spi mobike pair .ike)
-  unfolding openIke ikeOpening
-  opens-ike spi mobike pair =
-      rw long (go (eqb spi 0 || not (pairFits pair)) (ltb (placeOf ikeSpi spi ike) 32) (ltb (placeOf ikeSpi 0 ike) 32))
-    where
-      new : IkeRecord
-      new = newIke spi mobike pair
-
-      go : (a b c : Bool) → let r = cond a (ikeAnswer 1 ike) (cond b (ikeAnswer 11 ike) (cond c (ikeAnswer 0 (set ike (placeOf ikeSpi 0 ike) new)) (ikeAnswer 10 ike))) in
-          let n = openingNumber a true b c in (n ≡ r .number) × (set ike (cond (eqb n 0) (placeOf ikeSpi 0 ike) 32) new ≡ r .ike)
-      go true b c = (refl, unstored ike 32 new long)
-      go false true c = (refl, unstored ike 32 new long)
-      go false false true = (refl, refl)
-      go false false false = (refl, unstored ike 32 new long)
-
   module _ (ipsec : List IpsecRecord) where
+    pub opens-both : (o : Opening)
+        → let c = bothOpening (length ipsec) o (placeOf ikeSpi (o .spi) ike) (placeOf ikeSpi 0 ike) (placeOf ipsecSpi (o .child) ipsec) (placeOf ipsecSpi 0 ipsec) in
+        let r = openBoth ike ipsec o in
+        (c .number ≡ r .number) × (set ike (c .place) (c .entry) ≡ r .ike) × (set ipsec (c .«child_place») (c .child) ≡ r .ipsec)
+    unfolding openBoth bothOpening
+    opens-both o = rw long (go (eqb number 0) refl)
+      where
+        number : ℕ
+        number =
+            bothNumber (openingFits (length ipsec) o) (ltb (placeOf ikeSpi (o .spi) ike) 32) (hasIpsec (o .child) ipsec) (ltb (placeOf ikeSpi 0 ike) 32)
+            (hasIpsec 0 ipsec)
+
+        go : (b : Bool) → eqb number 0 ≡ b
+            → let r = cond b (tablesAnswer 0 (set ike (placeOf ikeSpi 0 ike) (ikeOf o)) (set ipsec (placeOf ipsecSpi 0 ipsec) (childOf o))) (tablesAnswer number ike ipsec) in
+            (number ≡ r .number) × (set ike (cond b (placeOf ikeSpi 0 ike) 32) (ikeOf o) ≡ r .ike) × (set ipsec (cond b (placeOf ipsecSpi 0 ipsec) (length ipsec)) (childOf o) ≡ r .ipsec)
+        go true e = (eqb-true number 0 e, refl, refl)
+        go false e = (refl, unstored ike 32 (ikeOf o) long, unstored ipsec (length ipsec) (childOf o) refl)
+
     pub opens-ipsec : (spi owner : ℕ)
         → let c = ipsecOpening (length ipsec) spi owner (placeOf ikeSpi owner ike) (getD ike (placeOf ikeSpi owner ike) noIke .pair) (placeOf ipsecSpi spi ipsec) (placeOf ipsecSpi 0 ipsec) in
         (c .number ≡ openIpsec ike ipsec spi owner .number) × (set ipsec (c .place) (c .entry) ≡ openIpsec ike ipsec spi owner .ipsec)
@@ -70,7 +72,7 @@ module _ (ike : List IkeRecord) (long : length ike ≡ 32) where
     closes-ike spi = rw long (go (not (eqb (length ipsec) 128) || eqb spi 0) (ltb (placeOf ikeSpi spi ike) 32))
       where
         go : (a b : Bool)
-            → let r = cond a (closeAnswer 1 ike ipsec) (cond b (closeAnswer 0 (set ike (placeOf ikeSpi spi ike) noIke) (map (released spi) ipsec)) (closeAnswer 4 ike ipsec)) in
+            → let r = cond a (tablesAnswer 1 ike ipsec) (cond b (tablesAnswer 0 (set ike (placeOf ikeSpi spi ike) noIke) (map (released spi) ipsec)) (tablesAnswer 4 ike ipsec)) in
             let n = closingNumber a b in
             (n ≡ r .number) × (set ike (cond (eqb n 0) (placeOf ikeSpi spi ike) 32) noIke ≡ r .ike) × (cond (eqb n 0) (map (released spi) ipsec) ipsec ≡ r .ipsec)
         go true b = (refl, unstored ike 32 noIke long, refl)

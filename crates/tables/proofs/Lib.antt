@@ -1,6 +1,7 @@
 -- Laws that belong to no one function.
-pub mod Once
+pub mod Consistent
 pub mod Cases
 pub mod Changed
 pub mod Reached
 pub mod Lookup
+pub mod Undone

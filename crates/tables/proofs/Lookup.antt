@@ -1,22 +1,14 @@
--- What a lookup finds after an opening or a closing, and that closing what was opened undoes it.
+-- What a lookup finds after an opening or a closing.
 use Prim.Native.Nat.{ℕ, _<_, _≤_}
 use mathlib.Core.Path.{_≡_, refl, sym, ap, _∙_}
-use mathlib.Core.List.{List, [], _∷_, map}
-use mathlib.Core.Bool.{Bool}
+use mathlib.Core.List.{List}
 use native.Mathlib.Omega.{arith}
 use native.Mathlib.Decide.{decLt, ℕ-discrete}
-use borrow.Author.Tests.{eq-eqb, ne-eqb, lt-ltb}
 use lib.ListN.{length, getD, set, length-set}
-use lib.Seq.{getD-set-same, getD-set-other, set-set}
+use lib.Seq.{getD-set-same, getD-set-other}
 use Rattle.octets.specs.Lists.{placeOf}
 use Rattle.octets.proofs.Places.{place-within, place-has, store-other, store-found}
-use Rattle.address.specs.declared.pair.Pair.{Pair}
-use Rattle.tables.specs.Records.{ikeSpi, newIke, noIke, released}
-use Rattle.tables.specs.Calls.{closeAnswer, closeIke}
 use Rattle.tables.specs.Reached.{Distinct}
-use Rattle.tables.specs.declared.ike.IkeRecord.{IkeRecord}
-use Rattle.tables.specs.declared.ipsec.IpsecRecord.{IpsecRecord}
-use Rattle.tables.proofs.Cases.{IkeOpened}
 
 -- Of either table: the key tells an IKE record from an IPsec record.
 module _ {A : Type 0} (key : A → ℕ) (d : A) (xs : List A) where
@@ -61,32 +53,3 @@ module _ {A : Type 0} (key : A → ℕ) (d : A) (xs : List A) where
         go : Dec (q < length xs) → q ≡ length xs
         go (yes l) = absurd (not-here l (ℕ-discrete q p))
         go (no l) = omega (arith, within)
-
--- a list in which nothing in use has this owner
-unfoldable pub Unowned : ℕ → List IpsecRecord → Type 0
-Unowned o [] = Unit {0}
-Unowned o (r ∷ rs) = (released o r ≡ r) × Unowned o rs
-
-nothing-released : (o : ℕ) (rs : List IpsecRecord) → Unowned o rs → map (released o) rs ≡ rs
-unfolding Unowned
-nothing-released o [] u = refl
-nothing-released o (r ∷ rs) u = rw (u .0, nothing-released o rs (u .1))
-
--- Closing an IKE record right after it was opened gives the tables back but for what the free place still held.
-pub open-then-close : (ike : List IkeRecord) (ipsec : List IpsecRecord) (spi : ℕ) (mobike : Bool) (pair : Pair)
-    → IkeOpened ike spi mobike pair → length ipsec ≡ 128 → Unowned spi ipsec
-    → closeIke (set ike (placeOf ikeSpi 0 ike) (newIke spi mobike pair)) ipsec spi
-    ≡ closeAnswer 0 (set ike (placeOf ikeSpi 0 ike) noIke) ipsec
-unfolding closeIke
-open-then-close ike ipsec spi mobike pair o long u =
-    let p = placeOf ikeSpi 0 ike in
-    let found = finds-opened ikeSpi noIke ike (newIke spi mobike pair) (o .room) (o .new) in
-    rw (
-      eq-eqb (length ipsec) 128 long,
-      ne-eqb spi 0 (o .named),
-      found,
-      length-set ike p (newIke spi mobike pair),
-      lt-ltb p (length ike) (o .room),
-      set-set ike p (newIke spi mobike pair) noIke,
-      nothing-released spi ipsec u,
-    )

@@ -1,4 +1,5 @@
--- From empty tables, whatever is called, no SPI stands twice in a table and every IPsec record has an owner.
+-- From empty tables, after any table calls, no SPI stands twice in a table, nothing is left in a free place and every IPsec record has an
+-- owner.
 use Prim.Native.Nat.{ℕ, _<_}
 use mathlib.Core.Path.{_≡_, refl, sym, ap, _∙_}
 use mathlib.Core.Logic.{⊎-elim}
@@ -8,17 +9,20 @@ use native.Mathlib.Omega.{arith}
 use native.Mathlib.Decide.{ℕ-discrete}
 use borrow.Author.Tests.{eqb-false, eqb-true}
 use lib.Dec.{eqb}
-use lib.ListN.{length, getD, set, replicate, length-set, length-map, length-replicate, getD-replicate, List·getD-map}
+use lib.ListN.{length, getD, set, length-set, length-map, getD-replicate, List·getD-map}
 use lib.Seq.{getD-set-same, getD-set-other}
 use Rattle.octets.specs.Lists.{placeOf}
+use Rattle.octets.proofs.Small.{chosen}
 use Rattle.octets.proofs.Places.{at-most, place-has}
-use Rattle.address.specs.declared.pair.Pair.{Pair}
-use Rattle.tables.specs.Records.{ikeSpi, ipsecSpi, newIke, noIke, newIpsec, noIpsec, released}
-use Rattle.tables.specs.Reached.{Tables, empty, Call, opensIke, opensIpsec, closesIke, closesIpsec, after, afterAll, Distinct, Owned, WellFormed}
+use Rattle.tables.specs.Records.{ikeSpi, ipsecSpi, ikeOf, childOf, noIke, newIpsec, noIpsec, released}
+use Rattle.tables.specs.Reached.{Tables, empty, Call, opensBoth, opensIpsec, closesIke, closesIpsec, after, afterAll, Owned, WellFormed}
+use Rattle.tables.specs.declared.calls.Opening.{Opening}
 use Rattle.tables.specs.declared.ike.IkeRecord.{IkeRecord}
 use Rattle.tables.specs.declared.ipsec.IpsecRecord.{IpsecRecord}
-use Rattle.tables.proofs.Once.{open-once, close-once, each-once}
-use Rattle.tables.proofs.Cases.{IkeOpened, IpsecOpened, IkeClosed, IpsecClosed, open-ike-cases, open-ipsec-cases, close-ike-cases, close-ipsec-cases}
+use Rattle.tables.specs.Opened.{BothOpened}
+use Rattle.tables.proofs.Lookup.{finds-opened}
+use Rattle.tables.proofs.Consistent.{opened, closed, each, all-free}
+use Rattle.tables.proofs.Cases.{IpsecOpened, IkeClosed, IpsecClosed, both-or-neither, open-ipsec-cases, close-ike-cases, close-ipsec-cases}
 
 -- an IKE record stays where another place is stored to
 still-there : (ike : List IkeRecord) (o p : ℕ) (y : IkeRecord) → placeOf ikeSpi o ike < length ike
@@ -40,6 +44,12 @@ in-use o r n = go (eqb (r .spi) 0) refl (eqb (r .owner) o) refl n
     go false e true f n = absurd (n refl)
     go false e false f n = (refl, eqb-false (r .owner) o f)
 
+-- and one that is free after it is cleared, if the free ones were before
+released-clear : (o : ℕ) (r : IpsecRecord) → (r .spi ≡ 0 → r ≡ noIpsec) → released o r .spi ≡ 0 → released o r ≡ noIpsec
+released-clear o r clear =
+    chosen (λ (x : IpsecRecord). x .spi ≡ 0 → x ≡ noIpsec) (eqb (r .spi) 0) (λ e. clear)
+    (λ e. chosen (λ (x : IpsecRecord). x .spi ≡ 0 → x ≡ noIpsec) (eqb (r .owner) o) (λ f z. refl) (λ f. clear))
+
 -- an IPsec record that is not the one stored
 module _ (ike : List IkeRecord) (ipsec : List IpsecRecord) (p : ℕ) (y : IpsecRecord) where
   owned-stored : Owned ike ipsec → ((y .spi ≡ 0 → ⊥) → (y .owner ≡ 0 → ⊥) × (placeOf ikeSpi (y .owner) ike < length ike)) → Owned ike (set ipsec p y)
@@ -57,41 +67,48 @@ module _ (ike : List IkeRecord) (ipsec : List IpsecRecord) (p : ℕ) (y : IpsecR
           rw same (old j inside (λ z. n (ap ipsecSpi same ∙ z)))
 
 module _ (t : Tables) (w : WellFormed t) where
-  opened-ike : (spi : ℕ) (mobike : Bool) (pair : Pair) → IkeOpened (t .ike) spi mobike pair → WellFormed (after t (opensIke spi mobike pair))
+  opened-both : (o : Opening) → BothOpened (t .ike) (t .ipsec) o → WellFormed (after t (opensBoth o))
   unfolding after
-  opened-ike spi mobike pair o =
-      rw (o .is)
+  opened-both o b =
+      let p = placeOf ikeSpi 0 (t .ike) in
+      let q = placeOf ipsecSpi 0 (t .ipsec) in
+      let found = finds-opened ikeSpi noIke (t .ike) (ikeOf o) (b .room) (b .new) in
+      let there : placeOf ikeSpi (o .spi) (set (t .ike) p (ikeOf o)) < length (set (t .ike) p (ikeOf o)) = rw (found, length-set (t .ike) p (ikeOf o)) (b .room) in
+      rw (b .is)
       (record {
-        ike-once = open-once ikeSpi noIke (t .ike) (w .ike-once) (placeOf ikeSpi 0 (t .ike)) (newIke spi mobike pair) (o .new);
-        ipsec-once = w .ipsec-once;
+        ikes = opened ikeSpi noIke (t .ike) (w .ikes) p (ikeOf o) (b .named) (b .new);
+        ipsecs = opened ipsecSpi noIpsec (t .ipsec) (w .ipsecs) q (childOf o) (b .child-named) (b .child-new);
         owned =
-            λ j l n.
+            owned-stored (set (t .ike) p (ikeOf o)) (t .ipsec) q (childOf o)
+            (λ j l n.
             let old = w .owned j l n in (
               old .0,
-              still-there (t .ike) (getD (t .ipsec) j noIpsec .owner) (placeOf ikeSpi 0 (t .ike)) (newIke spi mobike pair) (old .1)
-                  (λ e. old .0 (sym e ∙ place-has ikeSpi 0 (t .ike) noIke (o .room))),
-            );
+              still-there (t .ike) (getD (t .ipsec) j noIpsec .owner) p (ikeOf o) (old .1) (λ e. old .0 (sym e ∙ place-has ikeSpi 0 (t .ike) noIke (b .room))),
+            ))
+            (λ n. (b .named, there));
       })
 
   opened-ipsec : (spi owner : ℕ) → IpsecOpened (t .ike) (t .ipsec) spi owner → WellFormed (after t (opensIpsec spi owner))
   unfolding after
   opened-ipsec spi owner o =
-      let pair = getD (t .ike) (placeOf ikeSpi owner (t .ike)) noIke .pair in
+      let new = newIpsec spi owner (getD (t .ike) (placeOf ikeSpi owner (t .ike)) noIke .pair) in
+      let q = placeOf ipsecSpi 0 (t .ipsec) in
       rw (o .is)
       (record {
-        ike-once = w .ike-once;
-        ipsec-once = open-once ipsecSpi noIpsec (t .ipsec) (w .ipsec-once) (placeOf ipsecSpi 0 (t .ipsec)) (newIpsec spi owner pair) (o .new);
-        owned = owned-stored (t .ike) (t .ipsec) (placeOf ipsecSpi 0 (t .ipsec)) (newIpsec spi owner pair) (w .owned) (λ n. (o .owner-named, o .owner-there));
+        ikes = w .ikes;
+        ipsecs = opened ipsecSpi noIpsec (t .ipsec) (w .ipsecs) q new (o .named) (o .new);
+        owned = owned-stored (t .ike) (t .ipsec) q new (w .owned) (λ n. (o .owner-named, o .owner-there));
       })
 
   closed-ipsec : (spi : ℕ) → IpsecClosed (t .ipsec) spi → WellFormed (after t (closesIpsec spi))
   unfolding after
   closed-ipsec spi o =
+      let q = placeOf ipsecSpi spi (t .ipsec) in
       rw (o .is)
       (record {
-        ike-once = w .ike-once;
-        ipsec-once = close-once ipsecSpi noIpsec (t .ipsec) (w .ipsec-once) (placeOf ipsecSpi spi (t .ipsec)) noIpsec refl;
-        owned = owned-stored (t .ike) (t .ipsec) (placeOf ipsecSpi spi (t .ipsec)) noIpsec (w .owned) (λ n. absurd (n refl));
+        ikes = w .ikes;
+        ipsecs = closed ipsecSpi noIpsec (t .ipsec) (w .ipsecs) q refl;
+        owned = owned-stored (t .ike) (t .ipsec) q noIpsec (w .owned) (λ n. absurd (n refl));
       })
 
   closed-ike : (spi : ℕ) → IkeClosed (t .ike) (t .ipsec) spi → WellFormed (after t (closesIke spi))
@@ -99,8 +116,8 @@ module _ (t : Tables) (w : WellFormed t) where
   closed-ike spi o =
       rw (o .is)
       (record {
-        ike-once = close-once ikeSpi noIke (t .ike) (w .ike-once) (placeOf ikeSpi spi (t .ike)) noIke refl;
-        ipsec-once = each-once ipsecSpi noIpsec (released spi) refl (λ r n. ap ipsecSpi (in-use spi r n .0)) (t .ipsec) (w .ipsec-once);
+        ikes = closed ikeSpi noIke (t .ike) (w .ikes) (placeOf ikeSpi spi (t .ike)) refl;
+        ipsecs = each ipsecSpi noIpsec (t .ipsec) (w .ipsecs) (released spi) refl (λ r n. ap ipsecSpi (in-use spi r n .0)) (released-clear spi);
         owned =
             λ j l n.
             let at : getD (map (released spi) (t .ipsec)) j noIpsec ≡ released spi (getD (t .ipsec) j noIpsec) = List·getD-map (released spi) (t .ipsec) j noIpsec in
@@ -116,26 +133,22 @@ module _ (t : Tables) (w : WellFormed t) where
 
   preserved : (c : Call) → WellFormed (after t c)
   unfolding after
-  preserved (opensIke spi mobike pair) = ⊎-elim (λ e. rw e w) (opened-ike spi mobike pair) (open-ike-cases (t .ike) spi mobike pair)
+  preserved (opensBoth o) = ⊎-elim (opened-both o) (λ e. rw (e .same, e .child-same) w) (both-or-neither (t .ike) (t .ipsec) o)
   preserved (opensIpsec spi owner) = ⊎-elim (λ e. rw e w) (opened-ipsec spi owner) (open-ipsec-cases (t .ike) (t .ipsec) spi owner)
   preserved (closesIke spi) = ⊎-elim (λ e. rw (e .0, e .1) w) (closed-ike spi) (close-ike-cases (t .ike) (t .ipsec) spi)
   preserved (closesIpsec spi) = ⊎-elim (λ e. rw e w) (closed-ipsec spi) (close-ipsec-cases (t .ipsec) spi)
 
--- whatever is called from well-formed tables
+-- whatever table calls are made on well-formed tables
 pub stays-well-formed : (t : Tables) → WellFormed t → (cs : List Call) → WellFormed (afterAll t cs)
 unfolding afterAll
 stays-well-formed t w [] = w
 stays-well-formed t w (c ∷ cs) = stays-well-formed (after t c) (preserved t w c) cs
 
--- a list of free places has no key but 0
-free-once : {A : Type 0} (key : A → ℕ) (d : A) (n : ℕ) → key d ≡ 0 → Distinct key d (replicate n d)
-free-once key d n z i j hi hj e u = absurd (u (ap key (getD-replicate n i d d (rw (← length-replicate n d) hi)) ∙ z))
-
 pub empty-well-formed : WellFormed empty
 empty-well-formed =
     record {
-      ike-once = free-once ikeSpi noIke 32 refl;
-      ipsec-once = free-once ipsecSpi noIpsec 128 refl;
+      ikes = all-free ikeSpi noIke 32 refl;
+      ipsecs = all-free ipsecSpi noIpsec 128 refl;
       owned = λ j l n. absurd (n (ap ipsecSpi (getD-replicate 128 j noIpsec noIpsec l)));
     }
 

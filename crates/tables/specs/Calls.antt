@@ -1,38 +1,32 @@
 -- The table calls of 01: their numbers, in the order of its checks, and the tables after them.
 use Prim.Native.Nat.{ℕ}
-use mathlib.Core.List.{List, map}
-use mathlib.Core.Bool.{Bool, cond, _||_, not}
+use mathlib.Core.List.{List, [], _∷_, map}
+use mathlib.Core.Bool.{Bool, cond, _&&_, _||_, not}
 use lib.Dec.{eqb, ltb}
 use lib.ListN.{length, getD, set}
+use Rattle.octets.specs.Checks.{Check, _gives_, firstFailed}
 use Rattle.octets.specs.Lists.{placeOf}
 use Rattle.address.specs.Address.{pairFits}
-use Rattle.address.specs.declared.pair.Pair.{Pair}
-use Rattle.tables.specs.Records.{ikeSpi, ipsecSpi, newIke, noIke, newIpsec, noIpsec, released}
+use Rattle.tables.specs.Records.{ikeSpi, ipsecSpi, ikeOf, childOf, noIke, newIpsec, noIpsec, released}
+use Rattle.tables.specs.declared.calls.Opening.{Opening}
 use Rattle.tables.specs.declared.ike.IkeRecord.{IkeRecord}
 use Rattle.tables.specs.declared.ipsec.IpsecRecord.{IpsecRecord}
 
 -- What a call comes to: its number, and the tables after it.
-pub record IkeAnswer : Type 0 where
-  pub number : ℕ
-  pub ike : List IkeRecord
-
 pub record IpsecAnswer : Type 0 where
   pub number : ℕ
   pub ipsec : List IpsecRecord
 
-pub record CloseAnswer : Type 0 where
+pub record TablesAnswer : Type 0 where
   pub number : ℕ
   pub ike : List IkeRecord
   pub ipsec : List IpsecRecord
 
-abbrev pub ikeAnswer : ℕ → List IkeRecord → IkeAnswer
-ikeAnswer number ike = record { number = number; ike = ike }
-
 abbrev pub ipsecAnswer : ℕ → List IpsecRecord → IpsecAnswer
 ipsecAnswer number ipsec = record { number = number; ipsec = ipsec }
 
-abbrev pub closeAnswer : ℕ → List IkeRecord → List IpsecRecord → CloseAnswer
-closeAnswer number ike ipsec = record { number = number; ike = ike; ipsec = ipsec }
+abbrev pub tablesAnswer : ℕ → List IkeRecord → List IpsecRecord → TablesAnswer
+tablesAnswer number ike ipsec = record { number = number; ike = ike; ipsec = ipsec }
 
 -- 01: "the lowest place in use with the SPI is meant"; an SPI that is looked up is not 0, so the place is in use.
 abbrev pub hasIke : ℕ → List IkeRecord → Bool
@@ -45,15 +39,30 @@ hasIpsec spi ipsec = ltb (placeOf ipsecSpi spi ipsec) (length ipsec)
 abbrev pub listFits : List IpsecRecord → Bool
 listFits ipsec = eqb (length ipsec) 128
 
--- 01: "Opening checks 1, 4 (the owner of an IPsec record), 11, 10."; "Opening takes the lowest free place".
-unfoldable pub openIke : List IkeRecord → ℕ → Bool → Pair → IkeAnswer
-openIke ike spi mobike pair =
-    cond (eqb spi 0 || not (pairFits pair)) (ikeAnswer 1 ike)
-    (cond (hasIke spi ike) (ikeAnswer 11 ike)
-    (cond (hasIke 0 ike) (ikeAnswer 0 (set ike (placeOf ikeSpi 0 ike) (newIke spi mobike pair)))
-    (ikeAnswer 10 ike)))
+-- 01: "1: family not 4 or 6, IPv4 tail not zero, an SPI of 0, an IPsec list not of 128 records"; of an opening beside a list of `size`.
+abbrev pub openingFits : ℕ → Opening → Bool
+openingFits size o = eqb size 128 && (not (eqb (o .spi) 0) && (not (eqb (o .child) 0) && pairFits (o .pair)))
 
--- 01: "A new one takes the pair of its IKE record (000, 3.3)."
+-- E1: "Refusals: 1, 11 (IKE, then IPsec), 10 (IKE, then IPsec)".
+abbrev pub openingChecks : List IkeRecord → List IpsecRecord → Opening → List Check
+openingChecks ike ipsec o =
+    not (openingFits (length ipsec) o) gives 1
+    ∷ hasIke (o .spi) ike gives 11
+    ∷ hasIpsec (o .child) ipsec gives 11
+    ∷ not (hasIke 0 ike) gives 10
+    ∷ not (hasIpsec 0 ipsec) gives 10
+    ∷ []
+
+-- E1: "one call opens both or neither". 01: "Opening takes the lowest free place".
+unfoldable pub openBoth : List IkeRecord → List IpsecRecord → Opening → TablesAnswer
+openBoth ike ipsec o =
+    let number = firstFailed (openingChecks ike ipsec o) in
+    cond (eqb number 0)
+    (tablesAnswer 0 (set ike (placeOf ikeSpi 0 ike) (ikeOf o)) (set ipsec (placeOf ipsecSpi 0 ipsec) (childOf o)))
+    (tablesAnswer number ike ipsec)
+
+-- Another IPsec record. 01: "Opening checks 1, 4 (the owner of an IPsec record), 11, 10."; "A new one takes the pair of its IKE record
+-- (000, 3.3)."
 unfoldable pub openIpsec : List IkeRecord → List IpsecRecord → ℕ → ℕ → IpsecAnswer
 openIpsec ike ipsec spi owner =
     cond (not (listFits ipsec) || (eqb spi 0 || eqb owner 0)) (ipsecAnswer 1 ipsec)
@@ -65,11 +74,11 @@ openIpsec ike ipsec spi owner =
 
 -- 01: "Closing an IKE or IPsec record checks 1, 4."; "closing sets all its fields to 0 or none"; "Closing an IKE record closes
 -- the IPsec records it owns."
-unfoldable pub closeIke : List IkeRecord → List IpsecRecord → ℕ → CloseAnswer
+unfoldable pub closeIke : List IkeRecord → List IpsecRecord → ℕ → TablesAnswer
 closeIke ike ipsec spi =
-    cond (not (listFits ipsec) || eqb spi 0) (closeAnswer 1 ike ipsec)
-    (cond (hasIke spi ike) (closeAnswer 0 (set ike (placeOf ikeSpi spi ike) noIke) (map (released spi) ipsec))
-    (closeAnswer 4 ike ipsec))
+    cond (not (listFits ipsec) || eqb spi 0) (tablesAnswer 1 ike ipsec)
+    (cond (hasIke spi ike) (tablesAnswer 0 (set ike (placeOf ikeSpi spi ike) noIke) (map (released spi) ipsec))
+    (tablesAnswer 4 ike ipsec))
 
 unfoldable pub closeIpsec : List IpsecRecord → ℕ → IpsecAnswer
 closeIpsec ipsec spi =

@@ -1,13 +1,17 @@
--- The table calls as one change each: the number by what was looked up, and the record that is stored at a place. `proofs/Changed.antt`
+-- The table calls as changes: the number by what was looked up, and the record that is stored at a place. `proofs/Changed.antt`
 -- shows that these are the calls of `Calls`.
 use Prim.Native.Nat.{ℕ}
-use mathlib.Core.Bool.{Bool, true, cond, _||_, not}
+use mathlib.Core.List.{[], _∷_}
+use mathlib.Core.Bool.{Bool, cond, _||_, not}
 use lib.Dec.{eqb, ltb}
-use Rattle.address.specs.Address.{pairFits}
+use Rattle.octets.specs.Checks.{_gives_, firstFailed}
 use Rattle.address.specs.declared.pair.Pair.{Pair}
-use Rattle.tables.specs.Records.{newIke, noIke, newIpsec, noIpsec}
+use Rattle.tables.specs.Records.{ikeOf, childOf, noIke, newIpsec, noIpsec}
+use Rattle.tables.specs.Calls.{openingFits}
 use Rattle.tables.specs.declared.ike.IkeRecord.{IkeRecord}
 use Rattle.tables.specs.declared.ipsec.IpsecRecord.{IpsecRecord}
+use Rattle.tables.specs.declared.calls.BothChange.{BothChange}
+use Rattle.tables.specs.declared.calls.Opening.{Opening}
 use Rattle.tables.specs.declared.calls.IkeChange.{IkeChange}
 use Rattle.tables.specs.declared.calls.IpsecChange.{IpsecChange}
 
@@ -26,9 +30,19 @@ ikeChange number place entry = record { number = number; place = cond (eqb numbe
 abbrev pub ipsecChange : ℕ → ℕ → ℕ → IpsecRecord → IpsecChange
 ipsecChange size number place entry = record { number = number; place = cond (eqb number 0) place size; entry = entry }
 
-unfoldable pub ikeOpening : ℕ → Bool → Pair → ℕ → ℕ → IkeChange
-ikeOpening spi mobike pair taken free =
-    ikeChange (openingNumber (eqb spi 0 || not (pairFits pair)) true (ltb taken 32) (ltb free 32)) free (newIke spi mobike pair)
+abbrev pub bothChange : ℕ → ℕ → ℕ → IkeRecord → ℕ → IpsecRecord → BothChange
+bothChange size number place entry childPlace child =
+    record { number = number; place = cond (eqb number 0) place 32; entry = entry; «child_place» = cond (eqb number 0) childPlace size; child = child }
+
+-- E1: "Refusals: 1, 11 (IKE, then IPsec), 10 (IKE, then IPsec)".
+abbrev pub bothNumber : Bool → Bool → Bool → Bool → Bool → ℕ
+bothNumber fits taken childTaken room childRoom =
+    firstFailed (not fits gives 1 ∷ taken gives 11 ∷ childTaken gives 11 ∷ not room gives 10 ∷ not childRoom gives 10 ∷ [])
+
+unfoldable pub bothOpening : ℕ → Opening → ℕ → ℕ → ℕ → ℕ → BothChange
+bothOpening size o taken free childTaken childFree =
+    bothChange size (bothNumber (openingFits size o) (ltb taken 32) (ltb childTaken size) (ltb free 32) (ltb childFree size))
+    free (ikeOf o) childFree (childOf o)
 
 unfoldable pub ipsecOpening : ℕ → ℕ → ℕ → ℕ → Pair → ℕ → ℕ → IpsecChange
 ipsecOpening size spi owner owned pair taken free =

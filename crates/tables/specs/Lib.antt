@@ -2,3 +2,4 @@ pub mod Records
 pub mod Calls
 pub mod Changes
 pub mod Reached
+pub mod Opened

@@ -1,12 +1,15 @@
 -- IKE and IPsec records: their keys, new ones, closed ones, and how one is changed.
 use Prim.Native.Nat.{ℕ}
-use mathlib.Core.Bool.{Bool, false, cond}
+use mathlib.Core.Bool.{Bool, cond}
 use mathlib.Core.List.{List}
 use lib.Dec.{eqb}
 use lib.ListN.{replicate}
+use Rattle.octets.specs.Flags.{zeroOrOne}
 use Rattle.address.specs.Address.{noPair, noAddress}
 use Rattle.address.specs.declared.address.Address.{Address}
 use Rattle.address.specs.declared.pair.Pair.{Pair}
+use Rattle.tables.specs.declared.calls.Opening.{Opening}
+use Rattle.tables.specs.declared.ike.Agreed.{Agreed}
 use Rattle.tables.specs.declared.ike.IkeRecord.{IkeRecord}
 use Rattle.tables.specs.declared.ike.Marks.{Marks}
 use Rattle.tables.specs.declared.ipsec.IpsecRecord.{IpsecRecord}
@@ -17,12 +20,19 @@ ikeSpi r = r .spi
 abbrev pub ipsecSpi : IpsecRecord → ℕ
 ipsecSpi r = r .spi
 
+-- What is agreed at an opening, as it is stored; and of a place that is free.
+abbrev pub settled : Agreed → Agreed
+settled a = record { mobike = zeroOrOne (a .mobike) }
+
+abbrev pub noneAgreed : Agreed
+noneAgreed = record { mobike = 0 }
+
 -- 01: "A new IKE record has no marks, an empty list, tally 0."
-abbrev pub newIke : ℕ → Bool → Pair → IkeRecord
-newIke spi mobike pair =
+abbrev pub newIke : ℕ → Agreed → Pair → IkeRecord
+newIke spi agreed pair =
     record {
       spi = spi;
-      mobike = mobike;
+      agreed = settled agreed;
       pair = pair;
       «update_mark» = 0;
       «list_mark» = 0;
@@ -33,13 +43,21 @@ newIke spi mobike pair =
 
 -- 01: "A place is free when its SPI is 0; closing sets all its fields to 0 or none."
 abbrev pub noIke : IkeRecord
-noIke = newIke 0 false noPair
+noIke = newIke 0 noneAgreed noPair
 
 abbrev pub newIpsec : ℕ → ℕ → Pair → IpsecRecord
 newIpsec spi owner pair = record { spi = spi; owner = owner; pair = pair }
 
 abbrev pub noIpsec : IpsecRecord
 noIpsec = newIpsec 0 0 noPair
+
+-- E1: "IKE_AUTH makes an IKE record and its first IPsec record": what is opened with what is given.
+abbrev pub ikeOf : Opening → IkeRecord
+ikeOf o = newIke (o .spi) (o .agreed) (o .pair)
+
+-- 01: "A new one takes the pair of its IKE record (000, 3.3)."
+abbrev pub childOf : Opening → IpsecRecord
+childOf o = newIpsec (o .child) (o .spi) (o .pair)
 
 -- 01: "Closing an IKE record closes the IPsec records it owns." A free place is no record, whatever owner it still names.
 abbrev pub released : ℕ → IpsecRecord → IpsecRecord
@@ -51,14 +69,14 @@ follows owner pair r = cond (eqb (r .spi) 0) r (cond (eqb (r .owner) owner) (new
 
 -- what of a record a request is decided by: 01's "MOBIKE agreed or not", "an update mark and a list mark", "an unknown tally"
 abbrev pub marksIn : IkeRecord → Marks
-marksIn r = record { mobike = r .mobike; «update_mark» = r .«update_mark»; «list_mark» = r .«list_mark»; unknown = r .unknown }
+marksIn r = record { agreed = r .agreed; «update_mark» = r .«update_mark»; «list_mark» = r .«list_mark»; unknown = r .unknown }
 
 -- the record with these marks and this tally; and, where it moves, "the IKE record ... take[s] the packet's pair"
 abbrev pub remarked : Marks → Bool → Pair → IkeRecord → IkeRecord
 remarked m moves pair r =
     record {
       spi = r .spi;
-      mobike = r .mobike;
+      agreed = r .agreed;
       pair = cond moves pair (r .pair);
       «update_mark» = m .«update_mark»;
       «list_mark» = m .«list_mark»;
@@ -72,7 +90,7 @@ abbrev pub relisted : ℕ → List Address → IkeRecord → IkeRecord
 relisted count addresses r =
     record {
       spi = r .spi;
-      mobike = r .mobike;
+      agreed = r .agreed;
       pair = r .pair;
       «update_mark» = r .«update_mark»;
       «list_mark» = r .«list_mark»;

@@ -1,4 +1,5 @@
 // What each table call comes to, given what was looked up: its number, and the record to store with its place.
+use crate::ike::Agreed;
 use crate::ike::IkeRecord;
 use crate::ike::new_ike;
 use crate::ike::no_ike;
@@ -9,8 +10,18 @@ use address::pair::pair_fits;
 ghost use mathlib.Core.Path.{_≡_};
 ghost use mathlib.Core.Bool.{cond, _||_, not};
 ghost use lib.Dec.{eqb};
-ghost use Rattle.address.specs.Address.{pairFits};
-ghost use Rattle.tables.specs.Changes.{openingNumber, closingNumber, ikeOpening, ipsecOpening, ikeClosing, ipsecClosing};
+ghost use Rattle.tables.specs.Records.{ikeOf, childOf};
+ghost use Rattle.tables.specs.Calls.{openingFits};
+ghost use Rattle.tables.specs.Changes.{openingNumber, closingNumber, bothNumber, bothOpening, ipsecOpening, ikeClosing, ipsecClosing};
+
+// What is given to open an IKE record and its first IPsec record, whose SPI is `child`.
+#[repr(C)]
+pub struct Opening {
+    pub spi: u64,
+    pub agreed: Agreed,
+    pub pair: Pair,
+    pub child: u32,
+}
 
 // A number, and the record that is stored at a place of the IKE table; 32, where nothing is stored, with any number but 0.
 pub struct IkeChange {
@@ -24,6 +35,15 @@ pub struct IpsecChange {
     pub number: u8,
     pub place: usize,
     pub entry: IpsecRecord,
+}
+
+// A number, and a record for each table: an IKE record and its first IPsec record.
+pub struct BothChange {
+    pub number: u8,
+    pub place: usize,
+    pub entry: IkeRecord,
+    pub child_place: usize,
+    pub child: IpsecRecord,
 }
 
 // The number of an opening: a bad argument, no owner, the SPI in use, no room, or 0.
@@ -60,16 +80,6 @@ pub fn place_if(number: u8, place: usize, none: usize) -> usize
     if number == 0 { place } else { none }
 }
 
-// Whether an IKE record can't have this SPI and pair.
-pub fn is_bad_ike(spi: u64, pair: Pair) -> bool
-    ensures { λ r. ⌜ r ≡ eqb spi 0 || not (pairFits pair) ⌝ }
-{
-    if spi == 0 {
-        return true;
-    }
-    if pair_fits(pair) { false } else { true }
-}
-
 // Whether the list hasn't 128 records, or an SPI is 0.
 pub fn is_bad_list(size: usize, spi: u64) -> bool
     ensures { λ r. ⌜ r ≡ not (eqb size 128) || eqb spi 0 ⌝ }
@@ -86,17 +96,87 @@ pub fn is_bad_opening(size: usize, spi: u64, owner: u64) -> bool
     owner == 0
 }
 
-// Opening an IKE record: `taken` is the lowest place with its SPI, `free` the lowest free one.
-pub fn ike_opening(spi: u64, mobike: bool, pair: Pair, taken: usize, free: usize) -> IkeChange
-    ensures { λ r. ⌜ r ≡ ikeOpening spi mobike pair taken free ⌝ }
+// Whether two records with these SPIs and this pair may be opened beside a list of `size`.
+pub fn opening_fits(size: usize, o: Opening) -> bool
+    ensures { λ r. ⌜ r ≡ openingFits size o ⌝ }
 {
-    let bad = is_bad_ike(spi, pair);
-    let number = opening_number(bad, true, taken < 32, free < 32);
-    let entry = new_ike(spi, mobike, pair);
-    IkeChange {
+    if size != 128 {
+        return false;
+    }
+    if o.spi == 0 {
+        return false;
+    }
+    if o.child == 0 {
+        return false;
+    }
+    let pair = o.pair;
+    pair_fits(pair)
+}
+
+// The number of opening both: of each record, whether its SPI is in use and whether there is room for it.
+pub fn both_number(fits: bool, taken: bool, child_taken: bool, room: bool, child_room: bool) -> u8
+    ensures { λ r. ⌜ r ≡ bothNumber fits taken «child_taken» room «child_room» ⌝ }
+{
+    if !fits {
+        return 1;
+    }
+    if taken {
+        return 11;
+    }
+    if child_taken {
+        return 11;
+    }
+    if !room {
+        return 10;
+    }
+    if child_room { 0 } else { 10 }
+}
+
+// The two records that are opened.
+pub fn ike_of(o: Opening) -> IkeRecord
+    ensures { λ r. ⌜ r ≡ ikeOf o ⌝ }
+{
+    let agreed = o.agreed;
+    let pair = o.pair;
+    new_ike(o.spi, agreed, pair)
+}
+
+pub fn child_of(o: Opening) -> IpsecRecord
+    ensures { λ r. ⌜ r ≡ childOf o ⌝ }
+{
+    let given = o.pair;
+    IpsecRecord {
+        spi: o.child,
+        owner: o.spi,
+        pair: given,
+    }
+}
+
+// Opening both in a list of `size`: of each record, the lowest place with its SPI and the lowest free one.
+pub fn both_opening(
+    size: usize,
+    o: Opening,
+    taken: usize,
+    free: usize,
+    child_taken: usize,
+    child_free: usize,
+) -> BothChange
+    ensures { λ r. ⌜ r ≡ bothOpening size o taken free «child_taken» «child_free» ⌝ }
+{
+    let fits = opening_fits(size, o);
+    let number = both_number(
+        fits,
+        taken < 32,
+        child_taken < size,
+        free < 32,
+        child_free < size,
+    );
+    BothChange {
         number,
         place: place_if(number, free, 32),
-        entry,
+        entry: ike_of(o),
+        child_place: place_if(number, child_free, size),
+        child: child_of(o),
     }
 }
 

@@ -1,14 +1,21 @@
 // IKE records: a new one, a closed one, and what a request changes in one.
 use address::address::Address;
 use address::pair::Pair;
+use octets::flag::zero_or_one;
 ghost use mathlib.Core.Path.{_≡_};
-ghost use Rattle.tables.specs.Records.{newIke, noIke, marksIn, remarked, relisted};
+ghost use Rattle.tables.specs.Records.{settled, newIke, noIke, marksIn, remarked, relisted};
+
+// What is agreed when a record is opened; no request changes it. Yes or no is an octet, 0 or any other.
+#[repr(C)]
+pub struct Agreed {
+    pub mobike: u8,
+}
 
 // A place is free when its SPI is 0. A mark is the least message ID that exceeds it: 0 for none, and the ID and one for an ID.
 #[repr(C)]
 pub struct IkeRecord {
     pub spi: u64,
-    pub mobike: bool,
+    pub agreed: Agreed,
     pub pair: Pair,
     pub update_mark: u64,
     pub list_mark: u64,
@@ -20,15 +27,24 @@ pub struct IkeRecord {
 // What a request is decided by in its record, and changes there whether it moves or not. Decisions go by these alone, so that a request
 // does not carry the record's list about.
 pub struct Marks {
-    pub mobike: bool,
+    pub agreed: Agreed,
     pub update_mark: u64,
     pub list_mark: u64,
     pub unknown: u32,
 }
 
+// As it is stored.
+pub fn settle(given: Agreed) -> Agreed
+    ensures { λ r. ⌜ r ≡ settled given ⌝ }
+{
+    Agreed {
+        mobike: zero_or_one(given.mobike),
+    }
+}
+
 // A record with no marks, an empty list and no tally.
-pub fn new_ike(spi: u64, mobike: bool, pair: Pair) -> IkeRecord
-    ensures { λ r. ⌜ r ≡ newIke spi mobike pair ⌝ }
+pub fn new_ike(spi: u64, agreed: Agreed, pair: Pair) -> IkeRecord
+    ensures { λ r. ⌜ r ≡ newIke spi agreed pair ⌝ }
 {
     let none = Address {
         family: 0,
@@ -36,7 +52,7 @@ pub fn new_ike(spi: u64, mobike: bool, pair: Pair) -> IkeRecord
     };
     IkeRecord {
         spi,
-        mobike,
+        agreed: settle(agreed),
         pair,
         update_mark: 0,
         list_mark: 0,
@@ -57,14 +73,16 @@ pub fn no_ike() -> IkeRecord
         source_port: 0,
         destination_port: 0,
     };
-    new_ike(0, false, pair)
+    let agreed = Agreed { mobike: 0 };
+    new_ike(0, agreed, pair)
 }
 
 pub fn marks_of(entry: IkeRecord) -> Marks
     ensures { λ r. ⌜ r ≡ marksIn entry ⌝ }
 {
+    let agreed = entry.agreed;
     Marks {
-        mobike: entry.mobike,
+        agreed,
         update_mark: entry.update_mark,
         list_mark: entry.list_mark,
         unknown: entry.unknown,

@@ -1,5 +1,5 @@
 //! The tables and the policy of one gateway, owned together.
-use crate::layout::{IkeRecord, IpsecRecord, Pair, Policy, Reply, Rule};
+use crate::layout::{IkeRecord, IpsecRecord, Opening, Pair, Policy, Reply, Rule};
 use crate::{Number, Request};
 
 /// A gateway's tables and policy, empty at first. A host that keeps them elsewhere lends them to the
@@ -24,9 +24,9 @@ impl Gateway {
         }
     }
 
-    /// As [`open_ike`](crate::open_ike).
-    pub fn open_ike(&mut self, spi: u64, mobike: bool, pair: &Pair) -> Number {
-        crate::open_ike(&mut self.ike, spi, mobike, pair)
+    /// As [`open`](crate::open).
+    pub fn open(&mut self, opening: &Opening) -> Number {
+        crate::open(&mut self.ike, &mut self.ipsec[..], opening)
     }
 
     /// As [`open_ipsec`](crate::open_ipsec).

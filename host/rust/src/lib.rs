@@ -14,13 +14,15 @@
 //! A whole exchange, from the initiator's update to what it makes of the response:
 //!
 //! ```
-//! use unmavreth::{assess, write, Ask, Draft, Effect, Gateway, Number, Outcome, Pair, Request, Rule};
+//! use unmavreth::{assess, write, Agreed, Ask, Draft, Effect, Gateway, Number, Opening, Outcome, Pair};
+//! use unmavreth::{Request, Rule};
 //!
 //! // The responder's end: one IKE SA with one IPsec SA, and where peers may move to.
 //! let old = Pair::ipv4(([203, 0, 113, 5], 4500), ([192, 0, 2, 1], 4500));
 //! let mut gateway = Gateway::new();
-//! assert_eq!(gateway.open_ike(7, true, &old), Number::Done);
-//! assert_eq!(gateway.open_ipsec(70, 7), Number::Done);
+//! let agreed = Agreed { mobike: true.into() };
+//! let opening = Opening { spi: 7, agreed, pair: old, child: 70 };
+//! assert_eq!(gateway.open(&opening), Number::Done);
 //! let rule = Rule::ipv4(([198, 51, 100, 0], 24), ([192, 0, 2, 0], 24));
 //! assert_eq!(gateway.set_policy(&[rule]), Number::Done);
 //!
@@ -68,11 +70,11 @@ mod responder;
 pub use gateway::Gateway;
 pub use initiator::{assess, write, Draft};
 pub use layout::{
-    Address, Ask, Assessment, Flag, IkeRecord, IpsecRecord, Pair, Places, Policy, Reading, Reply,
-    Rule, Seen, Tally, Written,
+    Address, Agreed, Ask, Assessment, Flag, IkeRecord, IpsecRecord, Opening, Pair, Places, Policy,
+    Reading, Reply, Rule, Seen, Tally, Written,
 };
 pub use numbers::{Effect, Number, Outcome};
 pub use policy::{acceptable, set_policy};
 pub use reader::{addresses, cookie, no_nats, read};
-pub use records::{close_ike, close_ipsec, open_ike, open_ipsec};
+pub use records::{close_ike, close_ipsec, open, open_ipsec};
 pub use responder::{handle, Request};

@@ -1,8 +1,8 @@
 //! The C interface of `libhost.a`. A start and a count are those of memory that the caller lends for
 //! the call; nothing lent for writing may overlap anything else that is lent.
 use crate::layout::{
-    AddressList, Ask, Assessment, IkeRecord, IpsecRecord, Pair, Part, Policy, Reading, Reply, Rule,
-    Seen, Written,
+    AddressList, Ask, Assessment, IkeRecord, IpsecRecord, Opening, Pair, Part, Policy, Reading,
+    Reply, Rule, Seen, Written,
 };
 
 extern "C" {
@@ -43,11 +43,11 @@ extern "C" {
         out_octets: usize,
     ) -> Written;
 
-    pub(crate) fn unmavreth_open_ike(
+    pub(crate) fn unmavreth_open(
         ike: *mut [IkeRecord; 32],
-        spi: u64,
-        mobike: bool,
-        pair: Pair,
+        ipsec: *mut IpsecRecord,
+        records: usize,
+        opening: Opening,
     ) -> u8;
 
     pub(crate) fn unmavreth_open_ipsec(

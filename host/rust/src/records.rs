@@ -1,19 +1,23 @@
 //! The table calls, on lent tables that are changed in place.
-use crate::layout::{IkeRecord, IpsecRecord, Pair};
+use crate::layout::{IkeRecord, IpsecRecord, Opening};
 use crate::{raw, Number};
 
-/// Opens an IKE record at the lowest free place: no marks, no additional addresses, tally 0.
+/// Opens an IKE record and its first IPsec record: both, each at the lowest free place of its table, or
+/// neither. The IKE record has no marks, no additional addresses and tally 0, and owns the IPsec record,
+/// which has the same pair.
 ///
-/// Numbers, in the order of the checks: [`BadArgument`](Number::BadArgument) for an SPI of 0 or a pair
-/// that isn't one of its family, [`SpiInUse`](Number::SpiInUse), [`Full`](Number::Full),
-/// [`Done`](Number::Done). A refusal leaves the table.
+/// Numbers, in the order of the checks: [`BadArgument`](Number::BadArgument) for a list not of 128
+/// records, an SPI of 0 or a pair that isn't one of its family; [`SpiInUse`](Number::SpiInUse) for the
+/// IKE record, then for the IPsec record; [`Full`](Number::Full) likewise; [`Done`](Number::Done). A
+/// refusal leaves both tables.
 #[inline]
-pub fn open_ike(ike: &mut [IkeRecord; 32], spi: u64, mobike: bool, pair: &Pair) -> Number {
-    // SAFETY: the table is lent for the call and to nothing else; the rest goes by value.
-    unsafe { raw::unmavreth_open_ike(ike, spi, mobike, *pair) }.into()
+pub fn open(ike: &mut [IkeRecord; 32], ipsec: &mut [IpsecRecord], opening: &Opening) -> Number {
+    // SAFETY: both tables are lent for the call and to nothing else, the count is that of the slice, and
+    // the opening goes by value; any may be given.
+    unsafe { raw::unmavreth_open(ike, ipsec.as_mut_ptr(), ipsec.len(), *opening) }.into()
 }
 
-/// Opens an IPsec record at the lowest free place, with the pair of the IKE record that owns it.
+/// Opens a further IPsec record at the lowest free place, with the pair of the IKE record that owns it.
 ///
 /// Numbers, in the order of the checks: [`BadArgument`](Number::BadArgument) for a list not of 128
 /// records or an SPI of 0, [`NoSuchRecord`](Number::NoSuchRecord) for the owner,

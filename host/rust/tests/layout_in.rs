@@ -3,8 +3,8 @@
 mod common;
 use common::*;
 use unmavreth::{
-    acceptable, addresses, no_nats, write, Address, Ask, Draft, Effect, Flag, Number, Pair, Policy,
-    Rule, Seen,
+    acceptable, addresses, no_nats, write, Address, Agreed, Ask, Draft, Effect, Flag, Gateway,
+    IkeRecord, IpsecRecord, Number, Opening, Pair, Policy, Rule, Seen,
 };
 
 /// Octets that are all different.
@@ -138,7 +138,7 @@ fn what_was_seen_is_given_back() {
 #[test]
 fn each_field_of_a_record_matters() {
     let both = chain(&[notify(UPDATE, &[]), notify(NO_ADDITIONAL, &[]), bare(200)]);
-    let told = |change: fn(&mut unmavreth::IkeRecord)| {
+    let told = |change: fn(&mut IkeRecord)| {
         let mut gateway = gateway();
         change(&mut gateway.ike[0]);
         let reply = gateway.handle(&unmavreth::Request { id: 5, ..request(&both) }, &mut [0; 128]);
@@ -151,6 +151,29 @@ fn each_field_of_a_record_matters() {
     assert_eq!(told(|record| record.list_mark = 6), (done, applied, stale, 1));
     assert_eq!(told(|record| record.unknown = 0x0102_0304).3, 0x0102_0305);
     assert_eq!(told(|record| record.unknown = u32::MAX).3, u32::MAX);
-    assert_eq!(told(|record| record.mobike = Flag::NO).0, Number::MobikeNotAgreed);
+    assert_eq!(told(|record| record.agreed.mobike = Flag::NO).0, Number::MobikeNotAgreed);
     assert_eq!(told(|record| record.spi = 1 << 40).0, Number::NoSuchRecord);
+}
+
+#[test]
+fn each_field_of_an_opening_is_kept() {
+    let opened = |opening| {
+        let mut gateway = Gateway::new();
+        assert_eq!(gateway.open(&opening), Number::Done);
+        (gateway.ike[0], gateway.ipsec[0])
+    };
+    let opening = Opening { spi: 7, agreed: Agreed::NONE, pair: OLD, child: 70 };
+    let ike = IkeRecord { spi: 7, pair: OLD, ..IkeRecord::FREE };
+    let ipsec = IpsecRecord { spi: 70, owner: 7, pair: OLD };
+    assert_eq!(opened(opening), (ike, ipsec));
+    let spi = 0x0102_0304_0506_0708;
+    let both = (IkeRecord { spi, ..ike }, IpsecRecord { owner: spi, ..ipsec });
+    assert_eq!(opened(Opening { spi, ..opening }), both);
+    let agreed = Agreed { mobike: Flag::YES };
+    assert_eq!(opened(Opening { agreed, ..opening }), (IkeRecord { agreed, ..ike }, ipsec));
+    let pair = Pair::ipv6((octets(1), 0x1234), (octets(101), 0x5678));
+    let both = (IkeRecord { pair, ..ike }, IpsecRecord { pair, ..ipsec });
+    assert_eq!(opened(Opening { pair, ..opening }), both);
+    let child = 0x1122_3344;
+    assert_eq!(opened(Opening { child, ..opening }), (ike, IpsecRecord { spi: child, ..ipsec }));
 }

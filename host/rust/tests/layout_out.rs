@@ -2,8 +2,8 @@
 mod common;
 use common::*;
 use unmavreth::{
-    assess, read, Address, Effect, Flag, IkeRecord, IpsecRecord, Number, Outcome, Pair, Places,
-    Request, Seen, Tally,
+    assess, read, Address, Agreed, Effect, Flag, IkeRecord, IpsecRecord, Number, Opening, Outcome,
+    Pair, Places, Request, Seen, Tally,
 };
 
 /// A chain with every kind of notification that may stand together, errors and unknown ones.
@@ -118,7 +118,7 @@ fn every_field_of_a_record_and_a_reply() {
     assert_eq!(reply.cookie(&came.1), COOKIE);
     let record = IkeRecord {
         spi: 7,
-        mobike: Flag::YES,
+        agreed: Agreed { mobike: Flag::YES },
         pair: NEW,
         update_mark: 0x0a0b_0c0e,
         list_mark: 0x0a0b_0c0e,
@@ -159,15 +159,43 @@ fn the_two_marks_are_told_apart() {
 }
 
 #[test]
-fn every_field_of_an_opened_record() {
+fn every_field_of_opened_records() {
     let mut gateway = gateway();
+    let mut expected = gateway.clone();
     let pair = Pair::ipv6(([1; 16], 2), ([3; 16], 4));
-    assert_eq!(gateway.open_ike(0x0102_0304_0506_0708, true, &pair), Number::Done);
-    let opened =
-        IkeRecord { spi: 0x0102_0304_0506_0708, mobike: Flag::YES, pair, ..IkeRecord::FREE };
-    assert_eq!(gateway.ike[2], opened);
-    assert_eq!(gateway.open_ipsec(0x1122_3344, opened.spi), Number::Done);
-    assert_eq!(gateway.ipsec[2], IpsecRecord { spi: 0x1122_3344, owner: opened.spi, pair });
+    let owner = 0x0102_0304_0506_0708;
+    let agreed = Agreed { mobike: Flag::YES };
+    let opening = Opening { spi: owner, agreed, pair, child: 0x1122_3344 };
+    assert_eq!(gateway.open(&opening), Number::Done);
+    expected.ike[2] = IkeRecord { spi: owner, agreed, pair, ..IkeRecord::FREE };
+    expected.ipsec[2] = IpsecRecord { spi: 0x1122_3344, owner, pair };
+    assert_eq!(gateway, expected);
+    assert_eq!(gateway.open_ipsec(0x5566_7788, owner), Number::Done);
+    expected.ipsec[3] = IpsecRecord { spi: 0x5566_7788, owner, pair };
+    assert_eq!(gateway, expected);
+}
+
+/// Each table has its own, and nothing of what stood there stays: an SPI of 0 is all that makes it free.
+#[test]
+fn the_lowest_free_places_are_opened() {
+    let mut gateway = gateway();
+    let mut expected = gateway.clone();
+    gateway.ike[0] = IkeRecord {
+        spi: 0,
+        agreed: Agreed { mobike: Flag::YES },
+        pair: OLD,
+        update_mark: 5,
+        list_mark: 6,
+        count: 16,
+        addresses: [Address::ipv4([10, 0, 0, 1]); 16],
+        unknown: 7,
+    };
+    gateway.ipsec[1].spi = 0;
+    let agreed = Agreed { mobike: Flag::NO };
+    assert_eq!(gateway.open(&Opening { agreed, ..OPENING }), Number::Done);
+    expected.ike[0] = IkeRecord { spi: 9, agreed, pair: NEW, ..IkeRecord::FREE };
+    expected.ipsec[1] = IpsecRecord { spi: 90, owner: 9, pair: NEW };
+    assert_eq!(gateway, expected);
 }
 
 #[test]

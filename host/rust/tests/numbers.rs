@@ -2,8 +2,9 @@
 mod common;
 use common::*;
 use unmavreth::{
-    assess, close_ike, close_ipsec, handle, open_ipsec, read, set_policy, write, Address, Ask,
-    Draft, Effect, Gateway, IpsecRecord, Number, Outcome, Pair, Policy, Request, Rule,
+    assess, close_ike, close_ipsec, handle, open, open_ipsec, read, set_policy, write, Address,
+    Agreed, Ask, Draft, Effect, Flag, Gateway, IpsecRecord, Number, Opening, Outcome, Pair, Policy,
+    Request, Rule,
 };
 
 /// A pair with a tail after its IPv4 address, one of a family that isn't known, and none.
@@ -33,26 +34,121 @@ fn reading() {
     assert_eq!(read(200, &[0, 0x80, 0, 4]).number(), Number::UnknownCritical);
 }
 
-#[test]
-fn opening_an_ike_record() {
+/// As `gateway`, with every place of the IKE table in use, and of the IPsec list not.
+fn with_full_table() -> Gateway {
     let mut gateway = gateway();
-    let before = gateway.clone();
-    assert_eq!(gateway.open_ike(0, true, &NEW), Number::BadArgument);
-    for bad in bad_pairs() {
-        assert_eq!(gateway.open_ike(9, true, &bad), Number::BadArgument);
-    }
-    assert_eq!(gateway.open_ike(8, true, &NEW), Number::SpiInUse);
-    assert_eq!(gateway, before);
     for spi in 101..131 {
-        assert_eq!(gateway.open_ike(spi, false, &NEW), Number::Done);
+        let opening = Opening { spi, child: spi as u32, ..OPENING };
+        assert_eq!(gateway.open(&opening), Number::Done);
     }
-    let before = gateway.clone();
-    assert_eq!(gateway.open_ike(9, true, &NEW), Number::Full);
-    assert_eq!(gateway, before);
+    gateway
+}
+
+/// With every place of the IPsec list in use, and the IKE table as it was.
+fn with_full_list(mut gateway: Gateway) -> Gateway {
+    let free = gateway.ipsec.iter().filter(|record| record.spi == 0).count();
+    for spi in (201..).take(free) {
+        assert_eq!(gateway.open_ipsec(spi, 8), Number::Done);
+    }
+    gateway
+}
+
+/// The opening comes to this number, and neither record is opened.
+fn opens_neither(gateway: &Gateway, opening: Opening, number: Number) {
+    let mut after = gateway.clone();
+    assert_eq!(after.open(&opening), number);
+    assert_eq!(after, *gateway);
 }
 
 #[test]
-fn opening_an_ipsec_record() {
+fn opening_both() {
+    let mut gateway = gateway();
+    opens_neither(&gateway, Opening { spi: 0, ..OPENING }, Number::BadArgument);
+    opens_neither(&gateway, Opening { child: 0, ..OPENING }, Number::BadArgument);
+    for pair in bad_pairs() {
+        opens_neither(&gateway, Opening { pair, ..OPENING }, Number::BadArgument);
+    }
+    opens_neither(&gateway, Opening { spi: 8, ..OPENING }, Number::SpiInUse);
+    opens_neither(&gateway, Opening { child: 80, ..OPENING }, Number::SpiInUse);
+    assert_eq!(gateway.open(&OPENING), Number::Done);
+    opens_neither(&gateway, OPENING, Number::SpiInUse);
+}
+
+#[test]
+fn opening_both_without_a_free_place() {
+    let mut gateway = with_full_table();
+    opens_neither(&gateway, OPENING, Number::Full);
+    opens_neither(&with_full_list(gateway.clone()), OPENING, Number::Full);
+    assert_eq!(gateway.close_ike(101), Number::Done);
+    assert_eq!(gateway.open(&OPENING), Number::Done);
+    let mut gateway = with_full_list(common::gateway());
+    opens_neither(&gateway, OPENING, Number::Full);
+    assert_eq!(gateway.close_ipsec(201), Number::Done);
+    assert_eq!(gateway.open(&OPENING), Number::Done);
+}
+
+#[test]
+fn opening_both_checks_in_order() {
+    let full_list = with_full_list(gateway());
+    let full = with_full_list(with_full_table());
+    for gateway in [gateway(), with_full_table(), full_list, full] {
+        let in_use = Opening { spi: 8, child: 80, ..OPENING };
+        opens_neither(&gateway, Opening { spi: 0, ..in_use }, Number::BadArgument);
+        opens_neither(&gateway, Opening { child: 0, ..in_use }, Number::BadArgument);
+        opens_neither(&gateway, Opening { pair: Pair::NONE, ..in_use }, Number::BadArgument);
+        opens_neither(&gateway, Opening { spi: 8, ..OPENING }, Number::SpiInUse);
+        opens_neither(&gateway, Opening { child: 80, ..OPENING }, Number::SpiInUse);
+        opens_neither(&gateway, in_use, Number::SpiInUse);
+    }
+}
+
+/// A flag of any octet, as memory that a host lends may hold.
+fn flag(octet: u8) -> Flag {
+    // SAFETY: a flag is an octet, and any is allowed.
+    unsafe { std::mem::transmute(octet) }
+}
+
+#[test]
+fn any_octet_but_0_is_yes() {
+    let came = chain(&[notify(UPDATE, &[])]);
+    for octet in 0..=255 {
+        let (is_set, given) = (octet != 0, Agreed { mobike: flag(octet) });
+        assert_eq!(given.mobike.is_set(), is_set);
+        let mut gateway = gateway();
+        assert_eq!(gateway.open(&Opening { agreed: given, ..OPENING }), Number::Done);
+        assert_eq!(gateway.ike[2].agreed, Agreed { mobike: is_set.into() });
+        let number = if is_set { Number::Done } else { Number::MobikeNotAgreed };
+        let request = Request { spi: 9, ..request(&came) };
+        assert_eq!(gateway.handle(&request, &mut [0; 128]).number(), number);
+    }
+}
+
+#[test]
+fn a_record_keeps_what_is_agreed() {
+    let came = chain(&[notify(UPDATE, &[]), notify(NO_ADDITIONAL, &[])]);
+    for octet in [1, 2, 255] {
+        let agreed = Agreed { mobike: flag(octet) };
+        let mut gateway = gateway();
+        gateway.ike[0].agreed = agreed;
+        let reply = gateway.handle(&request(&came), &mut [0; 128]);
+        assert_eq!((reply.number(), reply.update()), (Number::Done, Effect::Applied));
+        assert_eq!(gateway.open(&OPENING), Number::Done);
+        assert_eq!(gateway.close_ike(8), Number::Done);
+        assert_eq!((gateway.ike[0].pair, gateway.ike[0].agreed), (NEW, agreed));
+        assert_eq!(gateway.close_ike(7), Number::Done);
+        assert_eq!(gateway.ike[0].agreed, Agreed::NONE);
+    }
+}
+
+#[test]
+fn an_spi_is_in_use_in_its_own_table_only() {
+    let mut gateway = gateway();
+    assert_eq!(gateway.open(&Opening { spi: 80, child: 8, ..OPENING }), Number::Done);
+    assert_eq!(gateway.open(&Opening { spi: 1 << 32 | 7, child: 7, ..OPENING }), Number::Done);
+}
+
+#[test]
+fn opening_a_further_ipsec_record() {
     let mut gateway = gateway();
     let before = gateway.clone();
     assert_eq!(gateway.open_ipsec(0, 7), Number::BadArgument);
@@ -60,9 +156,7 @@ fn opening_an_ipsec_record() {
     assert_eq!(gateway.open_ipsec(1, 9), Number::NoSuchRecord);
     assert_eq!(gateway.open_ipsec(80, 7), Number::SpiInUse);
     assert_eq!(gateway, before);
-    for spi in 101..227 {
-        assert_eq!(gateway.open_ipsec(spi, 8), Number::Done);
-    }
+    let mut gateway = with_full_list(common::gateway());
     let before = gateway.clone();
     assert_eq!(gateway.open_ipsec(1, 7), Number::Full);
     assert_eq!(gateway, before);
@@ -91,6 +185,10 @@ fn a_list_of_another_length_than_128() {
     for length in [0, 127, 129] {
         let mut list: Vec<IpsecRecord> = ipsec.iter().copied().cycle().take(length).collect();
         let kept = list.clone();
+        let in_use = Opening { spi: 7, child: 70, ..OPENING };
+        for opening in [OPENING, in_use] {
+            assert_eq!(open(&mut ike, &mut list, &opening), Number::BadArgument);
+        }
         assert_eq!(open_ipsec(&ike, &mut list, 1, 7), Number::BadArgument);
         assert_eq!(close_ike(&mut ike, &mut list, 7), Number::BadArgument);
         assert_eq!(close_ipsec(&mut list, 70), Number::BadArgument);

@@ -1,7 +1,10 @@
 //! A yes or no inside a struct that the library writes.
 
-/// A `bool` of the C interface, held as an octet: whatever octet comes back may be looked at, and
-/// only 0 and 1 can be made here, which is what the library may be given.
+/// A yes or no of the C interface, held as an octet: 0 is no and any other yes, so that whatever octet
+/// stands there may be looked at. Flags are equal if their octets are.
+///
+/// Only 0 and 1 can be made here, and the library makes no others; where C has a `bool`, as in
+/// [`Seen`](crate::Seen), it may be given no others.
 #[repr(transparent)]
 #[derive(Debug, Clone, Copy, Default, PartialEq, Eq)]
 pub struct Flag(u8);

@@ -27,4 +27,4 @@ pub use answers::{Assessment, Reply, Written};
 pub use chain::{Ask, Places, Reading, Seen, Tally};
 pub use flag::Flag;
 pub use rules::{Policy, Rule};
-pub use tables::{IkeRecord, IpsecRecord};
+pub use tables::{Agreed, IkeRecord, IpsecRecord, Opening};

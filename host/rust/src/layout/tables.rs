@@ -1,5 +1,13 @@
-//! The records that are lent to the library and changed in place.
+//! The records that are lent to the library and changed in place, and what they are opened with.
 use super::{Address, Flag, Pair};
+
+/// What is agreed when an IKE record is opened; it stays until the record is closed.
+#[repr(C)]
+#[derive(Debug, Clone, Copy, Default, PartialEq, Eq)]
+pub struct Agreed {
+    /// Whether MOBIKE was agreed.
+    pub mobike: Flag,
+}
 
 /// An IKE record. The table has 32 places, and a place is free while its SPI is 0.
 #[repr(C)]
@@ -7,8 +15,8 @@ use super::{Address, Flag, Pair};
 pub struct IkeRecord {
     /// The gateway's SPI; 0 for a free place.
     pub spi: u64,
-    /// Whether MOBIKE was agreed.
-    pub mobike: Flag,
+    /// What is agreed with the peer.
+    pub agreed: Agreed,
     /// Where the peer is.
     pub pair: Pair,
     /// The least message ID whose update isn't stale: 0 before the first, then the last ID and one.
@@ -35,16 +43,37 @@ pub struct IpsecRecord {
     pub pair: Pair,
 }
 
+/// An IKE record to open and its first IPsec record, as IKE_AUTH makes them together.
+#[repr(C)]
+#[derive(Debug, Clone, Copy, Default, PartialEq, Eq)]
+pub struct Opening {
+    /// The SPI of the IKE record.
+    pub spi: u64,
+    /// What is agreed with the peer.
+    pub agreed: Agreed,
+    /// Where the peer is: the pair of both records.
+    pub pair: Pair,
+    /// The SPI of the IPsec record.
+    pub child: u32,
+}
+
+laid_out!(Agreed, size 1, align 1, { mobike: 0 });
 laid_out!(IkeRecord, size 344, align 8, {
-    spi: 0, mobike: 8, pair: 10, update_mark: 48, list_mark: 56, count: 64, addresses: 66, unknown: 340,
+    spi: 0, agreed: 8, pair: 10, update_mark: 48, list_mark: 56, count: 64, addresses: 66, unknown: 340,
 });
 laid_out!(IpsecRecord, size 56, align 8, { spi: 0, owner: 8, pair: 16 });
+laid_out!(Opening, size 56, align 8, { spi: 0, agreed: 8, pair: 10, child: 48 });
+
+impl Agreed {
+    /// Nothing is agreed, as in a place that is free.
+    pub const NONE: Agreed = Agreed { mobike: Flag::NO };
+}
 
 impl IkeRecord {
     /// A free place. A gateway begins with 32 of these.
     pub const FREE: IkeRecord = IkeRecord {
         spi: 0,
-        mobike: Flag::NO,
+        agreed: Agreed::NONE,
         pair: Pair::NONE,
         update_mark: 0,
         list_mark: 0,

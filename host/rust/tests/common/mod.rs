@@ -1,6 +1,6 @@
 //! Payload chains, addresses and tables that the tests share.
 #![allow(dead_code)]
-use unmavreth::{Gateway, Number, Pair, Request, Rule};
+use unmavreth::{Agreed, Flag, Gateway, Number, Opening, Pair, Request, Rule};
 
 pub const NAT_SOURCE: u16 = 16388;
 pub const NAT_DESTINATION: u16 = 16389;
@@ -15,6 +15,10 @@ pub const OLD: Pair = Pair::ipv4(([203, 0, 113, 5], 500), ([192, 0, 2, 1], 501))
 pub const NEW: Pair = Pair::ipv4(([198, 51, 100, 7], 4500), ([192, 0, 2, 1], 4501));
 pub const RULE: Rule = Rule::ipv4(([198, 51, 100, 0], 24), ([192, 0, 2, 0], 24));
 pub const COOKIE: [u8; 9] = [1, 2, 3, 4, 5, 6, 7, 8, 9];
+pub const AGREED: Agreed = Agreed { mobike: Flag::YES };
+
+/// An opening with nothing wrong in it, beside the records of `gateway`.
+pub const OPENING: Opening = Opening { spi: 9, agreed: AGREED, pair: NEW, child: 90 };
 
 /// The lent NAT detection values.
 pub const VALUES: [[u8; 20]; 2] = [[0x51; 20], [0x52; 20]];
@@ -42,14 +46,14 @@ pub fn chain(payloads: &[Payload]) -> (u8, Vec<u8>) {
     (kinds[0], body)
 }
 
-/// One IKE record, with SPI 7 and the old pair, that agreed on MOBIKE; an IPsec record of it, with SPI
-/// 70; another IKE record, with SPI 8, that didn't agree; and one rule.
+/// One IKE record, with SPI 7 and the old pair, that agreed on MOBIKE, and an IPsec record of it, with
+/// SPI 70; another IKE record, with SPI 8, that didn't agree, and its IPsec record 80; and one rule.
 pub fn gateway() -> Gateway {
     let mut gateway = Gateway::new();
-    assert_eq!(gateway.open_ike(7, true, &OLD), Number::Done);
-    assert_eq!(gateway.open_ike(8, false, &OLD), Number::Done);
-    assert_eq!(gateway.open_ipsec(70, 7), Number::Done);
-    assert_eq!(gateway.open_ipsec(80, 8), Number::Done);
+    let first = Opening { spi: 7, agreed: AGREED, pair: OLD, child: 70 };
+    assert_eq!(gateway.open(&first), Number::Done);
+    let other = Opening { spi: 8, agreed: Agreed::NONE, pair: OLD, child: 80 };
+    assert_eq!(gateway.open(&other), Number::Done);
     assert_eq!(gateway.set_policy(&[RULE]), Number::Done);
     gateway
 }

@@ -52,7 +52,7 @@ pub fn requests(rng: &mut Rng, tables: &mut Tables) -> Vec<Request> {
 
 fn source(rng: &mut Rng, tables: &mut Tables, spi: u64) -> Source {
     if !rng.one_in(16) {
-        starts::agree(tables, spi);
+        starts::agree(rng, tables, spi);
     }
     let place = find(&tables.ike.records, spi, Faults::NONE);
     let marks = place.map_or([0; 2], |place| {

@@ -108,19 +108,8 @@ fn no_nats(rng: &mut Rng, pair: &AddressPair, old: &AddressPair) -> Vec<u8> {
         }
         2 => told = no_nats_data(old),
         3 => told = no_nats_data(&AddressPair { family: 10 - pair.family.clamp(4, 6), ..*pair }),
-        4 => told = no_nats_data(&swapped(pair)),
+        4 => told = no_nats_data(&pair.swapped()),
         _ => {}
     }
     told
-}
-
-/// The pair as in a packet to the peer.
-pub fn swapped(pair: &AddressPair) -> AddressPair {
-    AddressPair {
-        family: pair.family,
-        source: pair.destination,
-        destination: pair.source,
-        source_port: pair.destination_port,
-        destination_port: pair.source_port,
-    }
 }

@@ -34,7 +34,7 @@ fn random(rng: &mut Rng) -> Case {
     let mut tables = starts::tables(rng);
     let spi = arguments::spi(rng, &tables);
     if rng.one_in(2) {
-        starts::agree(&mut tables, spi);
+        starts::agree(rng, &mut tables, spi);
     }
     let request = arguments::request(rng, &tables, spi);
     lengths::vary(rng, &mut tables);
@@ -47,6 +47,7 @@ mod tests {
     use crate::cases::seeded::met;
     use crate::faults::Faults;
     use crate::handler::handle;
+    use crate::tables::find;
 
     #[test]
     fn random_cases_meet_every_answer_often() {
@@ -57,5 +58,20 @@ mod tests {
             let reply = handle(&request, &mut tables, Faults::NONE).reply;
             (reply.number, reply.update, reply.list)
         });
+    }
+
+    #[test]
+    fn random_cases_are_done_often_whatever_octet_says_yes() {
+        let met = met::answers(5_000, |Case { mut tables, request }| {
+            let place = find(&tables.ike.records, request.spi, Faults::NONE);
+            let octet = place.map(|place| tables.ike.records[place].agreed.mobike.min(2));
+            let reply = handle(&request, &mut tables, Faults::NONE).reply;
+            (octet, reply.number, reply.update)
+        });
+        for octet in [1, 2] {
+            let told = [(0, 0), (0, 1), (0, 2), (8, 0), (9, 0)];
+            let often = |(number, update)| met[&(Some(octet), number, update)] > 20;
+            assert!(told.into_iter().all(often), "{met:?}");
+        }
     }
 }

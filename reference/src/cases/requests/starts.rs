@@ -1,6 +1,6 @@
 // The tables that random requests are made on; their policies accept nothing, some pairs or all.
-use super::super::tables::pairs;
 use super::super::tables::shapes::Shape;
+use super::super::tables::{agreements, pairs};
 use crate::faults::Faults;
 use crate::policy::{Policy, Rule};
 use crate::rng::Rng;
@@ -39,9 +39,11 @@ pub fn open(policy: &mut Policy) {
     policy.rules[1] = Rule { family: 6, ..Rule::ZERO };
 }
 
-/// Makes MOBIKE agreed in the record that the SPI means, if there is one.
-pub fn agree(tables: &mut Tables, spi: u64) {
+/// Makes MOBIKE agreed in the record that the SPI means, if there is one and it isn't yet.
+pub fn agree(rng: &mut Rng, tables: &mut Tables, spi: u64) {
     if let Some(place) = find(&tables.ike.records, spi, Faults::NONE) {
-        tables.ike_mut()[place].mobike = 1;
+        if tables.ike.records[place].agreed.mobike == 0 {
+            tables.ike_mut()[place].agreed.mobike = agreements::yes(rng);
+        }
     }
 }

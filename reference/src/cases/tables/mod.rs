@@ -1,4 +1,5 @@
 // The tables' cases: tables as they may stand, and calls, each made on what the one before left.
+pub(super) mod agreements;
 pub(super) mod lengths;
 pub(super) mod listed;
 pub(super) mod pairs;
@@ -23,7 +24,7 @@ pub struct Case {
 const WEIGHTS: [(usize, Shape); 5] = [
     (1, Shape::Empty),
     (3, Shape::Reached),
-    (2, Shape::Full),
+    (4, Shape::Full),
     (4, Shape::Dense),
     (4, Shape::Hostile),
 ];
@@ -54,13 +55,18 @@ fn random(rng: &mut Rng) -> Case {
 mod tests {
     use super::*;
     use crate::faults::Faults;
+    use crate::opening_both::{failing, Check, ORDER};
     use crate::tables::{find, IkeRecord, IpsecRecord, Record};
     use std::collections::BTreeSet;
+
+    fn random_cases(count: u64) -> impl Iterator<Item = Case> {
+        (0..count).map(|number| random(&mut Rng::from_words(&[number])))
+    }
 
     /// What a call does, and which numbers it may give back.
     fn numbers(call: &Call) -> (&'static str, &'static [u8]) {
         match call {
-            Call::OpenIke { .. } => ("open IKE", &[0, 1, 10, 11]),
+            Call::OpenBoth(_) => ("open both", &[0, 1, 10, 11]),
             Call::OpenIpsec { .. } => ("open IPsec", &[0, 1, 4, 10, 11]),
             Call::CloseIke { .. } => ("close IKE", &[0, 1, 4]),
             Call::CloseIpsec { .. } => ("close IPsec", &[0, 1, 4]),
@@ -71,17 +77,54 @@ mod tests {
 
     #[test]
     fn random_cases_meet_every_number_of_every_call() {
-        let mut met = BTreeSet::new();
-        for number in 0..2_000 {
-            let Case { mut tables, calls } = random(&mut Rng::from_words(&[number]));
+        let (mut met, mut octets) = (BTreeSet::new(), BTreeSet::new());
+        for Case { mut tables, calls } in random_cases(2_000) {
             for call in &calls {
                 let given_back = call.make(&mut tables, Faults::NONE);
                 let (name, allowed) = numbers(call);
                 assert!(allowed.contains(&given_back), "{name} gives back {given_back}");
                 met.insert((name, given_back));
+                if let Call::OpenBoth(opening) = call {
+                    octets.insert((opening.agreed.mobike.min(2), given_back));
+                }
             }
         }
         assert_eq!(met.len(), 4 + 5 + 3 + 3 + 3 + 2);
+        let of_each_octet = 4; // which is 0, 1 or another
+        assert_eq!(octets.len(), 3 * of_each_octet);
+    }
+
+    /// The checks that fail of each call of these cases that opens both.
+    fn failing_sets(cases: impl IntoIterator<Item = Case>) -> Vec<Vec<Check>> {
+        let mut met = Vec::new();
+        for Case { mut tables, calls } in cases {
+            for call in calls {
+                if let Call::OpenBoth(opening) = &call {
+                    met.push(failing(&tables, opening, Faults::NONE));
+                }
+                call.make(&mut tables, Faults::NONE);
+            }
+        }
+        met
+    }
+
+    #[test]
+    fn listed_cases_meet_every_set_of_failing_checks() {
+        let mut sets = failing_sets(listed::all());
+        let of_each_record = 3 * 3; // its SPI is 0, in use, or neither
+        sets.sort_by_key(|set| set.iter().map(|&check| 1_u32 << check as u32).sum::<u32>());
+        sets.dedup();
+        assert_eq!(sets.len(), of_each_record * 2_usize.pow(4));
+    }
+
+    #[test]
+    fn random_cases_open_both_or_fail_by_any_one_check() {
+        let sets = failing_sets(random_cases(5_000));
+        let times = |set: &[Check]| sets.iter().filter(|it| *it == set).count();
+        assert!(times(&[]) > 400, "{}", times(&[]));
+        for check in ORDER {
+            assert!(times(&[check]) > 40, "{check:?}: {}", times(&[check]));
+        }
     }
 
     /// No SPI twice, nothing left in free places, no orphan.

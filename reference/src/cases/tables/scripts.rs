@@ -1,13 +1,14 @@
 // Random calls: up to twelve in a row, each drawn to suit the tables that the one before left.
-use super::{pairs, rules, spis};
+use super::{agreements, pairs, rules, spis};
 use crate::calls::Call;
 use crate::faults::Faults;
+use crate::opening_both::Opening;
 use crate::rng::Rng;
 use crate::tables::{Record, Tables, IKE_PLACES, IPSEC_PLACES};
 
 #[derive(Debug, Clone, Copy)]
 enum Making {
-    OpenIke,
+    OpenBoth,
     OpenIpsec,
     CloseIke,
     CloseIpsec,
@@ -16,7 +17,7 @@ enum Making {
 }
 
 const WEIGHTS: [(usize, Making); 6] = [
-    (4, Making::OpenIke),
+    (6, Making::OpenBoth),
     (5, Making::OpenIpsec),
     (3, Making::CloseIke),
     (3, Making::CloseIpsec),
@@ -40,10 +41,7 @@ pub fn calls(rng: &mut Rng, tables: &Tables) -> Vec<Call> {
 
 fn call(rng: &mut Rng, tables: &Tables) -> Call {
     match rng.pick_weighted(&WEIGHTS) {
-        Making::OpenIke => {
-            let (spi, mobike) = (ike_spi(rng, tables, 1), rng.one_in(2));
-            Call::OpenIke { spi, mobike, pair: pairs::any_pair(rng) }
-        }
+        Making::OpenBoth => Call::OpenBoth(opening(rng, tables)),
         Making::OpenIpsec => {
             Call::OpenIpsec { spi: ipsec_spi(rng, tables, 1), owner: ike_spi(rng, tables, 8) }
         }
@@ -57,10 +55,21 @@ fn call(rng: &mut Rng, tables: &Tables) -> Call {
     }
 }
 
+/// Often one in which nothing is wrong but perhaps for the tables, else any.
+fn opening(rng: &mut Rng, tables: &Tables) -> Opening {
+    let agreed = agreements::any(rng);
+    if rng.one_in(3) {
+        let (spi, child) = (other_ike_spi(rng), other_ipsec_spi(rng));
+        return Opening { spi, agreed, pair: pairs::pair(rng), child };
+    }
+    let (spi, child) = (ike_spi(rng, tables, 1), ipsec_spi(rng, tables, 1));
+    Opening { spi, agreed, pair: pairs::any_pair(rng), child }
+}
+
 /// That of a record as often as `in_use` says, else one of few, one that is hardly in use, or 0.
 pub fn ike_spi(rng: &mut Rng, tables: &Tables, in_use: usize) -> u64 {
     let few = rng.pick(&spis::FEW_IKE);
-    let other = spis::ike(IKE_PLACES + rng.below(4));
+    let other = other_ike_spi(rng);
     let there = spi_in_use(rng, &tables.ike.records).unwrap_or(few);
     rng.pick_weighted(&[(in_use, there), (2, few), (3, other), (1, 0)])
 }
@@ -68,9 +77,18 @@ pub fn ike_spi(rng: &mut Rng, tables: &Tables, in_use: usize) -> u64 {
 /// As `ike_spi`, of the other table.
 fn ipsec_spi(rng: &mut Rng, tables: &Tables, in_use: usize) -> u32 {
     let few = rng.pick(&spis::FEW_IPSEC);
-    let other = spis::ipsec(IPSEC_PLACES + rng.below(4));
+    let other = other_ipsec_spi(rng);
     let there = spi_in_use(rng, &tables.ipsec.records).map_or(few, |spi| spi as u32);
     rng.pick_weighted(&[(in_use, there), (2, few), (3, other), (1, 0)])
+}
+
+/// One of those that are hardly in use.
+fn other_ike_spi(rng: &mut Rng) -> u64 {
+    spis::ike(IKE_PLACES + rng.below(4))
+}
+
+fn other_ipsec_spi(rng: &mut Rng) -> u32 {
+    spis::ipsec(IPSEC_PLACES + rng.below(4))
 }
 
 /// The SPI of some record.

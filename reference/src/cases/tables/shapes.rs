@@ -1,5 +1,5 @@
 // The tables that random cases start from: empty, reached from empty ones, full, dense and hostile.
-use super::{pairs, rules, spis};
+use super::{agreements, pairs, rules, spis};
 use crate::rng::Rng;
 use crate::summary::MAX_KEPT;
 use crate::tables::{IkeRecord, IpsecRecord, Record, Tables, IKE_PLACES, IPSEC_PLACES};
@@ -78,7 +78,7 @@ fn reached_record(rng: &mut Rng, spi: u64) -> IkeRecord {
         return record;
     }
     let count = rng.below(MAX_KEPT + 1);
-    record.mobike = 1;
+    record.agreed.mobike = 1;
     record.update_mark = rng.pick(&MARKS).min(1 << 32);
     record.list_mark = rng.pick(&MARKS).min(1 << 32);
     record.count = count as u16;
@@ -111,7 +111,7 @@ fn unreached(rng: &mut Rng, free_in: usize) -> Tables {
 
 fn any_ike_record(rng: &mut Rng) -> IkeRecord {
     let mut record = IkeRecord { pair: pairs::any_pair(rng), ..IkeRecord::FREE };
-    record.mobike = rng.pick(&[0, 1]);
+    record.agreed = agreements::any(rng);
     record.update_mark = rng.pick(&MARKS);
     record.list_mark = rng.pick(&MARKS);
     record.count = rng.pick(&COUNTS);

@@ -1,15 +1,20 @@
 // The library's table calls: its C interface, which is lent the tables and changes them in place.
 use reference::address::AddressPair;
+use reference::agreed::Agreed;
 use reference::calls::Call;
 use reference::lent::{LentTables, NO_SPI_GIVEN};
 use reference::lent_rules::BetweenRules;
+use reference::opening_both::Opening;
 use reference::policy::{Policy, Rule, RuleList};
 use reference::tables::{IkeRecord, IpsecRecord, Tables};
 use std::mem::{offset_of, size_of};
 
 const _: () = assert!(size_of::<IkeRecord>() == 344 && size_of::<IpsecRecord>() == 56);
-const _: () = assert!(offset_of!(IkeRecord, pair) == 10 && offset_of!(IkeRecord, addresses) == 66);
+const _: () = assert!(offset_of!(IkeRecord, agreed) == 8 && offset_of!(IkeRecord, pair) == 10);
+const _: () = assert!(size_of::<Agreed>() == 1 && offset_of!(IkeRecord, addresses) == 66);
 const _: () = assert!(offset_of!(IpsecRecord, owner) == 8 && offset_of!(IpsecRecord, pair) == 16);
+const _: () = assert!(size_of::<Opening>() == 56 && offset_of!(Opening, agreed) == 8);
+const _: () = assert!(offset_of!(Opening, pair) == 10 && offset_of!(Opening, child) == 48);
 const _: () = assert!(size_of::<Rule>() == 35 && offset_of!(Rule, source_length) == 33);
 const _: () = assert!(size_of::<Policy>() == 562 && offset_of!(Policy, rules) == 2);
 const _: () = assert!(size_of::<RuleList>() == 560);
@@ -17,7 +22,12 @@ const _: () = assert!(size_of::<RuleList>() == 560);
 // Each start of IKE records is that of 32.
 #[link(name = "host", kind = "static")]
 extern "C" {
-    fn unmavreth_open_ike(ike: *mut IkeRecord, spi: u64, mobike: bool, pair: AddressPair) -> u8;
+    fn unmavreth_open(
+        ike: *mut IkeRecord,
+        ipsec: *mut IpsecRecord,
+        ipsec_len: usize,
+        opening: Opening,
+    ) -> u8;
     fn unmavreth_open_ipsec(
         ike: *const IkeRecord,
         ipsec: *mut IpsecRecord,
@@ -53,8 +63,9 @@ pub fn make(call: &Call, tables: &mut Tables) -> (u8, bool) {
 fn spis(call: &Call) -> (u64, u32) {
     let none = u64::from(NO_SPI_GIVEN);
     match *call {
-        Call::OpenIke { spi, .. } | Call::CloseIke { spi } => (spi, NO_SPI_GIVEN),
+        Call::OpenBoth(Opening { spi, child, .. }) => (spi, child),
         Call::OpenIpsec { spi, owner } => (owner, spi),
+        Call::CloseIke { spi } => (spi, NO_SPI_GIVEN),
         Call::CloseIpsec { spi } => (none, spi),
         Call::SetPolicy { .. } | Call::Acceptable { .. } => (none, NO_SPI_GIVEN),
     }
@@ -74,11 +85,11 @@ fn make_on(call: &Call, lent: &mut LentTables, rules: *const RuleList) -> u8 {
     let ipsec = lent.ipsec().as_mut_ptr();
     let policy = lent.policy();
     match *call {
-        Call::OpenIke { spi, mobike, pair } => {
+        Call::OpenBoth(opening) => {
             // SAFETY: each start and length are those of a slice that outlives the call, that of
             // the IKE records has its 32, those of the policy and of the rules are one's, and no two
             // of these overlap; the rest goes by value, and any is allowed.
-            unsafe { unmavreth_open_ike(ike, spi, mobike, pair) }
+            unsafe { unmavreth_open(ike, ipsec, ipsec_length, opening) }
         }
         Call::OpenIpsec { spi, owner } => {
             // SAFETY: as above.

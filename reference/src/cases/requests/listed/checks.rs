@@ -37,7 +37,7 @@ fn choices() -> Vec<Vec<Choice>> {
             on_request(|_| {}),
             on_request(|request| request.spi = 0),
             on_request(move |request| request.spi = absent),
-            Box::new(|case| case.tables.ike_mut()[setting::PLACE].mobike = 0),
+            Box::new(|case| case.tables.ike_mut()[setting::PLACE].agreed.mobike = 0),
         ],
         vec![on_request(|_| {}), on_request(|request| request.pair.family = 5)],
         vec![on_request(|_| {}), on_request(|request| request.nat_source.truncate(19))],

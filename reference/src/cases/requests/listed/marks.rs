@@ -1,6 +1,5 @@
 // Updates and lists with message IDs about the marks, fit or refused: stale comes first.
 use super::super::super::reader::draft::Draft;
-use super::super::chains::swapped;
 use super::setting::{self, cookie, list, packet, request, unknown, update};
 use super::Case;
 use crate::notifications::no_nats_data;
@@ -33,7 +32,7 @@ pub fn all() -> Vec<Case> {
 
 /// Each ID with an update, a list, both, and both where the update isn't fit.
 fn requests() -> Vec<Request> {
-    let altered = no_nats_data(&swapped(&packet(6)));
+    let altered = no_nats_data(&packet(6).swapped());
     let altered = Draft::notify(NotifyType::NO_NATS_ALLOWED, &altered);
     let chains = [
         vec![update(), unknown(), cookie(8)],

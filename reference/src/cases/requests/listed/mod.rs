@@ -1,4 +1,5 @@
 // The requests every run begins with: the papers' rows, each check, mark, list and record.
+mod agreements;
 mod checks;
 mod lengths;
 mod lists;
@@ -23,6 +24,7 @@ pub fn all() -> Vec<Case> {
         responses::all(),
         records::all(),
         lengths::all(),
+        agreements::all(),
     ]
     .concat()
 }

@@ -1,6 +1,5 @@
 // NO_NATS_ALLOWED: equal to the packet's pair, to another one, or off by one bit, with each effect.
 use super::super::super::reader::draft::Draft;
-use super::super::chains::swapped;
 use super::setting::{self, cookie, list, packet, request, update};
 use super::Case;
 use crate::address::AddressPair;
@@ -45,7 +44,7 @@ fn off_by_a_bit(pair: &AddressPair) -> Vec<Vec<u8>> {
 
 /// The pair itself, turned round in whole and in part, of the other family, and of a record.
 fn others(pair: &AddressPair) -> Vec<AddressPair> {
-    let turned = swapped(pair);
+    let turned = pair.swapped();
     let ports = (turned.source_port, turned.destination_port);
     let ports_turned = AddressPair { source_port: ports.0, destination_port: ports.1, ..*pair };
     let AddressPair { source, destination, .. } = turned;

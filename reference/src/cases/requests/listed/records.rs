@@ -1,7 +1,7 @@
 // Which records an update moves: each place, twins, alike SPIs, shared pairs, free places.
 use super::super::super::tables::listed::contents;
 use super::super::super::tables::spis;
-use super::setting::{self, cookie, list, request, unknown, update};
+use super::setting;
 use super::Case;
 use crate::policy::{Policy, Rule};
 use crate::request::Request;
@@ -12,10 +12,8 @@ pub fn all() -> Vec<Case> {
         .concat()
 }
 
-/// A request of which every part has an effect.
 fn moving(spi: u64) -> Request {
-    let payloads = [vec![update(), unknown(), cookie(8)], list(2)].concat();
-    Request { spi, ..request(&payloads) }
+    Request { spi, ..setting::moving() }
 }
 
 /// Tables of which every IKE record is served with any ID.
@@ -49,12 +47,12 @@ fn ipsec_places() -> Vec<Case> {
 fn twins() -> Vec<Case> {
     let mut cases = Vec::new();
     for (low, high) in [(0, 1), (0, 31), (5, 9), (15, 16), (30, 31)] {
-        for agreed in [(0, 0), (0, 1), (1, 0), (1, 1)] {
+        for agreed in [(0, 0), (0, 1), (0, 255), (2, 0), (1, 1)] {
             let mut tables = served();
             let spi = tables.ike.records[low].spi;
             let records = tables.ike_mut();
             records[high].spi = spi;
-            (records[low].mobike, records[high].mobike) = agreed;
+            (records[low].agreed.mobike, records[high].agreed.mobike) = agreed;
             cases.push(Case { tables, request: moving(spi) });
         }
     }

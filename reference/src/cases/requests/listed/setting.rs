@@ -7,7 +7,7 @@ use crate::address::AddressPair;
 use crate::notify::NotifyType;
 use crate::policy::Policy;
 use crate::request::Request;
-use crate::tables::{IkeRecord, Tables};
+use crate::tables::{IkeRecord, Tables, IKE_PLACES};
 
 /// The place of the record that is meant; place 0 has an SPI with the same low 32 bits.
 pub const PLACE: usize = 1;
@@ -74,6 +74,27 @@ pub fn request(payloads: &[Draft]) -> Request {
         body: chain.body,
         output: (0..=255).chain(0..44).collect(),
     }
+}
+
+/// One of which every part has an effect.
+pub fn moving() -> Request {
+    request(&[vec![update(), unknown(), cookie(8)], list(2)].concat())
+}
+
+/// For nothing, of which every part has an effect, without an update, stale, for 8, 6, 7, 4 and 2.
+pub fn each_effect() -> Vec<Request> {
+    let altered = Draft::notify(NotifyType::NO_NATS_ALLOWED, &[1; 36]);
+    vec![
+        request(&[]),
+        moving(),
+        request(&[vec![unknown(), cookie(8)], list(2)].concat()),
+        Request { id: MARKED_ID, ..moving() },
+        request(&[update(), altered, unknown(), cookie(8)]),
+        request(&[update(), cookie(8), update()]),
+        request(&[update(), cookie(8), unknown_critical()]),
+        Request { spi: spis::ike(IKE_PLACES), ..moving() },
+        Request { output: vec![0xa5; 127], ..moving() },
+    ]
 }
 
 /// This request on the tables above.

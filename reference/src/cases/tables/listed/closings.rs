@@ -85,7 +85,7 @@ fn ike_twins() -> Vec<Case> {
         let mut tables = contents::with_free_ipsec(&[77]);
         let spi = tables.ike.records[low].spi;
         let twin = &mut tables.ike_mut()[high];
-        (twin.spi, twin.mobike) = (spi, 0);
+        (twin.spi, twin.agreed.mobike) = (spi, 0);
         let closing = Call::CloseIke { spi };
         let opening = Call::OpenIpsec { spi: NEW_IPSEC, owner: spi };
         let calls = vec![opening.clone(), closing.clone(), opening, closing.clone(), closing];
@@ -127,7 +127,8 @@ fn orphans() -> Vec<Case> {
         Call::OpenIpsec { spi: spis::ipsec(64), owner: spis::ike(3) },
         Call::CloseIpsec { spi: spis::ipsec(64) },
         Call::CloseIke { spi: spis::ike(3) },
-        Call::OpenIke { spi: owner, mobike: false, pair: contents::pair(50) },
+        contents::open_both(owner, contents::pair(50), spis::ipsec(127)),
+        contents::open_both(owner, contents::pair(50), spis::ipsec(65)),
         Call::OpenIpsec { spi: spis::ipsec(64), owner },
         Call::CloseIke { spi: owner },
     ];

@@ -1,6 +1,10 @@
 // Tables for the listed cases: in every place no field is 0 but the SPI of a free one.
-use super::super::spis;
+use super::super::agreements::YES;
+use super::super::{spis, Case};
 use crate::address::{Address, AddressPair};
+use crate::agreed::Agreed;
+use crate::calls::Call;
+use crate::opening_both::Opening;
 use crate::policy::{Policy, Rule};
 use crate::tables::{
     IkeRecord, IkeTable, IpsecRecord, IpsecTable, Tables, IKE_PLACES, IPSEC_PLACES,
@@ -11,6 +15,11 @@ use std::rc::Rc;
 /// SPIs that no place has.
 pub const NEW_IKE: u64 = u64::MAX - 1;
 pub const NEW_IPSEC: u32 = u32::MAX - 1;
+
+/// Opens both, with MOBIKE agreed.
+pub fn open_both(spi: u64, pair: AddressPair, child: u32) -> Call {
+    Call::OpenBoth(Opening { spi, agreed: Agreed { mobike: 1 }, pair, child })
+}
 
 /// Sixteen octets that differ from place to place.
 fn octets(place: usize) -> [u8; 16] {
@@ -27,11 +36,19 @@ pub fn pair(place: usize) -> AddressPair {
     }
 }
 
+/// A sound pair of IPv4 addresses.
+pub fn ipv4_pair() -> AddressPair {
+    let (mut source, mut destination) = ([0; 16], [0; 16]);
+    source[..4].copy_from_slice(&[192, 0, 2, 1]);
+    destination[..4].copy_from_slice(&[198, 51, 100, 255]);
+    AddressPair { family: 4, source, destination, source_port: 4500, destination_port: 500 }
+}
+
 pub fn ike_record(place: usize, spi: u64) -> IkeRecord {
     let address = |number| Address { family: 6, octets: octets(place + number) };
     IkeRecord {
         spi,
-        mobike: 1,
+        agreed: Agreed { mobike: YES[place % YES.len()] },
         pair: pair(place),
         update_mark: u64::MAX - place as u64,
         list_mark: 1 + place as u64,
@@ -78,12 +95,28 @@ pub fn leftovers() -> Tables {
     tables(|_| 0, |_| 0)
 }
 
-/// Full but for these places of the IKE table, which are not cleared.
-pub fn with_free_ike(places: &[usize]) -> Tables {
-    tables(|place| if places.contains(&place) { 0 } else { spis::ike(place) }, spis::ipsec)
+/// Full but for these places of the IKE table and of the IPsec list, which are not cleared.
+pub fn with_free(ike_places: &[usize], ipsec_places: &[usize]) -> Tables {
+    let ike = |place| if ike_places.contains(&place) { 0 } else { spis::ike(place) };
+    let ipsec = |place| if ipsec_places.contains(&place) { 0 } else { spis::ipsec(place) };
+    tables(ike, ipsec)
 }
 
-/// Full but for these places of the IPsec table, which are not cleared.
+/// Full but for these places of the IPsec list, which are not cleared.
 pub fn with_free_ipsec(places: &[usize]) -> Tables {
-    tables(spis::ike, |place| if places.contains(&place) { 0 } else { spis::ipsec(place) })
+    with_free(&[], places)
+}
+
+/// An IPsec record of each of the few SPIs, and the calls for it and for each that may be given.
+pub fn of_like_ipsec_spis(calls: impl Fn(u32, u32) -> Vec<Call>) -> Vec<Case> {
+    let mut cases = Vec::new();
+    for there in spis::FEW_IPSEC {
+        for given in spis::FEW_IPSEC {
+            let mut tables = Tables::empty();
+            tables.ike_mut()[1] = ike_record(1, spis::ike(1));
+            tables.ipsec_mut()[1] = ipsec_record(1, there, spis::ike(1));
+            cases.push(Case { tables, calls: calls(there, given) });
+        }
+    }
+    cases
 }

@@ -17,10 +17,12 @@ pub fn all() -> Vec<Case> {
     cases
 }
 
-/// Empty, full, nothing but leftovers, and full but for the places at both ends and past them.
-fn tables() -> [Tables; 4] {
+/// Empty, full, nothing but leftovers, and full but for the places at both ends and past them, of the
+/// IPsec list and of both.
+fn tables() -> [Tables; 5] {
     let free_at_ends = contents::with_free_ipsec(&[0, 126, 127]);
-    [Tables::empty(), contents::full(), contents::leftovers(), free_at_ends]
+    let both_free_at_ends = contents::with_free(&[0, 31], &[0, 126, 127]);
+    [Tables::empty(), contents::full(), contents::leftovers(), free_at_ends, both_free_at_ends]
 }
 
 fn alone(tables: &Tables) -> Vec<Case> {
@@ -28,11 +30,15 @@ fn alone(tables: &Tables) -> Vec<Case> {
     calls().into_iter().map(case).collect()
 }
 
-/// Each call with SPIs that pass, that fail check 1 and that no record has; the first isn't lent
-/// the list.
+/// Each call with SPIs that pass, that fail check 1 and that a record has or no record has.
 fn calls() -> Vec<Call> {
-    let mut calls = vec![Call::OpenIke { spi: NEW_IKE, mobike: true, pair: contents::pair(40) }];
+    let mut calls = Vec::new();
     let last = spis::ipsec(IPSEC_PLACES - 1);
+    for child in [NEW_IPSEC - 2, 0, spis::ipsec(0), last] {
+        for spi in [NEW_IKE - 2, 0, spis::ike(0)] {
+            calls.push(contents::open_both(spi, contents::pair(40), child));
+        }
+    }
     for spi in [NEW_IPSEC, 0, spis::ipsec(0), last] {
         for owner in [spis::ike(0), 0, NEW_IKE - 1] {
             calls.push(Call::OpenIpsec { spi, owner });

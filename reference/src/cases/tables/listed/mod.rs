@@ -1,4 +1,7 @@
 // The cases every run begins with: each check and order of checks, each place, length and bit.
+mod agreements;
+mod both_checks;
+mod both_places;
 mod closings;
 pub(in crate::cases) mod contents;
 mod lengths;
@@ -9,5 +12,15 @@ mod prefixes;
 use super::Case;
 
 pub fn all() -> Vec<Case> {
-    [openings::all(), closings::all(), policies::all(), prefixes::all(), lengths::all()].concat()
+    [
+        both_checks::all(),
+        both_places::all(),
+        agreements::all(),
+        openings::all(),
+        closings::all(),
+        policies::all(),
+        prefixes::all(),
+        lengths::all(),
+    ]
+    .concat()
 }

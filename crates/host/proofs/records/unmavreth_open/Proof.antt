@@ -1,0 +1,162 @@
+-- `host::records::unmavreth_open` meets its contract: a walk of its MIR, by hand. The list is lent to `ipsec_count`, the table twice to `ike_place` and the list twice to `ipsec_place`, the covered `both_opening` decides, and then the table is passed for good to `ike_store`, and the list to `ipsec_store`.
+-- Assumes nothing.
+use Rattle.lent.proofs.Kit.{_≡_, refl, ℕ, _<_, _^_, [], _∷_, List, lit<, length, set, URA, named, w8, w64, Val, vint, SProp, ent, emp, via, id⊢, fst∗, flft, fres, Memory, Routine, Heap, Calls, Loops, WpFn, Atoms, Lfts, Shares, Fun, givenOf, tables, tablesOf, Given, ‵, ⋆, _$_}
+use Rattle.lent.proofs.Kit.{_∵_, !, qed, by, move, drop, split, join, fsplit, fjoin, suffices, frame, done, look, init, stop, hop, fld, from, load, lit, of-opd, addr, assigns, and-then, no-more, land, returns, enter, alloc1, alloc0, params1, pass1, pass0, free0, whole, sub, look-in}
+use Rattle.lent.proofs.Kit.{agg, FmC, fmOf, RattleType, owns, flat, Is, Spells, valss, uint-makes, uint-vals, u8, usize, RefT, ptr-vals, mut-tells, slice-vals, mut-slice-tells, Room, finally, Slot, plain, typesAt, owned, nothing}
+use Rattle.lent.proofs.Kit.{Triple, Args, Vals, onEntry, cited, says, Stays, stay-dropped, gave-ref, gave-slice, walkOf, goes-dropped, goes-gave-ref, goes-gave-slice, ends-at, yes}
+use types.Run.{store as stores}
+use denote.Struct.Laws as LL
+use Rattle.octets.specs.Lists.{placeOf}
+use Rattle.tables.specs.Records.{ikeSpi, ipsecSpi}
+use Rattle.tables.specs.Changes.{bothOpening}
+use Rattle.tables.specs.declared.ike.IkeRecord.{IkeRecord}
+use Rattle.tables.specs.declared.ipsec.IpsecRecord.{IpsecRecord}
+use Rattle.tables.specs.declared.calls.BothChange.{BothChange}
+use Rattle.tables.specs.declared.calls.Opening.{Opening}
+use Rattle.tables.proofs.Changed.{opens-both}
+use Rattle.tables.proofs.calls.BothChange as D
+use Rattle.tables.proofs.calls.BothChange.Laws as D′
+use Rattle.tables.proofs.calls.Opening as O
+use Rattle.tables.proofs.calls.Opening.Laws as O′
+use Rattle.tables.proofs.calls.both_opening as opening
+use Rattle.tables.proofs.calls.both_opening.Symbol as opening-def
+use Rattle.tables.proofs.calls.both_opening.Met as opening-thm
+use Rattle.lent.proofs.Walk.{closes}
+use Rattle.lent.proofs.Calls.{_&_, tokens, Told, no-token, plainly, calls-for, copied, ends-local}
+use Rattle.lent.proofs.Asked.{counts, finds-ike, finds-ipsec, stores-ike, stores-ipsec}
+use Rattle.lent.proofs.IkeTable.{Q, table-slot}
+use Rattle.lent.proofs.IpsecTable.{R}
+use Rattle.lent.proofs.ike.ike_place as home
+use Rattle.lent.proofs.ike.ike_place.Symbol as home-def
+use Rattle.lent.proofs.ike.ike_place.Met as home-thm
+use Rattle.lent.proofs.ike.ike_store as put
+use Rattle.lent.proofs.ike.ike_store.Symbol as put-def
+use Rattle.lent.proofs.ike.ike_store.Met as put-thm
+use Rattle.lent.proofs.owned.ipsec_count as count
+use Rattle.lent.proofs.owned.ipsec_count.Symbol as count-def
+use Rattle.lent.proofs.owned.ipsec_count.Met as count-thm
+use Rattle.lent.proofs.places.ipsec_place as place
+use Rattle.lent.proofs.places.ipsec_place.Symbol as place-def
+use Rattle.lent.proofs.places.ipsec_place.Met as place-thm
+use Rattle.lent.proofs.places.ipsec_store as store
+use Rattle.lent.proofs.places.ipsec_store.Symbol as store-def
+use Rattle.lent.proofs.places.ipsec_store.Met as store-thm
+use Rattle.host.proofs.records.unmavreth_open.Key as key
+use Rattle.host.proofs.records.unmavreth_open as f
+use Rattle.host.proofs.records.unmavreth_open.Statement as stated
+use Rattle.host.proofs.records.unmavreth_open.Code as code
+
+abbrev val : RattleType → Slot 2
+val T = plain (λ _. T)
+
+abbrev stayed : Stays (f.ended .signature .params) (f.ended .kept)
+stayed = gave-ref (0 ∷ []) tt table-slot & gave-slice (1 ∷ []) tt (val R) & stay-dropped (val O.the-row) yes & tt
+
+abbrev opening-vals : Opening → List Val
+opening-vals = LL.vals O.the-type O′.the-laws
+
+abbrev spelled : (κs : Lfts 2) → Spells (typesAt (f.signature .params) κs)
+spelled κs = (ptr-vals, (slice-vals, (opening-vals, tt)))
+
+module _ {M : Type 1} (𝓤 : URA M) (H : Heap 𝓤) (A : Atoms 𝓤) (W : Given 𝓤 H A) (at-mem : Memory → SProp 𝓤) (run : Routine → Fun 𝓤) (κs : Lfts 2) (qs : Shares 2) (y : RefT (List IkeRecord)) (x : RefT (List IpsecRecord)) (h : Opening) (room : Room R (length (x .now))) (h-is : Is O.the-row h (opening-vals h)) where
+  abbrev a : Args f.signature κs
+  a = (y, (x, (h, tt)))
+
+  abbrev vals : Vals f.signature κs
+  vals = valss (typesAt (f.signature .params) κs) (spelled κs) a
+
+  abbrev Post : Val → SProp 𝓤
+  Post = walkOf 𝓤 H A f.ended stayed (f.clauses 𝓤 H A at-mem run) .post ((κs, qs, tt, a, vals), tt)
+
+  -- the SPIs that are given fit
+  spi-fits : h .spi < 2 ^ 64
+  spi-fits = LL.owed O.the-type O′.the-laws h _ h-is .0 .1
+
+  child-fits : h .child < 2 ^ 32
+  child-fits = LL.owed O.the-type O′.the-laws h _ h-is .1 .1 .1 .0 .1
+
+  -- the places that are found, of each table with the SPI and the lowest free one
+  abbrev taken : ℕ
+  taken = placeOf ikeSpi (h .spi) (y .now)
+
+  abbrev free : ℕ
+  free = placeOf ikeSpi 0 (y .now)
+
+  abbrev child-taken : ℕ
+  child-taken = placeOf ipsecSpi (h .child) (x .now)
+
+  abbrev child-free : ℕ
+  child-free = placeOf ipsecSpi 0 (x .now)
+
+  -- what is decided, and the records and the list after it
+  abbrev c : BothChange
+  c = bothOpening (length (x .now)) h taken free child-taken child-free
+
+  abbrev after : List IkeRecord
+  after = set (y .now) (c .place) (c .entry)
+
+  abbrev listed : List IpsecRecord
+  listed = set (x .now) (c .«child_place») (c .child)
+
+  exits : length (y .now) ≡ 32 → c .number < 2 ^ 8 → (zs : List IkeRecord) (us : List IpsecRecord) → length us ≡ length (x .now) → zs ≡ after → us ≡ listed
+      → ent 𝓤 (⋆ 𝓤 H A (‵ (finally R (x .name) us) ∷ ‵ (flft (κs .1 .0) (qs .1 .0)) ∷ ‵ (fres (y .name) (Q .coded .code zs)) ∷ ‵ (flft (κs .0) (qs .0)) ∷ [])) (Post (vint w8 (c .number)))
+  exits long fits zs us l e₁ e₂ =
+      qed W (‵ (finally R (x .name) us) ∷ ‵ (flft (κs .1 .0) (qs .1 .0)) ∷ ‵ (fres (y .name) (Q .coded .code zs)) ∷ ‵ (flft (κs .0) (qs .0)) ∷ []) ∵
+      suffices ! _ (ends-at 𝓤 H A f.ended stayed (f.clauses 𝓤 H A at-mem run) W ((κs, qs, tt, a, vals), tt) (vint w8 (c .number)) (c .number) (zs, (us, (tt, tt))) (tt, (l, (tt, tt)))) $ says ! (rw (e₁, e₂) (opens-both (y .now) long (x .now) h)) $
+      nothing ! $ move ! (2 ∷ 0 ∷ []) $ join ! $ move ! (3 ∷ 0 ∷ []) $ join ! $ frame ! $ nothing ! $ nothing ! $ fjoin ! $ move ! (1 ∷ 0 ∷ []) $ fjoin ! $ move ! (1 ∷ 0 ∷ []) $ fjoin ! $ frame ! $
+      owned ! u8 (Is u8) (uint-makes 𝓤 H A W w8) (c .number) _ (refl, fits) $ done !
+
+  module _ (C : Calls 𝓤 H) (Λ : Loops 𝓤 H) (fm : FmC 𝓤 H (W .laws) C) (known-count : Triple 𝓤 (C count-def.name) (Told 𝓤 H A count.ended (count.clauses 𝓤 H A at-mem run))) (known-home : Triple 𝓤 (C home-def.name) (Told 𝓤 H A home.ended (home.clauses 𝓤 H A at-mem run))) (known-place : Triple 𝓤 (C place-def.name) (Told 𝓤 H A place.ended (place.clauses 𝓤 H A at-mem run)))
+      (known-opening : Triple 𝓤 (C opening-def.name) (Told 𝓤 H A opening.ended (opening.clauses 𝓤 H A at-mem run))) (known-put : Triple 𝓤 (C put-def.name) (Told 𝓤 H A put.ended (put.clauses 𝓤 H A at-mem run))) (known-store : Triple 𝓤 (C store-def.name) (Told 𝓤 H A store.ended (store.clauses 𝓤 H A at-mem run))) where
+    walk : ent 𝓤 (onEntry 𝓤 H A f.signature κs qs a vals) (WpFn 𝓤 H C Λ code.function (flat (typesAt (f.signature .params) κs) vals) Post)
+    walk =
+        qed W (tokens 𝓤 2 κs qs ∷ ‵ (owns (typesAt (f.signature .params) κs) a vals) ∷ []) ∵ enter ! C Λ code.function (flat (typesAt (f.signature .params) κs) vals) _ $
+        alloc1 ! (λ l₀. alloc1 ! (λ l₁. alloc1 ! (λ l₂. alloc1 ! (λ l₃. alloc1 ! (λ l₄. alloc1 ! (λ l₅. alloc1 ! (λ l₆. alloc1 ! (λ l₇. alloc1 ! (λ l₈. alloc1 ! (λ l₉. alloc1 ! (λ l₁₀. alloc1 ! (λ l₁₁. alloc1 ! (λ l₁₂. alloc1 ! (λ l₁₃. alloc1 ! (λ l₁₄. alloc1 ! (λ l₁₅. alloc1 ! (λ l₁₆. alloc1 ! (λ l₁₇. alloc1 ! (λ l₁₈. alloc1 ! (λ l₁₉. alloc1 ! (λ l₂₀. alloc1 ! (λ l₂₁. alloc0 ! $ params1 ! $
+        pass1 ! (init ! 40 refl (tt, tt)) $ pass1 ! (init ! 38 refl (tt, (tt, (record { fits = room .0 }, tt)))) $ pass1 ! (init ! 36 refl (LL.lawful O.the-type O′.the-laws 𝓤 H A W .typed h _ h-is .0)) $ pass0 ! $
+        move ! (45 ∷ []) $ fsplit ! $ move ! (1 ∷ []) $ fsplit ! $ move ! (1 ∷ []) $ drop ! $ move ! (46 ∷ []) $ split ! $ move ! (1 ∷ []) $ no-token ! $ move ! (2 ∷ 0 ∷ 3 ∷ 1 ∷ []) $
+        -- [the list; its token; the table; its token; _21 at 4; …; _i at 46 - 2 i; …; room for _0 at 46; …]
+        assigns ! (addr ! (from ! (fld ! refl (hop ! (look-in ! 42 (sub ! 0 refl (whole !))) (stop !))))) (from ! (stop !)) (init ! 26 refl (tt, tt)) $
+        assigns ! (agg ! (and-then ! (copied ! 26 refl) (and-then ! (load ! (from ! (fld ! refl (stop !))) (look-in ! 42 (sub ! 1 refl (whole !)))) (no-more !)))) (from ! (stop !)) (init ! 24 refl (tt, (tt, (record { fits = room .0 }, tt)))) $
+        counts ! fm at-mem run x known-count room (λ i j. (and-then ! (copied ! 24 refl) (no-more !))) $ land ! (from ! (stop !)) (init ! 38 refl (tt, record { fits = room .0 })) $ move ! (2 ∷ 3 ∷ []) $
+        -- [the table; its token; the list; its token; the locals as before]
+        assigns ! (addr ! (from ! (hop ! (look ! 44 refl) (stop !)))) (from ! (stop !)) (init ! 22 refl (tt, tt)) $
+        finds-ike ! fm at-mem run y known-home (h .spi) spi-fits (λ i j. (and-then ! (copied ! 22 refl) (and-then ! (load ! (from ! (fld ! refl (stop !))) (look-in ! 40 (sub ! 0 refl (whole !)))) (no-more !)))) (λ long taken-fits. land ! (from ! (stop !)) (init ! 36 refl (tt, record { fits = taken-fits })) $
+        assigns ! (addr ! (from ! (hop ! (look ! 44 refl) (stop !)))) (from ! (stop !)) (init ! 20 refl (tt, tt)) $
+        finds-ike ! fm at-mem run y known-home 0 (lit< tt) (λ i j. (and-then ! (copied ! 20 refl) (and-then ! (lit ! tt) (no-more !)))) (λ _ free-fits. land ! (from ! (stop !)) (init ! 34 refl (tt, record { fits = free-fits })) $ move ! (2 ∷ 3 ∷ []) $
+        assigns ! (addr ! (from ! (fld ! refl (hop ! (look-in ! 42 (sub ! 0 refl (whole !))) (stop !))))) (from ! (stop !)) (init ! 18 refl (tt, tt)) $
+        assigns ! (agg ! (and-then ! (copied ! 18 refl) (and-then ! (load ! (from ! (fld ! refl (stop !))) (look-in ! 42 (sub ! 1 refl (whole !)))) (no-more !)))) (from ! (stop !)) (init ! 16 refl (tt, (tt, (record { fits = room .0 }, tt)))) $
+        finds-ipsec ! fm at-mem run x known-place room (h .child) child-fits (λ i j. (and-then ! (copied ! 16 refl) (and-then ! (load ! (from ! (fld ! refl (stop !))) (look-in ! 40 (sub ! 3 refl (whole !)))) (no-more !)))) (λ child-taken-fits. land ! (from ! (stop !)) (init ! 32 refl (tt, record { fits = child-taken-fits })) $
+        assigns ! (addr ! (from ! (fld ! refl (hop ! (look-in ! 42 (sub ! 0 refl (whole !))) (stop !))))) (from ! (stop !)) (init ! 14 refl (tt, tt)) $
+        assigns ! (agg ! (and-then ! (copied ! 14 refl) (and-then ! (load ! (from ! (fld ! refl (stop !))) (look-in ! 42 (sub ! 1 refl (whole !)))) (no-more !)))) (from ! (stop !)) (init ! 12 refl (tt, (tt, (record { fits = room .0 }, tt)))) $
+        finds-ipsec ! fm at-mem run x known-place room 0 (lit< tt) (λ i j. (and-then ! (copied ! 12 refl) (and-then ! (lit ! tt) (no-more !)))) (λ child-free-fits. land ! (from ! (stop !)) (init ! 30 refl (tt, record { fits = child-free-fits })) $
+        plainly ! (usize ∷ O.the-row ∷ usize ∷ usize ∷ usize ∷ usize ∷ []) (uint-makes 𝓤 H A W w64 & LL.makes O.the-type O′.the-plain 𝓤 H A & uint-makes 𝓤 H A W w64 & uint-makes 𝓤 H A W w64 & uint-makes 𝓤 H A W w64 & uint-makes 𝓤 H A W w64 & tt) (length (x .now), (h, (taken, (free, (child-taken, (child-free, tt))))))
+        (uint-vals w64 (length (x .now)), (opening-vals h, (uint-vals w64 taken, (uint-vals w64 free, (uint-vals w64 child-taken, (uint-vals w64 child-free, tt)))))) ((refl, room .0), (h-is, ((refl, taken-fits), ((refl, free-fits), ((refl, child-taken-fits), ((refl, child-free-fits), tt)))))) $
+        calls-for ! fm opening.ended (opening.clauses 𝓤 H A at-mem run) known-opening ((tt, tt, tt, (length (x .now), (h, (taken, (free, (child-taken, (child-free, tt)))))), (uint-vals w64 (length (x .now)), (opening-vals h, (uint-vals w64 taken, (uint-vals w64 free, (uint-vals w64 child-taken, (uint-vals w64 child-free, tt))))))), tt) (id⊢ 𝓤 _)
+        (and-then ! (copied ! 39 refl) (and-then ! (copied ! 41 refl) (and-then ! (copied ! 37 refl) (and-then ! (copied ! 35 refl) (and-then ! (copied ! 33 refl) (and-then ! (copied ! 31 refl) (no-more !))))))) (LL.vals D.the-type D′.the-laws) (LL.tells D.the-type D′.the-laws) c (λ r ws. id⊢ 𝓤 _) (λ is. drop ! $
+        land ! (from ! (stop !)) (init ! 28 refl (LL.lawful D.the-type D′.the-laws 𝓤 H A W .typed c _ is .0)) $ move ! (2 ∷ 3 ∷ []) $
+        assigns ! (addr ! (from ! (hop ! (look ! 44 refl) (stop !)))) (from ! (stop !)) (init ! 8 refl (tt, tt)) $
+        stores-ike ! fm at-mem run y known-put (c .place) (c .entry) (LL.owed D.the-type D′.the-laws c _ is .1 .0) (LL.owed D.the-type D′.the-laws c _ is .1 .1 .0) (λ j. (and-then ! (copied ! 7 refl) (and-then ! (load ! (from ! (fld ! refl (stop !))) (look-in ! 27 (sub ! 1 refl (whole !)))) (and-then ! (load ! (from ! (fld ! refl (stop !))) (look-in ! 27 (sub ! 2 refl (whole !)))) (no-more !))))) (λ zs e₁. land ! (from ! (stop !)) (init ! 10 refl (tt, tt)) $ move ! (2 ∷ 3 ∷ []) $
+        -- [the list; its token; what says the last records; the table's token; the locals as before]
+        assigns ! (addr ! (from ! (fld ! refl (hop ! (look-in ! 42 (sub ! 0 refl (whole !))) (stop !))))) (from ! (stop !)) (init ! 6 refl (tt, tt)) $
+        assigns ! (agg ! (and-then ! (copied ! 6 refl) (and-then ! (load ! (from ! (fld ! refl (stop !))) (look-in ! 42 (sub ! 1 refl (whole !)))) (no-more !)))) (from ! (stop !)) (init ! 4 refl (tt, (tt, (record { fits = room .0 }, tt)))) $
+        stores-ipsec ! fm at-mem run x known-store (c .«child_place») (c .child) (LL.owed D.the-type D′.the-laws c _ is .1 .1 .1 .0) (LL.owed D.the-type D′.the-laws c _ is .1 .1 .1 .1 .0) (λ j. (and-then ! (copied ! 3 refl) (and-then ! (load ! (from ! (fld ! refl (stop !))) (look-in ! 27 (sub ! 3 refl (whole !)))) (and-then ! (load ! (from ! (fld ! refl (stop !))) (look-in ! 27 (sub ! 4 refl (whole !)))) (no-more !))))) (λ us e₂ l. land ! (from ! (stop !)) (stores ! 10 refl (tt, tt)) $
+        assigns ! (of-opd ! (load ! (from ! (fld ! refl (stop !))) (look-in ! 28 (sub ! 0 refl (whole !))))) (from ! (stop !)) (init ! 46 refl (tt, record { fits = LL.owed D.the-type D′.the-laws c _ is .0 .1 })) $ returns ! (look ! 46 refl) $
+        move ! (46 ∷ 47 ∷ []) $ ends-local ! $ move ! (44 ∷ 45 ∷ []) $ ends-local ! $ move ! (42 ∷ 43 ∷ []) $ ends-local ! $ move ! (40 ∷ 41 ∷ []) $ ends-local ! $ move ! (38 ∷ 39 ∷ []) $ ends-local ! $ move ! (36 ∷ 37 ∷ []) $ ends-local ! $ move ! (34 ∷ 35 ∷ []) $ ends-local ! $ move ! (32 ∷ 33 ∷ []) $ ends-local ! $ move ! (30 ∷ 31 ∷ []) $ ends-local ! $ move ! (28 ∷ 29 ∷ []) $ ends-local ! $ move ! (26 ∷ 27 ∷ []) $ ends-local ! $ move ! (24 ∷ 25 ∷ []) $ ends-local ! $ move ! (22 ∷ 23 ∷ []) $ ends-local ! $ move ! (20 ∷ 21 ∷ []) $ ends-local ! $ move ! (18 ∷ 19 ∷ []) $ ends-local ! $ move ! (16 ∷ 17 ∷ []) $ ends-local ! $ move ! (14 ∷ 15 ∷ []) $ ends-local ! $ move ! (12 ∷ 13 ∷ []) $ ends-local ! $ move ! (10 ∷ 11 ∷ []) $ ends-local ! $ move ! (8 ∷ 9 ∷ []) $ ends-local ! $ move ! (6 ∷ 7 ∷ []) $ ends-local ! $ move ! (4 ∷ 5 ∷ []) $ ends-local ! $ free0 ! $
+        by ! (exits long (LL.owed D.the-type D′.the-laws c _ is .0 .1) zs us l e₁ e₂))))))))))))))))))))))))))))))
+
+pub unmavreth-open-spec : {M : Type 1} → stated.statement M
+unfolding code.routine tablesOf
+unmavreth-open-spec 𝓤 H 𝓜 𝓖 𝓡 =
+    let A = 𝓖 .A in
+    let W = givenOf 𝓤 H 𝓜 𝓖 in
+    let Ts = tables 𝓤 H 𝓜 𝓡 code.env in
+    closes 𝓤 H 𝓜 𝓖 𝓡 code.env key.name code.function (code.unfolded 𝓤 H 𝓜 𝓡) f.ended stayed (f.clauses 𝓤 H A (𝓜 .mem) (𝓡 .run))
+    (goes-gave-ref 𝓤 H A W 2 0 tt table-slot & goes-gave-slice 𝓤 H A W 2 1 tt (val R) & goes-dropped 𝓤 H A W 2 (val O.the-row) yes (λ κs x f. refl) & tt)
+    spelled (λ κs. mut-tells (named 0) (κs .0) Q & mut-slice-tells (named 1) (κs .1 .0) R & LL.tells O.the-type O′.the-laws & tt)
+    (λ κs qs bounds a g are. via 𝓤 _ (fst∗ 𝓤 _ (emp 𝓤)) (walk 𝓤 H A W (𝓜 .mem) (𝓡 .run) κs qs (a .0) (a .1 .0) (a .1 .1 .0) (are .1 .0 .0 .1) (are .1 .1 .0) (Ts .C) (Ts .Λ) (fmOf 𝓤 H (W .laws) (tablesOf 𝓤 H 𝓜 Ts))
+    (cited 𝓤 H (Told 𝓤 H A count.ended (count.clauses 𝓤 H A (𝓜 .mem) (𝓡 .run))) 𝓜 𝓡 code.env count-def.name count-def.routine code.calls-lent·owned·ipsec-count (count-thm.met 𝓤 H 𝓜 𝓖 𝓡))
+    (cited 𝓤 H (Told 𝓤 H A home.ended (home.clauses 𝓤 H A (𝓜 .mem) (𝓡 .run))) 𝓜 𝓡 code.env home-def.name home-def.routine code.calls-lent·ike·ike-place (home-thm.met 𝓤 H 𝓜 𝓖 𝓡))
+    (cited 𝓤 H (Told 𝓤 H A place.ended (place.clauses 𝓤 H A (𝓜 .mem) (𝓡 .run))) 𝓜 𝓡 code.env place-def.name place-def.routine code.calls-lent·places·ipsec-place (place-thm.met 𝓤 H 𝓜 𝓖 𝓡))
+    (cited 𝓤 H (Told 𝓤 H A opening.ended (opening.clauses 𝓤 H A (𝓜 .mem) (𝓡 .run))) 𝓜 𝓡 code.env opening-def.name opening-def.routine code.calls-tables·calls·both-opening (opening-thm.met 𝓤 H 𝓜 𝓖 𝓡))
+    (cited 𝓤 H (Told 𝓤 H A put.ended (put.clauses 𝓤 H A (𝓜 .mem) (𝓡 .run))) 𝓜 𝓡 code.env put-def.name put-def.routine code.calls-lent·ike·ike-store (put-thm.met 𝓤 H 𝓜 𝓖 𝓡))
+    (cited 𝓤 H (Told 𝓤 H A store.ended (store.clauses 𝓤 H A (𝓜 .mem) (𝓡 .run))) 𝓜 𝓡 code.env store-def.name store-def.routine code.calls-lent·places·ipsec-store (store-thm.met 𝓤 H 𝓜 𝓖 𝓡))))

@@ -1,0 +1,17 @@
+-- The checks of a call as a table, in their order: what fails, and the number that is then told.
+use Prim.Native.Nat.{ℕ}
+use mathlib.Core.List.{List, [], _∷_}
+use mathlib.Core.Bool.{Bool, cond}
+
+pub record Check : Type 0 where
+  pub fails : Bool
+  pub number : ℕ
+
+infix 70 _gives_
+abbrev pub _gives_ : Bool → ℕ → Check
+fails gives number = record { fails = fails; number = number }
+
+-- the number of the first check that fails; 0 where all pass
+abbrev pub firstFailed : List Check → ℕ
+firstFailed [] = 0
+firstFailed (c ∷ cs) = cond (c .fails) (c .number) (firstFailed cs)

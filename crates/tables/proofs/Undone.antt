@@ -1,0 +1,81 @@
+-- Closing what was just opened gives back the tables that it was opened in, if calls reach these from empty ones.
+use Prim.Native.Nat.{ℕ, zero, suc, _<_}
+use mathlib.Core.Path.{_≡_, refl, ap, _∙_}
+use mathlib.Core.Logic.{⊎-elim}
+use mathlib.Core.List.{List, [], _∷_, map}
+use native.Mathlib.Omega.{arith}
+use borrow.Author.Tests.{eqb-true, eqb-false, eq-eqb, ne-eqb, lt-ltb}
+use lib.Dec.{eqb}
+use lib.ListN.{length, getD, set, length-set, length-map, List·getD-map}
+use lib.Seq.{set-set, set-getD, ext-getD}
+use Rattle.octets.specs.Lists.{placeOf}
+use Rattle.octets.proofs.Small.{chosen}
+use Rattle.octets.proofs.Places.{place-has}
+use Rattle.tables.specs.Records.{ikeSpi, ipsecSpi, ikeOf, childOf, noIke, noIpsec, released}
+use Rattle.tables.specs.Calls.{tablesAnswer, closeIke}
+use Rattle.tables.specs.Reached.{Tables, Cleared, WellFormed, afterAll, empty}
+use Rattle.tables.specs.Opened.{BothOpened, ClosingUndoes}
+use Rattle.tables.specs.declared.calls.Opening.{Opening}
+use Rattle.tables.specs.declared.ipsec.IpsecRecord.{IpsecRecord}
+use Rattle.tables.proofs.Lookup.{finds-opened}
+use Rattle.tables.proofs.Cases.{both-or-neither}
+use Rattle.tables.proofs.Reached.{reached}
+
+map-set : {A : Type 0} (f : A → A) (xs : List A) (i : ℕ) (x : A) → map f (set xs i x) ≡ set (map f xs) i (f x)
+map-set f [] i x = refl
+map-set f (y ∷ xs) zero x = refl
+map-set f (y ∷ xs) (suc i) x = rw (map-set f xs i x)
+
+-- clearing a free place changes nothing
+free-again : {A : Type 0} (key : A → ℕ) (d : A) (xs : List A) → Cleared key d xs → placeOf key 0 xs < length xs → set xs (placeOf key 0 xs) d ≡ xs
+free-again key d xs clear room = rw (← clear (placeOf key 0 xs) room (place-has key 0 xs d room)) (set-getD xs (placeOf key 0 xs) d)
+
+-- a record that names another owner stays
+unreleased : (o : ℕ) (r : IpsecRecord) → ((r .spi ≡ 0 → ⊥) → r .owner ≡ o → ⊥) → released o r ≡ r
+unreleased o r other =
+    chosen (λ (x : IpsecRecord). x ≡ r) (eqb (r .spi) 0) (λ e. refl)
+    (λ e. chosen (λ (x : IpsecRecord). x ≡ r) (eqb (r .owner) o) (λ f. absurd (other (eqb-false (r .spi) 0 e) (eqb-true (r .owner) o f))) (λ f. refl))
+
+module _ (t : Tables) (w : WellFormed t) (o : Opening) (b : BothOpened (t .ike) (t .ipsec) o) where
+  abbrev p : ℕ
+  p = placeOf ikeSpi 0 (t .ike)
+
+  abbrev q : ℕ
+  q = placeOf ipsecSpi 0 (t .ipsec)
+
+  -- every owner has an IKE record, so none of the IPsec records names the new SPI
+  none-released : map (released (o .spi)) (t .ipsec) ≡ t .ipsec
+  none-released =
+      ext-getD noIpsec (map (released (o .spi)) (t .ipsec)) (t .ipsec) (length-map (t .ipsec) (released (o .spi)))
+      (λ i l.
+      List·getD-map (released (o .spi)) (t .ipsec) i noIpsec
+      ∙ unreleased (o .spi) (getD (t .ipsec) i noIpsec)
+      (λ n e.
+      let there = w .owned i (rw (← length-map (t .ipsec) (released (o .spi))) l) n .1 in
+      let new = b .new in
+      let same = ap (λ (k : ℕ). placeOf ikeSpi k (t .ike)) e in
+      omega arith))
+
+  undone : closeIke (set (t .ike) p (ikeOf o)) (set (t .ipsec) q (childOf o)) (o .spi) ≡ tablesAnswer 0 (t .ike) (t .ipsec)
+  unfolding closeIke
+  undone =
+      let gone : released (o .spi) (childOf o) ≡ noIpsec = rw (ne-eqb (o .child) 0 (b .child-named), eq-eqb (o .spi) (o .spi) refl) in
+      rw (
+        length-set (t .ipsec) q (childOf o),
+        eq-eqb (length (t .ipsec)) 128 (w .ipsecs .long),
+        ne-eqb (o .spi) 0 (b .named),
+        finds-opened ikeSpi noIke (t .ike) (ikeOf o) (b .room) (b .new),
+        length-set (t .ike) p (ikeOf o),
+        lt-ltb p (length (t .ike)) (b .room),
+        set-set (t .ike) p (ikeOf o) noIke,
+        map-set (released (o .spi)) (t .ipsec) q (childOf o),
+        none-released,
+        gone,
+        free-again ikeSpi noIke (t .ike) (w .ikes .clear) (b .room),
+        free-again ipsecSpi noIpsec (t .ipsec) (w .ipsecs .clear) (b .child-room),
+      )
+
+pub closing-undoes : ClosingUndoes
+closing-undoes cs o done =
+    let t = afterAll empty cs in
+    ⊎-elim (λ b. rw (b .is) (undone t (reached cs) o b)) (λ n. absurd (n .refused done)) (both-or-neither (t .ike) (t .ipsec) o)
