@@ -22,8 +22,8 @@ int main(void)
 {
     static void (*const scenes[])(day *) = {
         morning,          lists_addresses,    moves_to_the_bus,  late_update_arrives, meets_a_nat,
-        says_the_unknown, says_the_malformed, says_the_critical, moves_to_a_cafe,     evening,
-        night,
+        says_the_unknown, says_the_malformed, says_the_critical, moves_to_a_cafe,     keeps_alive_at_a_hotel,
+        evening,          night,
     };
     day d = {.gateway = gateway_new()};
     print_opening();

@@ -40,7 +40,7 @@ void night(day *d)
         .pair = pair_of(BUS, IKE_PORT, GATEWAY, IKE_PORT),
         .child = NEIGHBOUR_IPSEC,
     };
-    print_event("(j) Night. A third display comes. The IPsec SPI drawn for it is in use; with another one, the list\n"
+    print_event("(k) Night. A third display comes. The IPsec SPI drawn for it is in use; with another one, the list\n"
                 "is full of the neighbour's IPsec records. Each time the display gets neither of its two records:\n"
                 "nothing stays half open. Once the neighbour has left, it gets both.");
     opens_neither(d, &third, UNMAVRETH_SPI_IN_USE);

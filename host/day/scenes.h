@@ -11,7 +11,9 @@
 #define BUS_NAT "198.51.100.99"
 #define BUS_IP6 "2001:db8:b05::40"
 #define CAFE "198.51.100.200"
-enum { IKE_PORT = 4500, OUR_SCHOOL_PORT = 61001, NEIGHBOUR_PORT = 61002, CORRIDOR_PORT = 61009, BUS_NAT_PORT = 62000 };
+#define HOTEL_NAT "203.0.113.80"
+enum { IKE_PORT = 4500, OUR_SCHOOL_PORT = 61001, NEIGHBOUR_PORT = 61002, CORRIDOR_PORT = 61009 };
+enum { BUS_NAT_PORT = 62000, HOTEL_NAT_PORT = 63000 };
 
 void morning(day *d);
 
@@ -25,6 +27,7 @@ void says_the_malformed(day *d);
 void says_the_critical(day *d);
 void moves_to_a_cafe(day *d);
 
+void keeps_alive_at_a_hotel(day *d);
 void evening(day *d);
 void night(day *d);
 

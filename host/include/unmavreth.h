@@ -449,9 +449,9 @@ UNMAVRETH_AT(unmavreth_reply, length, 14);
 //         replaced  its additional addresses become the request's first sixteen (none, with NO_ADDITIONAL_ADDRESSES),
 //                   zeros in the places after them; its list mark becomes the ID
 //         stale     the ID does not exceed the list mark: the list has no effect
-//       No other field of any place changes. The response is, for a request with an update (a stale one too) and both
-//       kinds of NAT detection, the two lent values, source first; then the request's COOKIE2 if it had one; it may
-//       be empty.
+//       No other field of any place changes. The response is, for a request with both kinds of NAT detection, the two
+//       lent values, source first, with an update (applied or stale) or without; then the request's COOKIE2 if it had
+//       one; it may be empty. One kind alone gets no value.
 // The response stands at the start of the output; octets past its `length` stay as they were.
 unmavreth_reply unmavreth_request(unmavreth_ike_table *ike, unmavreth_ipsec *ipsec, size_t records,
                                   const unmavreth_policy *policy, uint64_t spi, uint32_t id, unmavreth_pair pair,

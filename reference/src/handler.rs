@@ -5,7 +5,7 @@ use crate::notifications::first_type;
 use crate::outcome::Place;
 use crate::reply::{Handled, Reply};
 use crate::request::{Failed, Passed, Request};
-use crate::response;
+use crate::response::{self, Standing};
 use crate::steps::{self, Effect, Unfit};
 use crate::tables::Tables;
 
@@ -67,18 +67,17 @@ fn serve<'a>(
     steps::add_unknown(&mut tables.ike_mut()[*place], summary, faults);
     let mut reply =
         Reply { payloads: summary.payloads, cookie: Place::of(summary.cookie), ..Reply::default() };
+    let mut standing = standing(request, *place, tables, faults);
     let updated = steps::update(request, passed, tables, faults);
     let record = &mut tables.ike_mut()[*place];
     if updated.is_ok() || faults.on(Fault::UnfitList) {
         let update = updated.unwrap_or(Effect::None);
         let (list, left_off) = steps::list(record, request.id, summary, update, faults);
         (reply.update, reply.list, reply.left_off) = (update as u8, list as u8, left_off);
+        (standing.update, standing.list) = (update, list);
     }
     match updated {
-        Ok(update) => {
-            let stale = update == Effect::Stale;
-            (reply, response::to_done(request, summary, stale, faults))
-        }
+        Ok(_) => (reply, response::to_done(request, summary, &standing, faults)),
         Err(unfit) => {
             if faults.on(Fault::UnfitUntallied) {
                 record.unknown = tally_before;
@@ -86,6 +85,18 @@ fn serve<'a>(
             let response = response::to_unfit(request, unfit, summary, faults);
             (told_unfit(reply, unfit, faults), response)
         }
+    }
+}
+
+/// How a request stands to its record before steps 2 and 3.
+fn standing(request: &Request, place: usize, tables: &Tables, faults: Faults) -> Standing {
+    let record = &tables.ike.records[place];
+    Standing {
+        update: Effect::None,
+        list: Effect::None,
+        late: !steps::exceeds(request.id, record.update_mark, faults),
+        acceptable: tables.policy.accepts(&request.pair, faults),
+        moved: request.pair != record.pair,
     }
 }
 
@@ -225,20 +236,98 @@ mod tests {
         assert_eq!(handed_out, Place::default());
     }
 
+    fn detection(last: u8) -> Vec<u8> {
+        [&[0, 0, 0x40, last][..], &[9; 20]].concat()
+    }
+
+    /// The two lent values, with this next type after them.
+    fn values(next: u8) -> Vec<u8> {
+        let source = [&[41, 0, 0, 28, 0, 0, 0x40, 4][..], &[3; 20]].concat();
+        let destination = [&[next, 0, 0, 28, 0, 0, 0x40, 5][..], &[4; 20]].concat();
+        [source, destination].concat()
+    }
+
+    /// Checks the response to a request that is done and changes no table.
+    fn leaves_tables(tables: &Tables, request: &Request, response: &[u8]) {
+        let mut after = tables.clone();
+        let handled = handle(request, &mut after, Faults::NONE);
+        assert_eq!(handled.reply.number, 0);
+        assert_eq!(handled.response(), response);
+        assert_eq!(handled.reply.first, if response.is_empty() { 0 } else { 41 });
+        assert_eq!(&after, tables);
+    }
+
+    #[test]
+    fn a_keepalive_with_both_kinds_gets_the_lent_values() {
+        let (source, destination) = (detection(4), detection(5));
+        let other = [&[0, 0, 0x40, 0x12][..], &[1; 12]].concat();
+        let mut marked = tables();
+        marked.ike_mut()[0].update_mark = 9;
+        for tables in [tables(), marked] {
+            for pair in [OLD, NEW, IPV6] {
+                let chains: [&[&[u8]]; 4] = [
+                    &[&source, &destination],
+                    &[&destination, &source],
+                    &[&source, &destination, &source],
+                    &[&source, &other, &destination],
+                ];
+                for chain in chains {
+                    leaves_tables(&tables, &request(5, pair, chain), &values(0));
+                }
+            }
+        }
+    }
+
+    #[test]
+    fn a_keepalive_with_less_than_both_kinds_gets_none() {
+        let (source, destination) = (detection(4), detection(5));
+        let chains: [&[&[u8]]; 4] = [&[], &[&source], &[&destination], &[&source, &source]];
+        for chain in chains {
+            leaves_tables(&tables(), &request(5, NEW, chain), &[]);
+        }
+        let cookie = [&[0, 0, 0x40, 0x11][..], &[5; 8]].concat();
+        let copied = [&[0, 0, 0, 16][..], &cookie].concat();
+        leaves_tables(&tables(), &request(5, NEW, &[&source, &cookie]), &copied);
+        let both = [values(41), copied].concat();
+        leaves_tables(&tables(), &request(5, NEW, &[&cookie, &destination, &source]), &both);
+    }
+
+    #[test]
+    fn lists_and_stale_updates_get_the_lent_values_too() {
+        let (source, destination) = (detection(4), detection(5));
+        let mut tables = tables();
+        let listing = request(5, NEW, &[&source, &address(1), &destination]);
+        for list in [1, 2] {
+            let handled = handle(&listing, &mut tables, Faults::NONE);
+            assert_eq!((handled.reply.update, handled.reply.list), (0, list));
+            assert_eq!(handled.response(), values(0));
+        }
+        tables.ike_mut()[0].update_mark = 9;
+        let stale = request(5, IPV6, &[&source, &UPDATE, &destination]);
+        leaves_tables(&tables, &stale, &values(0));
+    }
+
+    #[test]
+    fn refused_updates_get_no_lent_values() {
+        let chain: [&[u8]; 3] = [&detection(4), &detection(5), &UPDATE];
+        let request = request(1, IPV6, &chain);
+        let handled = handle(&request, &mut tables(), Faults::NONE);
+        assert_eq!(handled.reply.number, 9);
+        assert_eq!(handled.response(), [0, 0, 0, 8, 0, 0, 0, 40]);
+    }
+
     #[test]
     fn the_longest_response_fills_the_least_output() {
-        let detection = |last| [&[0, 0, 0x40, last][..], &[9; 20]].concat();
         let cookie = [&[1, 0, 0x40, 0x11][..], &[5; 64]].concat();
-        let asked: [&[u8]; 4] = [&cookie, &detection(5), &UPDATE, &detection(4)];
-        let request = request(0, NEW, &asked);
-        let handled = handle(&request, &mut tables(), Faults::NONE);
-        let mut expected = vec![41, 0, 0, 28, 0, 0, 0x40, 4];
-        expected.extend([3; 20]);
-        expected.extend([41, 0, 0, 28, 0, 0, 0x40, 5]);
-        expected.extend([4; 20]);
+        let mut expected = values(41);
         expected.extend([0, 0, 0, 72, 0, 0, 0x40, 0x11]);
         expected.extend([5; 64]);
-        assert_eq!(handled.response(), expected);
-        assert_eq!((handled.reply.cookie.offset, handled.reply.cookie.length), (8, 64));
+        let asked: [&[u8]; 4] = [&cookie, &detection(5), &detection(4), &UPDATE];
+        for asked in [&asked[..], &asked[..3]] {
+            let request = request(0, NEW, asked);
+            let handled = handle(&request, &mut tables(), Faults::NONE);
+            assert_eq!(handled.response(), expected);
+            assert_eq!((handled.reply.cookie.offset, handled.reply.cookie.length), (8, 64));
+        }
     }
 }

@@ -1,12 +1,12 @@
 // Step 4 of a request: which notifications its response holds, and the octets of these.
-use crate::chain::HEADER_LENGTH;
+use crate::chain::{self, HEADER_LENGTH, NOTIFY};
 use crate::cookie;
 use crate::faults::{Fault, Faults};
 use crate::flaws::{Cause, Flaw};
 use crate::notifications::octets;
-use crate::notify::{NotifyType, NOTIFY_LENGTH};
+use crate::notify::{Notify, NotifyType, NOTIFY_LENGTH};
 use crate::request::Request;
-use crate::steps::Unfit;
+use crate::steps::{Effect, Unfit};
 use crate::summary::{Part, Summary};
 
 /// Notifications without an SPI: their types and data.
@@ -29,6 +29,9 @@ pub fn to_flawed(request: &Request, flaw: Flaw, faults: Faults) -> Vec<u8> {
         let part = cookie::of_refused(request.first, &request.body, faults);
         response.extend(part.map(copied));
     }
+    if faults.on(Fault::FlawedNatValues) {
+        response.extend(nat_values_of_refused(request));
+    }
     octets(&response)
 }
 
@@ -49,13 +52,35 @@ pub fn to_unfit(request: &Request, unfit: Unfit, summary: &Summary, faults: Faul
     octets(&response)
 }
 
-/// The NAT detection values where they are asked for, then the cookie.
-pub fn to_done(request: &Request, summary: &Summary, stale: bool, faults: Faults) -> Vec<u8> {
+/// How a done request stands to its record, on which no NAT detection value may depend.
+pub struct Standing {
+    pub update: Effect,
+    pub list: Effect,
+    /// The ID doesn't exceed the update mark that was there.
+    pub late: bool,
+    pub acceptable: bool,
+    /// The packet's pair isn't the one that the record had.
+    pub moved: bool,
+}
+
+/// The NAT detection values where both kinds are there, then the cookie.
+pub fn to_done(
+    request: &Request,
+    summary: &Summary,
+    standing: &Standing,
+    faults: Faults,
+) -> Vec<u8> {
     let mut response = nat_values(request, summary, faults);
-    if stale && faults.on(Fault::StaleNatValues) {
+    if withholds(summary, standing, faults) {
         response.clear();
     }
-    response.extend(summary.cookie.map(copied));
+    let keepalive = is_keepalive(summary) && !response.is_empty();
+    if !(keepalive && faults.on(Fault::KeepaliveInsteadOfCookie)) {
+        response.extend(summary.cookie.map(copied));
+    }
+    if keepalive && summary.cookie.is_some() && faults.on(Fault::KeepaliveCookieFirst) {
+        response.rotate_right(1);
+    }
     let mut octets = octets(&response);
     if let (Some(cookie), true) = (summary.cookie, faults.on(Fault::CookieHeader)) {
         copy_ignored(request, cookie, &mut octets);
@@ -63,30 +88,91 @@ pub fn to_done(request: &Request, summary: &Summary, stale: bool, faults: Faults
     octets
 }
 
-/// The two lent values, source first, for an update with both NAT detection kinds.
+/// Faults named after keepalives are about requests without an update only.
+fn is_keepalive(summary: &Summary) -> bool {
+    !summary.update
+}
+
+/// Whether a fault keeps the values from a request that is to have them.
+fn withholds(summary: &Summary, standing: &Standing, faults: Faults) -> bool {
+    let of_keepalives = [
+        (Fault::NatValuesUpdateOnly, true),
+        (Fault::KeepaliveLateNoValues, standing.late),
+        (Fault::KeepaliveClosedNoValues, !standing.acceptable),
+        (Fault::KeepaliveMovedNoValues, standing.moved),
+        (Fault::KeepaliveUnmovedNoValues, !standing.moved),
+        (Fault::KeepaliveListNoValues, summary.has_list()),
+        (Fault::KeepaliveStaleListNoValues, standing.list == Effect::Stale),
+        (Fault::KeepaliveCookieNoValues, summary.cookie.is_some()),
+        (Fault::KeepaliveNoNatsNoValues, summary.no_nats.is_some()),
+        (Fault::KeepaliveTwoSourcesNoValues, summary.nat_sources > 1),
+    ];
+    let withholds = |&(fault, so): &(Fault, bool)| so && faults.on(fault);
+    let stale = standing.update == Effect::Stale;
+    (is_keepalive(summary) && of_keepalives.iter().any(withholds))
+        || (stale && faults.on(Fault::StaleNatValues))
+}
+
+/// The two lent values, source first, for both NAT detection kinds, with an update or without.
 fn nat_values<'a>(
     request: &'a Request,
     summary: &Summary<'a>,
     faults: Faults,
 ) -> Notifications<'a> {
     let kinds = [summary.nat_source, summary.nat_destination];
-    let enough = if faults.on(Fault::OneNatKind) { 1 } else { 2 };
-    let asked_for = kinds.iter().flatten().count() >= enough;
-    if !asked_for || !(summary.update || faults.on(Fault::NatValuesAlways)) {
+    let in_keepalive = |fault| is_keepalive(summary) && faults.on(fault);
+    let by_kind = in_keepalive(Fault::KeepaliveKindByKind);
+    if !summary.has_both_nat_kinds() && !by_kind && !too_few_enough(summary, faults) {
         return vec![];
     }
     let mut values = [&request.nat_source[..], &request.nat_destination[..]];
-    if faults.on(Fault::NatValuesEchoed) {
+    if faults.on(Fault::NatValuesEchoed) || in_keepalive(Fault::KeepaliveValuesEchoed) {
         values = kinds.map(|kind| kind.map_or(&[][..], |part| part.octets));
     }
-    let mut response = vec![
-        (NotifyType::NAT_DETECTION_SOURCE_IP, values[0]),
-        (NotifyType::NAT_DETECTION_DESTINATION_IP, values[1]),
-    ];
-    if faults.on(Fault::NatDestinationFirst) {
+    let mut response = lent_values(values);
+    if by_kind {
+        let mut there = kinds.iter().map(Option::is_some);
+        response.retain(|_| there.next() == Some(true));
+    }
+    if faults.on(Fault::NatDestinationFirst) || in_keepalive(Fault::KeepaliveDestinationFirst) {
         response.reverse();
     }
     response
+}
+
+/// Whether a fault takes less than both kinds as enough.
+fn too_few_enough(summary: &Summary, faults: Faults) -> bool {
+    let source = summary.nat_source.is_some();
+    let destination = summary.nat_destination.is_some();
+    let of_keepalives = (source && faults.on(Fault::KeepaliveSourceEnough))
+        || (destination && faults.on(Fault::KeepaliveDestinationEnough))
+        || (summary.nat_sources > 1 && faults.on(Fault::KeepaliveTwoSourcesEnough))
+        || (!source && !destination && faults.on(Fault::KeepaliveNoKind));
+    (is_keepalive(summary) && of_keepalives)
+        || ((source || destination) && faults.on(Fault::OneNatKind))
+}
+
+fn lent_values([source, destination]: [&[u8]; 2]) -> Notifications<'_> {
+    vec![
+        (NotifyType::NAT_DETECTION_SOURCE_IP, source),
+        (NotifyType::NAT_DETECTION_DESTINATION_IP, destination),
+    ]
+}
+
+/// The lent values for both kinds in a refused chain, which only `flawed-nat-values` writes.
+fn nat_values_of_refused(request: &Request) -> Notifications<'_> {
+    let payloads = chain::split(request.first, &request.body).payloads;
+    let notifies = payloads.iter().filter(|payload| payload.payload_type == NOTIFY);
+    let types: Vec<NotifyType> = notifies
+        .filter_map(|payload| Notify::parse(payload, Faults::NONE))
+        .map(|notify| notify.notify_type)
+        .collect();
+    let kinds = [NotifyType::NAT_DETECTION_SOURCE_IP, NotifyType::NAT_DETECTION_DESTINATION_IP];
+    if kinds.iter().all(|kind| types.contains(kind)) {
+        lent_values([&request.nat_source, &request.nat_destination])
+    } else {
+        vec![]
+    }
 }
 
 /// The notification that copies a cookie.

@@ -27,7 +27,7 @@ pub fn mark(id: u32) -> u64 {
 }
 
 /// Whether the ID exceeds the mark; every ID exceeds none.
-fn exceeds(id: u32, kept: u64, faults: Faults) -> bool {
+pub fn exceeds(id: u32, kept: u64, faults: Faults) -> bool {
     match kept {
         0 if faults.on(Fault::NoneIsId0) => id > 0,
         kept if faults.on(Fault::EqualIdNew) => mark(id) >= kept,
@@ -37,7 +37,11 @@ fn exceeds(id: u32, kept: u64, faults: Faults) -> bool {
 
 /// Step 1.
 pub fn add_unknown(record: &mut IkeRecord, summary: &Summary, faults: Faults) {
-    let count = (summary.unknown_payloads + summary.unknown_notifies) as u32;
+    let mut count = (summary.unknown_payloads + summary.unknown_notifies) as u32;
+    let keepalive = summary.has_both_nat_kinds() && !summary.update;
+    if keepalive && faults.on(Fault::KeepaliveTallied) {
+        count += 2;
+    }
     record.unknown = match record.unknown {
         tally if faults.on(Fault::TallyWraps) => tally.wrapping_add(count),
         tally if faults.on(Fault::TallyOnce) => tally.saturating_add(count.min(1)),
@@ -91,8 +95,7 @@ pub fn update(
     }
     let fit = is_fit(request, passed, tables, faults);
     if !passed.summary.update {
-        let altered = fit == Err(Unfit::Altered) && faults.on(Fault::NoNatsAlone);
-        return if altered { Err(Unfit::Altered) } else { Ok(Effect::None) };
+        return without_update(request, passed, fit, tables, faults);
     }
     let kept = tables.ike.records[passed.place].update_mark;
     if !exceeds(request.id, kept, faults) {
@@ -108,6 +111,34 @@ pub fn update(
     fit?;
     move_records(tables, passed.place, request.pair, faults);
     Ok(Effect::Done)
+}
+
+/// Nothing is checked and nothing done, with both NAT detection kinds or without, but by faults.
+fn without_update(
+    request: &Request,
+    passed: &Passed,
+    fit: Result<(), Unfit>,
+    tables: &mut Tables,
+    faults: Faults,
+) -> Result<Effect, Unfit> {
+    if fit == Err(Unfit::Altered) && faults.on(Fault::NoNatsAlone) {
+        return Err(Unfit::Altered);
+    }
+    if !passed.summary.has_both_nat_kinds() {
+        return Ok(Effect::None);
+    }
+    match fit {
+        Err(Unfit::Altered) if faults.on(Fault::KeepaliveAltered) => fit?,
+        Err(Unfit::NotAcceptable) if faults.on(Fault::KeepaliveNotAcceptable) => fit?,
+        _ => {}
+    }
+    if faults.on(Fault::KeepaliveMarks) {
+        tables.ike_mut()[passed.place].update_mark = mark(request.id);
+    }
+    if faults.on(Fault::KeepaliveMoves) {
+        move_records(tables, passed.place, request.pair, faults);
+    }
+    Ok(if faults.on(Fault::KeepaliveApplied) { Effect::Done } else { Effect::None })
 }
 
 /// The IKE record and all its IPsec records take the pair.
@@ -141,7 +172,7 @@ pub fn list(
     update: Effect,
     faults: Faults,
 ) -> (Effect, usize) {
-    if summary.addresses == 0 && !summary.no_additional {
+    if !summary.has_list() {
         return (Effect::None, 0);
     }
     let left_off = summary.addresses - summary.kept.len();

@@ -37,6 +37,8 @@ pub struct Summary<'a> {
     pub no_additional: bool,
     pub no_nats: Option<NoNatsAllowed<'a>>,
     pub nat_source: Option<Part<'a>>,
+    /// How many NAT sources there are, of which the first is given.
+    pub nat_sources: usize,
     pub nat_destination: Option<Part<'a>>,
     pub cookie: Option<Part<'a>>,
     /// How many additional addresses there are, kept or not.
@@ -67,10 +69,21 @@ pub fn summarise<'a>(chain: &Chain<'a>, faults: Faults) -> Summary<'a> {
 }
 
 impl<'a> Summary<'a> {
+    /// Whether both NAT detection kinds are there.
+    pub fn has_both_nat_kinds(&self) -> bool {
+        self.nat_source.is_some() && self.nat_destination.is_some()
+    }
+
+    /// Whether there is a list of additional addresses, an empty one too.
+    pub fn has_list(&self) -> bool {
+        self.addresses > 0 || self.no_additional
+    }
+
     fn add(&mut self, notify: Notify<'a>, faults: Faults) {
         let part = Part { offset: notify.data_offset, octets: notify.data };
         match notify.notify_type {
             NotifyType::NAT_DETECTION_SOURCE_IP => {
+                self.nat_sources += 1;
                 if self.nat_source.is_none() || faults.on(Fault::NatSourceLast) {
                     self.nat_source = Some(part);
                 }

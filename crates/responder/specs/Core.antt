@@ -61,9 +61,9 @@ refusalReply number offset n =
 abbrev pub cookieIn : List ℕ → Seen → List ℕ
 cookieIn body s = partOf body (s .cookie) (s .«cookie_len»)
 
--- 01: "for a request with UPDATE_SA_ADDRESSES (stale ones too) and both NAT detection kinds".
+-- 01: "both NAT detection kinds"; E2: they are answered "in any INFORMATIONAL request", with an update or without.
 abbrev pub wantsNats : Seen → Bool
-wantsNats s = s .update && (not (eqb (s .«nat_source») 0) && not (eqb (s .«nat_destination») 0))
+wantsNats s = not (eqb (s .«nat_source») 0) && not (eqb (s .«nat_destination») 0)
 
 -- 01, step 4: "UNEXPECTED_NAT_DETECTED (41)" for 8, "UNACCEPTABLE_ADDRESSES (40)" for 9, each with the cookie; else the done response.
 unfoldable pub decidedOctets : ℕ → Bool → List ℕ → List ℕ → List ℕ → List ℕ

@@ -17,8 +17,8 @@ cookieNotify cookie = cond (eqb (length cookie) 0) [] (notifyOctets 0 16401 cook
 unfoldable pub errorResponse : ℕ → List ℕ → List ℕ → List ℕ
 errorResponse number octets cookie = notifyOctets (nextFor cookie) number octets ++ cookieNotify cookie
 
--- "Otherwise, for a request with UPDATE_SA_ADDRESSES (stale ones too) and both NAT detection kinds, the two lent values, source
--- first; then COOKIE2 unchanged."
+-- "Otherwise, for a request with ... both NAT detection kinds, the two lent values, source first; then COOKIE2 unchanged."; E2 leaves out the
+-- update that stood between.
 unfoldable pub doneResponse : Bool → List ℕ → List ℕ → List ℕ → List ℕ
 doneResponse wanted source destination cookie =
     cond wanted

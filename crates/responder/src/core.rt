@@ -97,15 +97,9 @@ pub fn refuse_chain(r: Reading, out: &mut [u8]) -> Reply
 pub fn wants_nats(seen: Seen) -> bool
     ensures { λ r. ⌜ r ≡ wantsNats seen ⌝ }
 {
-    if seen.update {
-        if seen.nat_source == 0 {
-            false
-        } else {
-            seen.nat_destination != 0
-        }
-    } else {
-        false
-    }
+    let source = seen.nat_source != 0;
+    let destination = seen.nat_destination != 0;
+    if source { destination } else { false }
 }
 
 // Step 4: the response to a request that was decided with `number`.

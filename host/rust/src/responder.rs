@@ -29,9 +29,11 @@ pub struct Request<'a> {
 /// | [`BadArgument`](Number::BadArgument), [`OutputTooShort`](Number::OutputTooShort), [`BodyTooLong`](Number::BodyTooLong), [`NoSuchRecord`](Number::NoSuchRecord), [`MobikeNotAgreed`](Number::MobikeNotAgreed) | none | as they were |
 /// | [`Malformed`](Number::Malformed), [`UnknownCritical`](Number::UnknownCritical) | the error | as they were |
 /// | [`AddressesAltered`](Number::AddressesAltered), [`NotAcceptable`](Number::NotAcceptable) | the error, then the cookie | tally and update mark |
-/// | [`Done`](Number::Done) | the NAT detection values if the request asks for them, then the cookie | tally, update, list |
+/// | [`Done`](Number::Done) | both NAT detection values if the request has both kinds, then the cookie | tally, update, list |
 ///
-/// An applied update moves the IKE record and all IPsec records that it owns to the packet's pair.
+/// An applied update moves the IKE record and all IPsec records that it owns to the packet's pair. The
+/// NAT detection values are given with an update, applied or stale, and without one, so that a keepalive
+/// shows a changed mapping.
 #[inline]
 pub fn handle(
     ike: &mut [IkeRecord; 32],

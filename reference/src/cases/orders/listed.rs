@@ -1,4 +1,6 @@
-// The lists every run begins with: late and repeated updates and lists, in every order of three.
+// The lists every run begins with: late and repeated updates, lists and keepalives, in every order
+// of three.
+use super::super::requests::listed::responses::nat_detection;
 use super::super::requests::listed::setting::{self, cookie, list, packet, request, update};
 use super::super::tables::spis;
 use super::Case;
@@ -44,6 +46,8 @@ fn lists() -> Vec<[Request; 3]> {
     let refused = |id| Request { pair: packet(4), ..updating(id) };
     let listing = |id, size| numbered(id, request(&list(size)));
     let both = |id, size| numbered(id, request(&[&[update()], &list(size)[..]].concat()));
+    let keepalive = |id| numbered(id, request(&nat_detection(&[0, 1])));
+    let one_kind = |id| numbered(id, request(&nat_detection(&[1])));
     let of_other = |of: Request| Request { spi: spis::ike(2), ..of };
     let of_none = |of: Request| Request { spi: 0, ..of };
     vec![
@@ -60,5 +64,11 @@ fn lists() -> Vec<[Request; 3]> {
         [updating(6), of_other(updating(7)), updating(8)],
         [of_none(updating(6)), updating(7), of_none(updating(8))],
         [updating(9), numbered(9, request(&[cookie(8)])), listing(10, 1)],
+        [keepalive(6), updating(7), keepalive(8)],
+        [keepalive(9), updating(8), keepalive(7)],
+        [updating(6), keepalive(8), updating(7)],
+        [updating(6), keepalive(6), refused(7)],
+        [keepalive(6), of_other(keepalive(7)), one_kind(8)],
+        [listing(6, 2), keepalive(7), of_none(keepalive(8))],
     ]
 }

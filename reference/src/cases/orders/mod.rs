@@ -85,6 +85,8 @@ mod tests {
         assert!(told(Fault::MovedByPair, "kept order: the tables"));
         assert!(told(Fault::ListAppended, "freed order: the tables"));
         assert!(told(Fault::NoneIsId0, "freed order: SA"));
+        assert!(told(Fault::KeepaliveMoves, "freed order: SA"));
+        assert!(told(Fault::KeepaliveMarks, "freed order: SA"));
     }
 
     #[test]

@@ -74,4 +74,15 @@ mod tests {
             assert!(told.into_iter().all(often), "{met:?}");
         }
     }
+
+    #[test]
+    fn random_cases_get_nat_values_often_with_each_effect() {
+        let done = (0..3).flat_map(|update| [false, true].map(|values| Some((update, values))));
+        let answers: Vec<_> = done.chain([None]).collect();
+        met::assert_often(&answers, |Case { mut tables, request }| {
+            let handled = handle(&request, &mut tables, Faults::NONE);
+            let values = handled.response().get(6..8) == Some(&[0x40, 4]);
+            (handled.reply.number == 0).then_some((handled.reply.update, values))
+        });
+    }
 }

@@ -82,11 +82,13 @@ fn pairs() -> Vec<Case> {
     pairs.map(|pair| case(Request { pair, ..request(&[update()]) })).collect()
 }
 
-/// Lent values of all small lengths, in requests that ask for them or for nothing.
+/// Lent values of all small lengths, with an update or without, where they are asked for or aren't.
 fn lent_values() -> Vec<Case> {
+    let keepalive = super::responses::nat_detection(&[0, 1]);
+    let updating = [&keepalive[..], &[update()]].concat();
     let mut cases = Vec::new();
     for length in (0..=24).chain([255, 276]) {
-        for payloads in [&[][..], &[update()]] {
+        for payloads in [&[][..], &[update()], &keepalive, &updating] {
             let value = vec![7; length];
             let request = request(payloads);
             let source = Request { nat_source: value.clone(), ..request.clone() };
@@ -98,13 +100,15 @@ fn lent_values() -> Vec<Case> {
     cases
 }
 
-/// Outputs of all lengths that matter, for the empty, the shortest and the longest response.
+/// Outputs of all lengths that matter, for the empty, the shortest and the longest response, the
+/// last with an update and without.
 fn outputs() -> Vec<Case> {
-    let longest = [super::responses::nat_detection(&[0, 1]), vec![update(), cookie(64)]].concat();
+    let longest = [super::responses::nat_detection(&[0, 1]), vec![cookie(64), update()]].concat();
+    let keepalive = &longest[..3];
     let flawed = vec![Draft::payload(NOTIFY, 0, vec![])];
     let mut cases = Vec::new();
     for length in [0, 1, 8, 127, 128, 129, 255, 256, 300, 564, 65535, 65536, 70000] {
-        for payloads in [&[][..], &longest, &flawed] {
+        for payloads in [&[][..], &longest, keepalive, &flawed] {
             let output = vec![0xa5; length];
             cases.push(case(Request { output, ..request(payloads) }));
         }

@@ -1,12 +1,13 @@
 // The requests every run begins with: the papers' rows, each check, mark, list and record.
 mod agreements;
 mod checks;
+mod keepalives;
 mod lengths;
 mod lists;
 mod marks;
 mod no_nats;
 mod records;
-mod responses;
+pub(in crate::cases) mod responses;
 mod rows;
 pub(in crate::cases) mod setting;
 mod tallies;
@@ -22,6 +23,7 @@ pub fn all() -> Vec<Case> {
         lists::all(),
         tallies::all(),
         responses::all(),
+        keepalives::all(),
         records::all(),
         lengths::all(),
         agreements::all(),
