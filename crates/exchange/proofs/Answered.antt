@@ -22,7 +22,7 @@ use Rattle.writing.specs.Notify.{Notification, notification, notifyOctets, firs
 use Rattle.writing.proofs.Placed.{length-notify}
 use Rattle.writing.proofs.Chained.{chained-one}
 use Rattle.reader.specs.Chain.{reading}
-use Rattle.responder.specs.Respond.{nextFor, cookieNotify, doneResponse}
+use Rattle.responding.specs.Respond.{nextFor, cookieNotify, doneResponse}
 use Rattle.responder.specs.Core.{firstOf, cookieIn, wantsNats, decisionOn, decidedOctets, coreAnswer, coreResponse}
 use Rattle.responder.specs.Handle.{Request as Received, meant, recordNumber, checkedNumber, earlyNumber, handled, handledResponse}
 use Rattle.responder.proofs.Refused.{decision-of}

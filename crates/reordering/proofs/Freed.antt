@@ -10,11 +10,11 @@ use lib.Seq.{getD-set-same, set-set}
 use Rattle.octets.specs.Lists.{placeOf}
 use Rattle.address.specs.declared.pair.Pair.{Pair}
 use Rattle.policy.specs.declared.rules.Policy.{Policy}
-use Rattle.tables.specs.Records.{ikeSpi, noIke, follows}
+use Rattle.tables.specs.Records.{ikeSpi, noIke, rewritten, follows}
 use Rattle.tables.specs.Reached.{Tables, tables}
 use Rattle.tables.specs.declared.ike.IkeRecord.{IkeRecord}
 use Rattle.tables.specs.declared.ipsec.IpsecRecord.{IpsecRecord}
-use Rattle.responder.specs.Decide.{tallied, hasList}
+use Rattle.deciding.specs.Decide.{tallied, hasList}
 use Rattle.findings.specs.Values.{addressesIn}
 use Rattle.responder.specs.Handle.{Request, meant}
 use Rattle.reordering.specs.Requests.{step, seenIn}
@@ -53,16 +53,9 @@ advanced-agree q r d e =
     let u = winner (idOf q) (idOf r) (e .«update_mark») d (seenIn q .update) (seenIn r .update) in
     let l = winner (idOf q) (idOf r) (e .«list_mark») d (hasList (seenIn q)) (hasList (seenIn r)) in
     λ i.
-    record {
-      spi = e .spi;
-      agreed = e .agreed;
-      pair = agree u (q .asks .pair) (r .asks .pair) (e .pair) i;
-      «update_mark» = agree u (idOf q + 1) (idOf r + 1) (e .«update_mark») i;
-      «list_mark» = agree l (idOf q + 1) (idOf r + 1) (e .«list_mark») i;
-      count = agree l (min (seenIn q .list .count) 16) (min (seenIn r .list .count) 16) (e .count) i;
-      addresses = agree l (addressesIn (q .asks .body) (seenIn q .list)) (addressesIn (r .asks .body) (seenIn r .list)) (e .addresses) i;
-      unknown = tally i;
-    }
+    rewritten (agree u (q .asks .pair) (r .asks .pair) (e .pair) i) (agree u (idOf q + 1) (idOf r + 1) (e .«update_mark») i) (agree l (idOf q + 1) (idOf r + 1) (e .«list_mark») i)
+    (agree l (min (seenIn q .list .count) 16) (min (seenIn r .list .count) 16) (e .count) i)
+    (agree l (addressesIn (q .asks .body) (seenIn q .list)) (addressesIn (r .asks .body) (seenIn r .list)) (e .addresses) i) (tally i) e
   where
     amount : Request → ℕ
     amount x = seenIn x .tally .«unknown_payloads» + seenIn x .tally .«unknown_notifies»

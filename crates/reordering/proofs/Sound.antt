@@ -12,14 +12,14 @@ use Rattle.findings.specs.Values.{noNatsSeen, addressesIn}
 use Rattle.findings.specs.declared.seen.Seen.{Seen}
 use Rattle.policy.specs.declared.rules.Policy.{Policy}
 use Rattle.reader.specs.Chain.{reading}
-use Rattle.tables.specs.Records.{marksIn, remarked, relisted}
+use Rattle.tables.specs.Records.{marksIn, rewritten, remarked, relisted}
 use Rattle.tables.specs.Reached.{Tables}
 use Rattle.tables.specs.declared.ike.IkeRecord.{IkeRecord}
 use Rattle.tables.specs.declared.ike.Marks.{Marks}
-use Rattle.responder.specs.Decide.{tallied, verdict, counted, marked, listMarked, decision, leftOff, hasList, listDecided, updateDecided, decided}
+use Rattle.deciding.specs.Decide.{tallied, verdict, counted, marked, listMarked, decision, leftOff, hasList, listDecided, updateDecided, decided}
 use Rattle.responder.specs.Core.{decisionOn, coreAnswer, changedBy}
 use Rattle.responder.specs.Handle.{Request}
-use Rattle.responder.specs.declared.decide.Decision.{Decision}
+use Rattle.deciding.specs.declared.decide.Decision.{Decision}
 use Rattle.reordering.specs.Requests.{seenIn, sound}
 use Rattle.reordering.proofs.Steps.{early, entry, core}
 use Rattle.reordering.proofs.Winner.{counts}
@@ -40,16 +40,8 @@ unknownIn q = seenIn q .tally .«unknown_payloads» + seenIn q .tally .«unknown
 abbrev pub advanced : Request → IkeRecord → IkeRecord
 advanced q e =
     let s = seenIn q in
-    record {
-      spi = e .spi;
-      agreed = e .agreed;
-      pair = cond (updates q e) (q .asks .pair) (e .pair);
-      «update_mark» = cond (updates q e) (idOf q + 1) (e .«update_mark»);
-      «list_mark» = cond (lists q e) (idOf q + 1) (e .«list_mark»);
-      count = cond (lists q e) (min (s .list .count) 16) (e .count);
-      addresses = cond (lists q e) (addressesIn (q .asks .body) (s .list)) (e .addresses);
-      unknown = tallied (e .unknown) (unknownIn q);
-    }
+    rewritten (cond (updates q e) (q .asks .pair) (e .pair)) (cond (updates q e) (idOf q + 1) (e .«update_mark»)) (cond (lists q e) (idOf q + 1) (e .«list_mark»))
+    (cond (lists q e) (min (s .list .count) 16) (e .count)) (cond (lists q e) (addressesIn (q .asks .body) (s .list)) (e .addresses)) (tallied (e .unknown) (unknownIn q)) e
 
 -- What a decision comes to where nothing is refused: `u` and `l` say whether the update and the list count.
 pub record Comes (u l : Bool) (id : ℕ) (m : Marks) (d : Decision) : Type 0 where
@@ -85,16 +77,7 @@ decided-sound s id v m z = go (s .update) (leb (m .«update_mark») id) (eqb v 0
 changed-sound : (u l : Bool) (id n : ℕ) (p : Pair) (list : List Address) (e : IkeRecord) (m : Marks) (moves relists : Bool) → moves ≡ u → relists ≡ l
     → m .«update_mark» ≡ cond u (id + 1) (e .«update_mark») → m .«list_mark» ≡ cond l (id + 1) (e .«list_mark»)
     → cond relists (relisted n list (remarked m moves p e)) (remarked m moves p e)
-    ≡ record {
-      spi = e .spi;
-      agreed = e .agreed;
-      pair = cond u p (e .pair);
-      «update_mark» = cond u (id + 1) (e .«update_mark»);
-      «list_mark» = cond l (id + 1) (e .«list_mark»);
-      count = cond l n (e .count);
-      addresses = cond l list (e .addresses);
-      unknown = m .unknown;
-    }
+    ≡ rewritten (cond u p (e .pair)) (cond u (id + 1) (e .«update_mark»)) (cond l (id + 1) (e .«list_mark»)) (cond l n (e .count)) (cond l list (e .addresses)) (m .unknown) e
 changed-sound u true id n p list e m moves relists f g i j = rw (f, g, i, j)
 changed-sound u false id n p list e m moves relists f g i j = rw (f, g, i, j)
 

@@ -13,7 +13,7 @@ use Rattle.policy.specs.declared.rules.Policy.{Policy}
 use Rattle.reader.specs.Chain.{reading}
 use Rattle.tables.specs.Calls.{hasIke}
 use Rattle.tables.specs.Reached.{Tables, tables}
-use Rattle.responder.specs.Decide.{verdict}
+use Rattle.deciding.specs.Decide.{verdict}
 use Rattle.responder.specs.Handle.{Request, meant, earlyNumber, handled, handledResponse}
 use Rattle.responder.specs.declared.core.Reply.{Reply}
 

@@ -12,31 +12,8 @@ use Rattle.findings.specs.declared.seen.Seen.{Seen}
 use Rattle.reader.specs.Chain.{reading}
 use Rattle.reader.proofs.Cookie.{cookie-short}
 use Rattle.responder.specs.Core.{cookieIn, decidedOctets}
-use Rattle.responder.specs.Respond.{nextFor, cookieNotify, errorResponse, doneResponse}
-
-pub cookie-length : (cookie : List ℕ) → length (cookieNotify cookie) ≤ 8 + length cookie
-unfolding cookieNotify
-cookie-length cookie = go (eqb (length cookie) 0)
-  where
-    go : (b : Bool) → length (cond b [] (notifyOctets 0 16401 cookie)) ≤ 8 + length cookie
-    go true = omega arith
-    go false = omega (arith, length-notify 0 16401 cookie)
-
-pub error-length : (number : ℕ) (octets cookie : List ℕ) → length (errorResponse number octets cookie) ≤ 16 + length octets + length cookie
-unfolding errorResponse
-error-length number octets cookie =
-    rw (length-append (notifyOctets (nextFor cookie) number octets) (cookieNotify cookie))
-    (omega (arith, length-notify (nextFor cookie) number octets, cookie-length cookie))
-
-pub done-length : (wanted : Bool) (source destination cookie : List ℕ)
-    → length (doneResponse wanted source destination cookie) ≤ 24 + length source + length destination + length cookie
-unfolding doneResponse
-done-length true source destination cookie =
-    let first = notifyOctets 41 16388 source in
-    let second = notifyOctets (nextFor cookie) 16389 destination in
-    rw (length-append first (second ++ cookieNotify cookie), length-append second (cookieNotify cookie))
-    (omega (arith, length-notify 41 16388 source, length-notify (nextFor cookie) 16389 destination, cookie-length cookie))
-done-length false source destination cookie = omega (arith, cookie-length cookie)
+use Rattle.responding.specs.Respond.{errorResponse, doneResponse}
+use Rattle.responding.proofs.Lengths.{error-length, done-length}
 
 -- the cookie of a chain that was read has at most 64 octets
 pub cookie-part : (first : ℕ) (body : List ℕ) (s : Seen) → s ≡ reading first body .seen → length (cookieIn body s) ≤ 64

@@ -4,4 +4,3 @@ pub mod Ways
 pub mod Checks
 pub mod Looked
 pub mod Refused
-pub mod Rows

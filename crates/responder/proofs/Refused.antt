@@ -18,10 +18,10 @@ use Rattle.tables.specs.Records.{ikeSpi, noIke, marksIn}
 use Rattle.tables.specs.declared.ike.IkeRecord.{IkeRecord}
 use Rattle.tables.specs.declared.ike.Marks.{Marks}
 use Rattle.tables.specs.declared.ipsec.IpsecRecord.{IpsecRecord}
-use Rattle.responder.specs.Decide.{marked, unaltered, verdict, hasList, listDecided, updateDecided, decided}
+use Rattle.deciding.specs.Decide.{marked, unaltered, verdict, hasList, listDecided, updateDecided, decided}
 use Rattle.responder.specs.Core.{Asked, decisionOn, coreAnswer, changedBy}
 use Rattle.responder.specs.Handle.{Request, meant, earlyNumber, handled}
-use Rattle.responder.specs.declared.decide.Decision.{Decision}
+use Rattle.deciding.specs.declared.decide.Decision.{Decision}
 
 -- What holds of 0, 8 and 9 holds of the number that a decision gives.
 module _ (P : ℕ → Type 0) (done : P 0) (altered : P 8) (unacceptable : P 9) where

@@ -12,9 +12,9 @@ use Rattle.reader.specs.Chain.{reading}
 use Rattle.reader.specs.declared.read.Reading.{Reading}
 use Rattle.findings.specs.declared.seen.Places.{Places}
 use Rattle.tables.specs.declared.ike.Marks.{Marks}
-use Rattle.responder.specs.Decide.{decided}
+use Rattle.deciding.specs.Decide.{decided}
 use Rattle.responder.specs.Core.{Asked, wantsNats, cookieIn, chainError, refusalReply, decidedOctets, decidedReply, unchangedAnswer, coreAnswer, coreResponse}
-use Rattle.responder.specs.declared.decide.Decision.{Decision}
+use Rattle.deciding.specs.declared.decide.Decision.{Decision}
 use Rattle.responder.specs.declared.core.Reply.{Reply}
 use Rattle.responder.specs.declared.core.CoreAnswer.{CoreAnswer}
 

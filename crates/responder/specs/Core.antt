@@ -14,9 +14,9 @@ use Rattle.reader.specs.declared.read.Reading.{Reading}
 use Rattle.tables.specs.Records.{marksIn, remarked, relisted}
 use Rattle.tables.specs.declared.ike.IkeRecord.{IkeRecord}
 use Rattle.tables.specs.declared.ike.Marks.{Marks}
-use Rattle.responder.specs.Decide.{decided}
-use Rattle.responder.specs.Respond.{errorResponse, doneResponse}
-use Rattle.responder.specs.declared.decide.Decision.{Decision}
+use Rattle.deciding.specs.Decide.{decided}
+use Rattle.responding.specs.Respond.{errorResponse, doneResponse}
+use Rattle.deciding.specs.declared.decide.Decision.{Decision}
 use Rattle.responder.specs.declared.core.Reply.{Reply}
 use Rattle.responder.specs.declared.core.CoreAnswer.{CoreAnswer}
 

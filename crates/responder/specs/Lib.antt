@@ -1,5 +1,2 @@
-pub mod Decide
-pub mod Respond
 pub mod Core
 pub mod Handle
-pub mod Rows

@@ -1,10 +1,8 @@
 // One request by the marks of the record that it means: read, decide, respond.
-use crate::decide::DONE;
-use crate::decide::Decision;
-use crate::decide::decide;
-use crate::respond::put_done;
-use crate::respond::put_error;
 use address::pair::Pair;
+use deciding::decide::DONE;
+use deciding::decide::Decision;
+use deciding::decide::decide;
 use findings::seen::Places;
 use findings::seen::Seen;
 use findings::seen::nothing_seen;
@@ -15,6 +13,8 @@ use findings::values::no_nats;
 use policy::rules::Policy;
 use reader::read::Reading;
 use reader::read::read;
+use responding::respond::put_done;
+use responding::respond::put_error;
 use tables::ike::IkeRecord;
 use tables::ike::Marks;
 use tables::ike::relist;
@@ -23,7 +23,7 @@ ghost use mathlib.Core.Path.{_≡_};
 ghost use Prim.Native.Nat.{_≤_};
 ghost use lib.ListN.{length};
 ghost use Rattle.findings.specs.Values.{noNatsSeen};
-ghost use Rattle.responder.specs.Decide.{decided};
+ghost use Rattle.deciding.specs.Decide.{decided};
 ghost use Rattle.writing.specs.Notify.{placed};
 ghost use Rattle.responder.specs.Core.{asked, firstOf, refusalReply, chainError, wantsNats, decidedOctets, decidedReply, unchangedAnswer, coreAnswer, coreResponse, changedBy};
 

@@ -71,30 +71,24 @@ follows owner pair r = cond (eqb (r .spi) 0) r (cond (eqb (r .owner) owner) (new
 abbrev pub marksIn : IkeRecord → Marks
 marksIn r = record { agreed = r .agreed; «update_mark» = r .«update_mark»; «list_mark» = r .«list_mark»; unknown = r .unknown }
 
--- the record with these marks and this tally; and, where it moves, "the IKE record ... take[s] the packet's pair"
-abbrev pub remarked : Marks → Bool → Pair → IkeRecord → IkeRecord
-remarked m moves pair r =
+-- the record with all that a request may change in it; what else it holds is kept
+abbrev pub rewritten : Pair → ℕ → ℕ → ℕ → List Address → ℕ → IkeRecord → IkeRecord
+rewritten pair updateMark listMark count addresses unknown r =
     record {
       spi = r .spi;
       agreed = r .agreed;
-      pair = cond moves pair (r .pair);
-      «update_mark» = m .«update_mark»;
-      «list_mark» = m .«list_mark»;
-      count = r .count;
-      addresses = r .addresses;
-      unknown = m .unknown;
+      pair = pair;
+      «update_mark» = updateMark;
+      «list_mark» = listMark;
+      count = count;
+      addresses = addresses;
+      unknown = unknown;
     }
+
+-- the record with these marks and this tally; and, where it moves, "the IKE record ... take[s] the packet's pair"
+abbrev pub remarked : Marks → Bool → Pair → IkeRecord → IkeRecord
+remarked m moves pair r = rewritten (cond moves pair (r .pair)) (m .«update_mark») (m .«list_mark») (r .count) (r .addresses) (m .unknown) r
 
 -- the record with another list
 abbrev pub relisted : ℕ → List Address → IkeRecord → IkeRecord
-relisted count addresses r =
-    record {
-      spi = r .spi;
-      agreed = r .agreed;
-      pair = r .pair;
-      «update_mark» = r .«update_mark»;
-      «list_mark» = r .«list_mark»;
-      count = count;
-      addresses = addresses;
-      unknown = r .unknown;
-    }
+relisted count addresses r = rewritten (r .pair) (r .«update_mark») (r .«list_mark») count addresses (r .unknown) r

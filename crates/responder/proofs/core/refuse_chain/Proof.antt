@@ -5,7 +5,7 @@ use native.Mathlib.Omega.{arith}
 use mathlib.Core.List.{[], _∷_}
 use borrow.Author.Tests.{eq-eqb, ne-eqb}
 use Rattle.responder.specs.Core.{chainError}
-use Rattle.responder.proofs.Lengths.{error-length}
+use Rattle.responding.proofs.Lengths.{error-length}
 use Rattle.responder.proofs.core.refuse_chain.Statement.{statement}
 use Rattle.responder.proofs.core.refuse_chain.Tie as tie
 

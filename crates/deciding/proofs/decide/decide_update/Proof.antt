@@ -1,0 +1,21 @@
+-- `responder::decide::decide_update` meets its contract.
+-- Assumes nothing.
+use borrow.Author.Needs.{needs}
+use borrow.Author.Tests.{le-leb, lt-leb, eq-eqb, ne-eqb}
+use Rattle.deciding.specs.Decide.{updateDecided, listDecided}
+use Rattle.deciding.proofs.decide.decide_update.Statement.{statement}
+use Rattle.deciding.proofs.decide.decide_update.Tie as tie
+
+pub decide-update-spec : {M : Type 1} → statement M
+unfolding updateDecided listDecided
+decide-update-spec =
+    tie.close
+    (tie.spec
+    (λ c. search needs)
+    (λ c κs. search needs)
+    (λ c. rw (c .before .before .before .before .if1 .taken, le-leb _ _ (c .before .before .if2 .taken), eq-eqb _ _ (c .before .if3 .taken)) (c .decide-list .ensures))
+    (λ c. rw (c .before .before .before .if1 .taken, le-leb _ _ (c .before .if2 .taken), ne-eqb _ _ (c .if3 .left)))
+    (λ c κs. search needs)
+    (λ c. rw (c .before .before .before .if1 .taken, lt-leb _ _ (c .before .if2 .left)) (c .decide-list2 .ensures))
+    (λ c κs. search needs)
+    (λ c. rw (c .before .if1 .left) (c .decide-list3 .ensures)))

@@ -1,0 +1,2 @@
+// The decision on one record, by its marks.
+pub mod decide;

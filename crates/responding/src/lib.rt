@@ -1,0 +1,2 @@
+// The response payloads.
+pub mod respond;

@@ -1,0 +1,20 @@
+-- 01's rows a to j hold of the definitions: one test, computed over the whole table.
+use mathlib.Core.Path.{_≡_, refl}
+use mathlib.Core.Bool.{true}
+use Rattle.octets.specs.Lists.{all}
+use Rattle.payload.specs.Notify.{kindOf}
+use Rattle.payload.specs.Payload.{notifyAt, sized, payloadAt}
+use Rattle.findings.specs.Seen.{noted, contentNoted}
+use Rattle.reader.specs.Chain.{chain, chainAt, scanned, reading}
+use Rattle.policy.specs.Prefix.{prefixMatches}
+use Rattle.policy.specs.Policy.{ruleMatches, acceptable}
+use Rattle.writing.specs.Notify.{notifyOctets}
+use Rattle.deciding.specs.Decide.{unaltered, verdict, listDecided, updateDecided, decided}
+use Rattle.responding.specs.Respond.{cookieNotify, errorResponse, doneResponse}
+use Rattle.responder.specs.Core.{chainError, decidedOctets, coreResponse, coreAnswer, changedBy}
+use Rattle.responder.specs.Handle.{recordNumber, checkedNumber, handled, handledResponse}
+use Rattle.rows.specs.Rows.{rowHolds, rows}
+
+pub rows-hold : all rowHolds rows ≡ true
+unfolding rowHolds kindOf notifyAt sized payloadAt noted contentNoted chain chainAt scanned reading prefixMatches ruleMatches acceptable notifyOctets unaltered verdict listDecided updateDecided decided cookieNotify errorResponse doneResponse chainError decidedOctets coreResponse coreAnswer changedBy recordNumber checkedNumber handled handledResponse
+rows-hold = refl

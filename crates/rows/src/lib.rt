@@ -1,0 +1,1 @@
+// The rows of the requirements, with definitions and proofs and no code.
