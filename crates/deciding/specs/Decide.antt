@@ -1,6 +1,6 @@
 -- One request by the marks of the record that it means: 01's "One request, step by step", steps 1 to 3.
 use Prim.Native.Nat.{ℕ, _+_, _-_, min}
-use mathlib.Core.Bool.{Bool, cond, _&&_, _||_, not}
+use mathlib.Core.Bool.{Bool, true, false, cond, _&&_, _||_, not}
 use lib.Dec.{eqb, leb}
 use Rattle.octets.specs.Lists.{sameOctets}
 use Rattle.address.specs.declared.pair.Pair.{Pair}
@@ -10,6 +10,32 @@ use Rattle.policy.specs.Policy.{acceptable}
 use Rattle.policy.specs.declared.rules.Policy.{Policy}
 use Rattle.tables.specs.declared.ike.Marks.{Marks}
 use Rattle.deciding.specs.declared.decide.Decision.{Decision}
+use Rattle.deciding.specs.declared.decide.Effect.{Effect}
+use Rattle.deciding.specs.declared.decide.Effect.the-variants.{None, Done, Stale}
+use Rattle.deciding.specs.declared.decide.Verdict.{Verdict}
+use Rattle.deciding.specs.declared.decide.Verdict.the-variants.{Accepted, Altered, Unacceptable}
+
+-- 01's numbers: "tells update none, applied, stale and list none, replaced, stale".
+abbrev pub effectNumber : Effect → ℕ
+effectNumber None = 0
+effectNumber Done = 1
+effectNumber Stale = 2
+
+-- 01: "8: addresses altered on the way", "9: pair not acceptable", else 0.
+abbrev pub verdictNumber : Verdict → ℕ
+verdictNumber Accepted = 0
+verdictNumber Altered = 8
+verdictNumber Unacceptable = 9
+
+abbrev pub isDone : Effect → Bool
+isDone None = false
+isDone Done = true
+isDone Stale = false
+
+abbrev pub isAccepted : Verdict → Bool
+isAccepted Accepted = true
+isAccepted Altered = false
+isAccepted Unacceptable = false
 
 -- 01: "an unknown tally that stays at 4,294,967,295 once there".
 abbrev pub tallied : ℕ → ℕ → ℕ
@@ -26,8 +52,8 @@ unaltered n p =
     && sameOctets 16 (n .destination) (p .destination)))))
 
 -- 01: "Then NO_NATS_ALLOWED ..., else 8 ... Then the pair must be acceptable, else 9."
-unfoldable pub verdict : Policy → NoNats → Pair → ℕ
-verdict policy n p = cond (unaltered n p) (cond (acceptable policy p) 0 9) 8
+unfoldable pub verdict : Policy → NoNats → Pair → Verdict
+verdict policy n p = cond (unaltered n p) (cond (acceptable policy p) Accepted Unacceptable) Altered
 
 -- 01: "Unknown payloads and unknown notifications are added to that record's tally, one each."
 abbrev pub counted : ℕ → Marks → Marks
@@ -41,8 +67,8 @@ marked id m = record { agreed = m .agreed; «update_mark» = id + 1; «list_mark
 abbrev pub listMarked : ℕ → Marks → Marks
 listMarked id m = record { agreed = m .agreed; «update_mark» = m .«update_mark»; «list_mark» = id + 1; unknown = m .unknown }
 
-abbrev pub decision : ℕ → ℕ → ℕ → ℕ → Marks → Decision
-decision number update list off m = record { number = number; update = update; list = list; «left_off» = off; marks = m }
+abbrev pub decision : Verdict → Effect → Effect → ℕ → Marks → Decision
+decision verdict update list off m = record { verdict = verdict; update = update; list = list; «left_off» = off; marks = m }
 
 -- 01: "The first 16 are kept; the answer tells how many were left off".
 abbrev pub leftOff : ℕ → ℕ
@@ -52,22 +78,22 @@ leftOff n = n - 16
 abbrev pub hasList : Seen → Bool
 hasList s = s .«no_additional» || not (eqb (s .list .count) 0)
 
--- Step 3: the list by its own mark. The update came to `update` before (0 none, 1 applied, 2 stale).
-unfoldable pub listDecided : Seen → ℕ → ℕ → Marks → Decision
+-- Step 3: the list by its own mark. The update came to `update` before.
+unfoldable pub listDecided : Seen → ℕ → Effect → Marks → Decision
 listDecided s id update m =
     cond (hasList s)
-    (cond (leb (m .«list_mark») id) (decision 0 update 1 (leftOff (s .list .count)) (listMarked id m)) (decision 0 update 2 0 m))
-    (decision 0 update 0 0 m)
+    (cond (leb (m .«list_mark») id) (decision Accepted update Done (leftOff (s .list .count)) (listMarked id m)) (decision Accepted update Stale 0 m))
+    (decision Accepted update None 0 m)
 
 -- Step 2, with the tally counted: "if the ID doesn't exceed the update mark, the update is stale and has no effect";
 -- "Unless 8 or 9" step 3 follows.
-unfoldable pub updateDecided : ℕ → Seen → ℕ → Marks → Decision
-updateDecided number s id m =
+unfoldable pub updateDecided : Verdict → Seen → ℕ → Marks → Decision
+updateDecided v s id m =
     cond (s .update)
     (cond (leb (m .«update_mark») id)
-    (cond (eqb number 0) (listDecided s id 1 (marked id m)) (decision number 0 0 0 (marked id m)))
-    (listDecided s id 2 m))
-    (listDecided s id 0 m)
+    (cond (isAccepted v) (listDecided s id Done (marked id m)) (decision v None None 0 (marked id m)))
+    (listDecided s id Stale m))
+    (listDecided s id None m)
 
 -- Steps 1 to 3.
 unfoldable pub decided : Policy → NoNats → Seen → Pair → ℕ → Marks → Decision

@@ -8,23 +8,71 @@ use policy::rules::is_acceptable;
 use tables::ike::Marks;
 ghost use mathlib.Core.Path.{_≡_};
 ghost use Prim.Native.Nat.{_<_};
-ghost use Rattle.deciding.specs.Decide.{tallied, unaltered, verdict, hasList, leftOff, listDecided, updateDecided, decided};
+ghost use Rattle.deciding.specs.Decide.{effectNumber, verdictNumber, isDone, isAccepted, tallied, unaltered, verdict, hasList, leftOff, listDecided, updateDecided, decided};
 
-// What an update or a list came to. 01's words for the numbers: none, applied or replaced, stale.
-pub const NONE: u8 = 0;
+// What became of an update or a list: 01's none, applied or replaced, stale.
+pub enum Effect {
+    None,
+    Done,
+    Stale,
+}
 
-pub const DONE: u8 = 1;
+// What an update that is not stale comes to: it is applied, was altered on the way, or is not acceptable.
+pub enum Verdict {
+    Accepted,
+    Altered,
+    Unacceptable,
+}
 
-pub const STALE: u8 = 2;
-
-// The decision: the number (0, 8 or 9), what became of the update and of the list, how many addresses were left off,
-// and the marks after it.
+// The decision: the verdict on the update (accepted where there is none to refuse), what became of the update and of the list, how many
+// addresses were left off, and the marks after it.
 pub struct Decision {
-    pub number: u8,
-    pub update: u8,
-    pub list: u8,
+    pub verdict: Verdict,
+    pub update: Effect,
+    pub list: Effect,
     pub left_off: u16,
     pub marks: Marks,
+}
+
+// 01's numbers for what is told of a decision.
+pub fn effect_number(e: Effect) -> u8
+    ensures { λ r. ⌜ r ≡ effectNumber e ⌝ }
+{
+    match e {
+        Effect::None => 0,
+        Effect::Done => 1,
+        Effect::Stale => 2,
+    }
+}
+
+pub fn verdict_number(v: Verdict) -> u8
+    ensures { λ r. ⌜ r ≡ verdictNumber v ⌝ }
+{
+    match v {
+        Verdict::Accepted => 0,
+        Verdict::Altered => 8,
+        Verdict::Unacceptable => 9,
+    }
+}
+
+pub fn is_done(e: Effect) -> bool
+    ensures { λ r. ⌜ r ≡ isDone e ⌝ }
+{
+    match e {
+        Effect::None => false,
+        Effect::Done => true,
+        Effect::Stale => false,
+    }
+}
+
+pub fn is_accepted(v: Verdict) -> bool
+    ensures { λ r. ⌜ r ≡ isAccepted v ⌝ }
+{
+    match v {
+        Verdict::Accepted => true,
+        Verdict::Altered => false,
+        Verdict::Unacceptable => false,
+    }
 }
 
 // The tally with n more; it stays at its greatest value once there.
@@ -64,14 +112,17 @@ pub fn is_unaltered(n: NoNats, pair: Pair) -> bool
     }
 }
 
-// What an update that is not stale is answered: 8 altered on the way, 9 not acceptable, 0 applied.
-pub fn verdict_on(policy: Policy, n: NoNats, pair: Pair) -> u8
+pub fn verdict_on(policy: Policy, n: NoNats, pair: Pair) -> Verdict
     ensures { λ r. ⌜ r ≡ verdict policy n pair ⌝ }
 {
     if is_unaltered(n, pair) {
-        if is_acceptable(policy, pair) { 0 } else { 9 }
+        if is_acceptable(policy, pair) {
+            Verdict::Accepted
+        } else {
+            Verdict::Unacceptable
+        }
     } else {
-        8
+        Verdict::Altered
     }
 }
 
@@ -95,7 +146,7 @@ pub fn left_off(n: u16) -> u16
 }
 
 // Step 3: an ID above the list mark replaces the list; what became of the update is told on.
-pub fn decide_list(seen: Seen, id: u32, update: u8, marks: Marks) -> Decision
+pub fn decide_list(seen: Seen, id: u32, update: Effect, marks: Marks) -> Decision
     ensures { λ r. ⌜ r ≡ listDecided seen id update marks ⌝ }
 {
     if carries_list(seen) {
@@ -104,52 +155,52 @@ pub fn decide_list(seen: Seen, id: u32, update: u8, marks: Marks) -> Decision
             let mut new = marks;
             new.list_mark = id as u64 + 1;
             return Decision {
-                number: 0,
+                verdict: Verdict::Accepted,
                 update,
-                list: DONE,
+                list: Effect::Done,
                 left_off: left_off(l.count),
                 marks: new,
             };
         }
         return Decision {
-            number: 0,
+            verdict: Verdict::Accepted,
             update,
-            list: STALE,
+            list: Effect::Stale,
             left_off: 0,
             marks,
         };
     }
     Decision {
-        number: 0,
+        verdict: Verdict::Accepted,
         update,
-        list: NONE,
+        list: Effect::None,
         left_off: 0,
         marks,
     }
 }
 
 // Step 2, then step 3 unless the update was refused with `verdict`.
-pub fn decide_update(verdict: u8, seen: Seen, id: u32, marks: Marks) -> Decision
+pub fn decide_update(verdict: Verdict, seen: Seen, id: u32, marks: Marks) -> Decision
     ensures { λ r. ⌜ r ≡ updateDecided verdict seen id marks ⌝ }
 {
     if seen.update {
         if marks.update_mark <= id as u64 {
             let mut new = marks;
             new.update_mark = id as u64 + 1;
-            if verdict == 0 {
-                return decide_list(seen, id, DONE, new);
+            if is_accepted(verdict) {
+                return decide_list(seen, id, Effect::Done, new);
             }
             return Decision {
-                number: verdict,
-                update: NONE,
-                list: NONE,
+                verdict,
+                update: Effect::None,
+                list: Effect::None,
                 left_off: 0,
                 marks: new,
             };
         }
-        return decide_list(seen, id, STALE, marks);
+        return decide_list(seen, id, Effect::Stale, marks);
     }
-    decide_list(seen, id, NONE, marks)
+    decide_list(seen, id, Effect::None, marks)
 }
 
 // Steps 1 to 3 by the marks of the record that the request means.

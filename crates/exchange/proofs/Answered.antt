@@ -23,9 +23,9 @@ use Rattle.writing.proofs.Placed.{length-notify}
 use Rattle.writing.proofs.Chained.{chained-one}
 use Rattle.reader.specs.Chain.{reading}
 use Rattle.responding.specs.Respond.{nextFor, cookieNotify, doneResponse}
-use Rattle.responder.specs.Core.{firstOf, cookieIn, wantsNats, decisionOn, decidedOctets, coreAnswer, coreResponse}
+use Rattle.responder.specs.Core.{firstOf, cookieIn, wantsNats, decisionOn, coreAnswer, coreResponse}
 use Rattle.responder.specs.Handle.{Request as Received, meant, recordNumber, checkedNumber, earlyNumber, handled, handledResponse}
-use Rattle.responder.proofs.Refused.{decision-of}
+use Rattle.deciding.proofs.Numbers.{verdict-of, number-accepted}
 use Rattle.responder.proofs.Checks.{passed, lent-fit}
 use Rattle.requests.specs.Request.{Request, request, ifAsked, natNotifies, cookieNotifies, requested, requestFits, requestOctets, cookieFits}
 use Rattle.requests.specs.declared.request.Written.{Written}
@@ -137,12 +137,12 @@ module _ (q : Request) (z : Sized q) (fits : requestFits q ≡ true) (policy : P
   module _ (m : Marks) where
     core-fine : Other (coreAnswer policy (r .asks) m .reply .number)
     unfolding coreAnswer
-    core-fine = rw (eq-eqb (reading (r .asks .first) (r .asks .body) .number) 0 (back .number)) (decision-of Other (omega arith) (omega arith) (omega arith) policy (r .asks) m)
+    core-fine = rw (eq-eqb (reading (r .asks .first) (r .asks .body) .number) 0 (back .number)) (verdict-of Other (omega arith) (omega arith) (omega arith) (decisionOn policy (r .asks) m .verdict))
 
     module _ (s : length (r .asks .nat-source) ≡ 20) (d : length (r .asks .nat-destination) ≡ 20) where
       core-accepted : coreAnswer policy (r .asks) m .reply .number ≡ 0
           → Accepted (assessment (q .cookie) (coreAnswer policy (r .asks) m .reply .first) (coreResponse policy (r .asks) m))
-      unfolding coreAnswer coreResponse decidedOctets
+      unfolding coreAnswer coreResponse
       core-accepted e =
           let read = eq-eqb (reading (r .asks .first) (r .asks .body) .number) 0 (back .number) in
           let seen = reading (r .asks .first) (r .asks .body) .seen in
@@ -151,8 +151,8 @@ module _ (q : Request) (z : Sized q) (fits : requestFits q ≡ true) (policy : P
           let k : cookieIn (r .asks .body) seen ≡ q .cookie = ap (λ (x : Request). x .cookie) (back .values) in
           let cf = fitting q fits .cookie in
           let g = given-back p (reply-sized w _ _ _) (reply-fits w _ _ _ (λ e. (s, d)) cf) in
-          let done : decisionOn policy (r .asks) m .number ≡ 0 = rw read at e in
-          rw (read, eq-eqb (decisionOn policy (r .asks) m .number) 0 done, k, reply-octets w (r .asks .nat-source) (r .asks .nat-destination) (q .cookie), type-of (requested p))
+          let done = number-accepted (decisionOn policy (r .asks) m .verdict) (rw read at e) in
+          rw (read, done, k, reply-octets w (r .asks .nat-source) (r .asks .nat-destination) (q .cookie), type-of (requested p))
           (taken (q .cookie) (firstType (requested p) 0) (length (requested p)) (requestOctets p) cf (g .number) (g .tally) (ap (λ (x : Request). x .cookie) (g .values)))
 
   module _ (ike : List IkeRecord) (ipsec : List IpsecRecord) where

@@ -16,10 +16,14 @@ use Rattle.tables.specs.Records.{marksIn, rewritten, remarked, relisted}
 use Rattle.tables.specs.Reached.{Tables}
 use Rattle.tables.specs.declared.ike.IkeRecord.{IkeRecord}
 use Rattle.tables.specs.declared.ike.Marks.{Marks}
-use Rattle.deciding.specs.Decide.{tallied, verdict, counted, marked, listMarked, decision, leftOff, hasList, listDecided, updateDecided, decided}
+use Rattle.deciding.specs.Decide.{isDone, isAccepted, tallied, verdict, counted, marked, listMarked, decision, leftOff, hasList, listDecided, updateDecided, decided}
 use Rattle.responder.specs.Core.{decisionOn, coreAnswer, changedBy}
 use Rattle.responder.specs.Handle.{Request}
 use Rattle.deciding.specs.declared.decide.Decision.{Decision}
+use Rattle.deciding.specs.declared.decide.Effect.{Effect}
+use Rattle.deciding.specs.declared.decide.Effect.the-variants.{None, Done, Stale}
+use Rattle.deciding.specs.declared.decide.Verdict.{Verdict}
+use Rattle.deciding.specs.declared.decide.Verdict.the-variants.{Accepted}
 use Rattle.reordering.specs.Requests.{seenIn, sound}
 use Rattle.reordering.proofs.Steps.{early, entry, core}
 use Rattle.reordering.proofs.Winner.{counts}
@@ -48,30 +52,30 @@ pub record Comes (u l : Bool) (id : ℕ) (m : Marks) (d : Decision) : Type 0 whe
   pub update-mark : d .marks .«update_mark» ≡ cond u (id + 1) (m .«update_mark»)
   pub list-mark : d .marks .«list_mark» ≡ cond l (id + 1) (m .«list_mark»)
   pub unknown : d .marks .unknown ≡ m .unknown
-  pub moves : eqb (d .update) 1 ≡ u
-  pub relists : eqb (d .list) 1 ≡ l
+  pub moves : isDone (d .update) ≡ u
+  pub relists : isDone (d .list) ≡ l
 
--- steps 2 and 3 where the verdict on an update is 0, by the tests that they make
-decided-sound : (s : Seen) (id v : ℕ) (m : Marks) → (s .update ≡ true → v ≡ 0)
+-- steps 2 and 3 where an update is accepted, by the tests that they make
+decided-sound : (s : Seen) (id : ℕ) (v : Verdict) (m : Marks) → (s .update ≡ true → isAccepted v ≡ true)
     → Comes (counts (s .update) id (m .«update_mark»)) (counts (hasList s) id (m .«list_mark»)) id m (updateDecided v s id m)
 unfolding updateDecided listDecided
-decided-sound s id v m z = go (s .update) (leb (m .«update_mark») id) (eqb v 0) (hasList s) (leb (m .«list_mark») id) (λ u. eq-eqb v 0 (z u))
+decided-sound s id v m z = go (s .update) (leb (m .«update_mark») id) (isAccepted v) (hasList s) (leb (m .«list_mark») id) z
   where
-    third : Bool → Bool → ℕ → Marks → Decision
-    third x y u n = cond x (cond y (decision 0 u 1 (leftOff (s .list .count)) (listMarked id n)) (decision 0 u 2 0 n)) (decision 0 u 0 0 n)
+    third : Bool → Bool → Effect → Marks → Decision
+    third x y u n = cond x (cond y (decision Accepted u Done (leftOff (s .list .count)) (listMarked id n)) (decision Accepted u Stale 0 n)) (decision Accepted u None 0 n)
 
-    listed : (x y : Bool) (u : ℕ) (b : Bool) (n : Marks) → eqb u 1 ≡ b → n .«update_mark» ≡ cond b (id + 1) (m .«update_mark»)
+    listed : (x y : Bool) (u : Effect) (b : Bool) (n : Marks) → isDone u ≡ b → n .«update_mark» ≡ cond b (id + 1) (m .«update_mark»)
         → n .«list_mark» ≡ m .«list_mark» → n .unknown ≡ m .unknown → Comes b (x && y) id m (third x y u n)
     listed true true u b n e i j k = record { update-mark = i; list-mark = refl; unknown = k; moves = e; relists = refl }
     listed true false u b n e i j k = record { update-mark = i; list-mark = j; unknown = k; moves = e; relists = refl }
     listed false y u b n e i j k = record { update-mark = i; list-mark = j; unknown = k; moves = e; relists = refl }
 
     go : (a b c x y : Bool) → (a ≡ true → c ≡ true)
-        → Comes (a && b) (x && y) id m (cond a (cond b (cond c (third x y 1 (marked id m)) (decision v 0 0 0 (marked id m))) (third x y 2 m)) (third x y 0 m))
-    go true true true x y h = listed x y 1 true (marked id m) refl refl refl refl
+        → Comes (a && b) (x && y) id m (cond a (cond b (cond c (third x y Done (marked id m)) (decision v None None 0 (marked id m))) (third x y Stale m)) (third x y None m))
+    go true true true x y h = listed x y Done true (marked id m) refl refl refl refl
     go true true false x y h = absurd (false≢true (h refl))
-    go true false c x y h = listed x y 2 false m refl refl refl refl
-    go false b c x y h = listed x y 0 false m refl refl refl refl
+    go true false c x y h = listed x y Stale false m refl refl refl refl
+    go false b c x y h = listed x y None false m refl refl refl refl
 
 -- the record after a decision that comes to that
 changed-sound : (u l : Bool) (id n : ℕ) (p : Pair) (list : List Address) (e : IkeRecord) (m : Marks) (moves relists : Bool) → moves ≡ u → relists ≡ l
@@ -84,7 +88,7 @@ changed-sound u false id n p list e m moves relists f g i j = rw (f, g, i, j)
 module _ (policy : Policy) (q : Request) where
   pub record Sound : Type 0 where
     pub whole : reading (q .asks .first) (q .asks .body) .number ≡ 0
-    pub fine : seenIn q .update ≡ true → verdict policy (noNatsSeen (q .asks .body) (seenIn q)) (q .asks .pair) ≡ 0
+    pub fine : seenIn q .update ≡ true → isAccepted (verdict policy (noNatsSeen (q .asks .body) (seenIn q)) (q .asks .pair)) ≡ true
 
   pub core-sound : Sound → (e : IkeRecord) → (core policy q e .entry ≡ advanced q e) × (core policy q e .moves ≡ updates q e)
   unfolding coreAnswer changedBy decided
@@ -104,12 +108,12 @@ pub sound-parts : (policy : Policy) (t : Tables) (q : Request) → sound policy 
 sound-parts policy t q e =
     let n = eqb (early t q) 0 in
     let m = eqb (reading (q .asks .first) (q .asks .body) .number) 0 in
-    let v = eqb (verdict policy (noNatsSeen (q .asks .body) (seenIn q)) (q .asks .pair)) 0 in
+    let v = isAccepted (verdict policy (noNatsSeen (q .asks .body) (seenIn q)) (q .asks .pair)) in
     let x = both n (m && (not (seenIn q .update) || v)) e in
     let y = both m (not (seenIn q .update) || v) (x .1) in (
       eqb-true (early t q) 0 (x .0),
       record {
         whole = eqb-true _ 0 (y .0);
-        fine = λ u. eqb-true _ 0 (rw u at (y .1));
+        fine = λ u. rw u at (y .1);
       },
     )

@@ -13,7 +13,7 @@ use Rattle.policy.specs.declared.rules.Policy.{Policy}
 use Rattle.reader.specs.Chain.{reading}
 use Rattle.tables.specs.Calls.{hasIke}
 use Rattle.tables.specs.Reached.{Tables, tables}
-use Rattle.deciding.specs.Decide.{verdict}
+use Rattle.deciding.specs.Decide.{isAccepted, verdict}
 use Rattle.responder.specs.Handle.{Request, meant, earlyNumber, handled, handledResponse}
 use Rattle.responder.specs.declared.core.Reply.{Reply}
 
@@ -50,7 +50,7 @@ abbrev pub sound : Policy → Tables → Request → Bool
 sound policy t q =
     eqb (earlyNumber (t .ike) (t .ipsec) q) 0
     && (eqb (reading (q .asks .first) (q .asks .body) .number) 0
-    && (not (seenIn q .update) || eqb (verdict policy (noNatsSeen (q .asks .body) (seenIn q)) (q .asks .pair)) 0))
+    && (not (seenIn q .update) || isAccepted (verdict policy (noNatsSeen (q .asks .body) (seenIn q)) (q .asks .pair))))
 
 -- the updates that requests for an SPI carry, each with its ID and its packet's pair
 unfoldable pub updatesFor : ℕ → List Request → List (Update Pair)

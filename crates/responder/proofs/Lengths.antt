@@ -12,7 +12,8 @@ use Rattle.findings.specs.declared.seen.Seen.{Seen}
 use Rattle.reader.specs.Chain.{reading}
 use Rattle.reader.proofs.Cookie.{cookie-short}
 use Rattle.responder.specs.Core.{cookieIn, decidedOctets}
-use Rattle.responding.specs.Respond.{errorResponse, doneResponse}
+use Rattle.deciding.specs.declared.decide.Verdict.{Verdict}
+use Rattle.deciding.specs.declared.decide.Verdict.the-variants.{Accepted, Altered, Unacceptable}
 use Rattle.responding.proofs.Lengths.{error-length, done-length}
 
 -- the cookie of a chain that was read has at most 64 octets
@@ -26,11 +27,8 @@ cookie-part first body s e = go (leb (s .cookie + s .«cookie_len») (length bod
     go true = rw (length-take (s .«cookie_len») (drop (s .cookie) body)) (omega (arith, short))
     go false = omega arith
 
-pub octets-length : (number : ℕ) (wanted : Bool) (source destination cookie : List ℕ) → length source ≡ 20 → length destination ≡ 20 → length cookie ≤ 64
-    → length (decidedOctets number wanted source destination cookie) ≤ 128
-unfolding decidedOctets
-octets-length number wanted source destination cookie s d c = go (eqb number 0)
-  where
-    go : (b : Bool) → length (cond b (doneResponse wanted source destination cookie) (errorResponse (cond (eqb number 8) 41 40) [] cookie)) ≤ 128
-    go true = omega (arith, done-length wanted source destination cookie)
-    go false = omega (arith, error-length (cond (eqb number 8) 41 40) [] cookie)
+pub octets-length : (v : Verdict) (wanted : Bool) (source destination cookie : List ℕ) → length source ≡ 20 → length destination ≡ 20 → length cookie ≤ 64
+    → length (decidedOctets v wanted source destination cookie) ≤ 128
+octets-length Accepted wanted source destination cookie s d c = omega (arith, done-length wanted source destination cookie)
+octets-length Altered wanted source destination cookie s d c = omega (arith, error-length 41 [] cookie)
+octets-length Unacceptable wanted source destination cookie s d c = omega (arith, error-length 40 [] cookie)

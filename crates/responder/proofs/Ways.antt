@@ -10,30 +10,25 @@ use Rattle.findings.specs.Values.{noNatsSeen}
 use Rattle.policy.specs.declared.rules.Policy.{Policy}
 use Rattle.reader.specs.Chain.{reading}
 use Rattle.reader.specs.declared.read.Reading.{Reading}
-use Rattle.findings.specs.declared.seen.Places.{Places}
 use Rattle.tables.specs.declared.ike.Marks.{Marks}
 use Rattle.deciding.specs.Decide.{decided}
-use Rattle.responder.specs.Core.{Asked, wantsNats, cookieIn, chainError, refusalReply, decidedOctets, decidedReply, unchangedAnswer, coreAnswer, coreResponse}
+use Rattle.responder.specs.Core.{Asked, wantsNats, cookieIn, chainError, refusalReply, decidedOctets, decidedAnswer, unchangedAnswer, coreAnswer, coreResponse}
 use Rattle.deciding.specs.declared.decide.Decision.{Decision}
 use Rattle.responder.specs.declared.core.Reply.{Reply}
-use Rattle.responder.specs.declared.core.CoreAnswer.{CoreAnswer}
-
-abbrev result : Reply → Marks → Bool → Bool → Places → CoreAnswer
-result reply m moves relists list = record { reply = reply; marks = m; moves = moves; relists = relists; list = list }
 
 module _ (policy : Policy) (q : Asked) (m : Marks) (r : Reading) (read : r ≡ reading (q .first) (q .body)) where
   -- a chain that was read whole
   module _ (whole : r .number ≡ 0) (d : Decision) (w : Bool) (k : List ℕ)
       (de : d ≡ decided policy (noNatsSeen (q .body) (r .seen)) (r .seen) (q .pair) (q .id) m)
       (we : w ≡ wantsNats (r .seen)) (ke : k ≡ cookieIn (q .body) (r .seen)) where
-    pub done-response : decidedOctets (d .number) w (q .nat-source) (q .nat-destination) k ≡ coreResponse policy q m
+    pub done-response : decidedOctets (d .verdict) w (q .nat-source) (q .nat-destination) k ≡ coreResponse policy q m
     unfolding coreResponse
     done-response = rw (← read, eq-eqb (r .number) 0 whole, ← de, we, ke)
 
-    pub done-result : (n : ℕ) (reply : Reply) → n ≡ length (decidedOctets (d .number) w (q .nat-source) (q .nat-destination) k)
-        → reply ≡ decidedReply d (r .seen) n → result reply (d .marks) (eqb (d .update) 1) (eqb (d .list) 1) (r .seen .list) ≡ coreAnswer policy q m
+    pub done-result : (n : ℕ) → n ≡ length (decidedOctets (d .verdict) w (q .nat-source) (q .nat-destination) k)
+        → decidedAnswer d (r .seen) n ≡ coreAnswer policy q m
     unfolding coreAnswer
-    done-result n reply ne re = rw (← read, eq-eqb (r .number) 0 whole, ← de, re, ne, we, ke)
+    done-result n ne = rw (← read, eq-eqb (r .number) 0 whole, ← de, ne, we, ke)
 
   -- a chain that was refused
   module _ (broken : r .number ≡ 0 → ⊥) where

@@ -14,9 +14,11 @@ use Rattle.reader.specs.declared.read.Reading.{Reading}
 use Rattle.tables.specs.Records.{marksIn, remarked, relisted}
 use Rattle.tables.specs.declared.ike.IkeRecord.{IkeRecord}
 use Rattle.tables.specs.declared.ike.Marks.{Marks}
-use Rattle.deciding.specs.Decide.{decided}
+use Rattle.deciding.specs.Decide.{effectNumber, verdictNumber, isDone, decided}
 use Rattle.responding.specs.Respond.{errorResponse, doneResponse}
 use Rattle.deciding.specs.declared.decide.Decision.{Decision}
+use Rattle.deciding.specs.declared.decide.Verdict.{Verdict}
+use Rattle.deciding.specs.declared.decide.Verdict.the-variants.{Accepted, Altered, Unacceptable}
 use Rattle.responder.specs.declared.core.Reply.{Reply}
 use Rattle.responder.specs.declared.core.CoreAnswer.{CoreAnswer}
 
@@ -66,19 +68,20 @@ abbrev pub wantsNats : Seen → Bool
 wantsNats s = not (eqb (s .«nat_source») 0) && not (eqb (s .«nat_destination») 0)
 
 -- 01, step 4: "UNEXPECTED_NAT_DETECTED (41)" for 8, "UNACCEPTABLE_ADDRESSES (40)" for 9, each with the cookie; else the done response.
-unfoldable pub decidedOctets : ℕ → Bool → List ℕ → List ℕ → List ℕ → List ℕ
-decidedOctets number wanted source destination cookie =
-    cond (eqb number 0) (doneResponse wanted source destination cookie) (errorResponse (cond (eqb number 8) 41 40) [] cookie)
+abbrev pub decidedOctets : Verdict → Bool → List ℕ → List ℕ → List ℕ → List ℕ
+decidedOctets Accepted wanted source destination cookie = doneResponse wanted source destination cookie
+decidedOctets Altered wanted source destination cookie = errorResponse 41 [] cookie
+decidedOctets Unacceptable wanted source destination cookie = errorResponse 40 [] cookie
 
-abbrev pub decidedResponse : ℕ → Asked → Seen → List ℕ
-decidedResponse number q s = decidedOctets number (wantsNats s) (q .nat-source) (q .nat-destination) (cookieIn (q .body) s)
+abbrev pub decidedResponse : Verdict → Asked → Seen → List ℕ
+decidedResponse v q s = decidedOctets v (wantsNats s) (q .nat-source) (q .nat-destination) (cookieIn (q .body) s)
 
 abbrev pub decidedReply : Decision → Seen → ℕ → Reply
 decidedReply d s n =
     record {
-      number = d .number;
-      update = d .update;
-      list = d .list;
+      number = verdictNumber (d .verdict);
+      update = effectNumber (d .update);
+      list = effectNumber (d .list);
       first = firstOf n;
       «left_off» = d .«left_off»;
       payloads = s .tally .payloads;
@@ -87,6 +90,11 @@ decidedReply d s n =
       «cookie_len» = s .«cookie_len»;
       length = n;
     }
+
+-- What a decision changes in the record: it moves, and its IPsec records follow, exactly where the update was applied.
+abbrev pub decidedAnswer : Decision → Seen → ℕ → CoreAnswer
+decidedAnswer d s n =
+    record { reply = decidedReply d s n; marks = d .marks; moves = isDone (d .update); relists = isDone (d .list); list = s .list }
 
 -- steps 1 to 3 on what was read
 abbrev pub decisionOn : Policy → Asked → Marks → Decision
@@ -98,23 +106,17 @@ decisionOn policy q m =
 unfoldable pub coreResponse : Policy → Asked → Marks → List ℕ
 coreResponse policy q m =
     let r = reading (q .first) (q .body) in
-    cond (eqb (r .number) 0) (decidedResponse (decisionOn policy q m .number) q (r .seen)) (chainError r)
+    cond (eqb (r .number) 0) (decidedResponse (decisionOn policy q m .verdict) q (r .seen)) (chainError r)
 
 abbrev pub unchangedAnswer : Reply → Marks → CoreAnswer
 unchangedAnswer reply m = record { reply = reply; marks = m; moves = false; relists = false; list = noPlaces }
 
--- a chain that was read whole: the record moves, and its IPsec records follow, exactly where the update was applied
+-- a chain that was read whole
 abbrev pub wholeAnswer : Policy → Asked → Marks → CoreAnswer
 wholeAnswer policy q m =
     let s = reading (q .first) (q .body) .seen in
     let d = decisionOn policy q m in
-    record {
-      reply = decidedReply d s (length (decidedResponse (d .number) q s));
-      marks = d .marks;
-      moves = eqb (d .update) 1;
-      relists = eqb (d .list) 1;
-      list = s .list;
-    }
+    decidedAnswer d s (length (decidedResponse (d .verdict) q s))
 
 -- a chain that was not: the record stays as it is
 abbrev pub brokenAnswer : Asked → Marks → CoreAnswer

@@ -1,8 +1,11 @@
 // One request by the marks of the record that it means: read, decide, respond.
 use address::pair::Pair;
-use deciding::decide::DONE;
 use deciding::decide::Decision;
+use deciding::decide::Verdict;
 use deciding::decide::decide;
+use deciding::decide::effect_number;
+use deciding::decide::is_done;
+use deciding::decide::verdict_number;
 use findings::seen::Places;
 use findings::seen::Seen;
 use findings::seen::nothing_seen;
@@ -25,7 +28,7 @@ ghost use lib.ListN.{length};
 ghost use Rattle.findings.specs.Values.{noNatsSeen};
 ghost use Rattle.deciding.specs.Decide.{decided};
 ghost use Rattle.writing.specs.Notify.{placed};
-ghost use Rattle.responder.specs.Core.{asked, firstOf, refusalReply, chainError, wantsNats, decidedOctets, decidedReply, unchangedAnswer, coreAnswer, coreResponse, changedBy};
+ghost use Rattle.responder.specs.Core.{asked, firstOf, refusalReply, chainError, wantsNats, decidedOctets, decidedReply, decidedAnswer, unchangedAnswer, coreAnswer, coreResponse, changedBy};
 
 // All that a call gives back but the tables. The cookie is the part of the body at `cookie`.
 #[repr(C)]
@@ -102,9 +105,9 @@ pub fn wants_nats(seen: Seen) -> bool
     if source { destination } else { false }
 }
 
-// Step 4: the response to a request that was decided with `number`.
+// Step 4: the response to a request that was decided with this verdict.
 pub fn respond_decided(
-    number: u8,
+    verdict: Verdict,
     wanted: bool,
     source: &[u8],
     destination: &[u8],
@@ -112,17 +115,15 @@ pub fn respond_decided(
     out: &mut [u8],
 ) -> usize
     requires { ⌜ (128 ≤ length (now out)) × (length (now source) ≡ 20) × (length (now destination) ≡ 20) × (length (now cookie) ≤ 64) ⌝ }
-    ensures { λ r. ⌜ r ≡ length (decidedOctets number wanted (now (source .entry)) (now (destination .entry)) (now (cookie .entry))) ⌝ }
-    ensures { λ _. ⌜ now (out .exit) ≡ placed (now (out .entry)) 0 (decidedOctets number wanted (now (source .entry)) (now (destination .entry)) (now (cookie .entry))) ⌝ }
+    ensures { λ r. ⌜ r ≡ length (decidedOctets verdict wanted (now (source .entry)) (now (destination .entry)) (now (cookie .entry))) ⌝ }
+    ensures { λ _. ⌜ now (out .exit) ≡ placed (now (out .entry)) 0 (decidedOctets verdict wanted (now (source .entry)) (now (destination .entry)) (now (cookie .entry))) ⌝ }
 {
-    if number == 0 {
-        return put_done(out, wanted, source, destination, cookie);
-    }
     let none = [0u8; 0];
-    if number == 8 {
-        return put_error(out, 41, &none, cookie);
+    match verdict {
+        Verdict::Accepted => put_done(out, wanted, source, destination, cookie),
+        Verdict::Altered => put_error(out, 41, &none, cookie),
+        Verdict::Unacceptable => put_error(out, 40, &none, cookie),
     }
-    put_error(out, 40, &none, cookie)
 }
 
 // Steps 1 to 3 on what was read of a body.
@@ -145,10 +146,13 @@ pub fn reply_to(d: Decision, seen: Seen, length: u16) -> Reply
     ensures { λ r. ⌜ r ≡ decidedReply d seen length ⌝ }
 {
     let t = seen.tally;
+    let verdict = d.verdict;
+    let update = d.update;
+    let list = d.list;
     Reply {
-        number: d.number,
-        update: d.update,
-        list: d.list,
+        number: verdict_number(verdict),
+        update: effect_number(update),
+        list: effect_number(list),
         first: first_of(length),
         left_off: d.left_off,
         payloads: t.payloads,
@@ -156,6 +160,23 @@ pub fn reply_to(d: Decision, seen: Seen, length: u16) -> Reply
         cookie: seen.cookie,
         cookie_len: seen.cookie_len,
         length,
+    }
+}
+
+// The reply to a decision, and what it changes in the record: it moves exactly where the update was applied.
+pub fn answer_to(d: Decision, seen: Seen, length: u16) -> CoreAnswer
+    ensures { λ r. ⌜ r ≡ decidedAnswer d seen length ⌝ }
+{
+    let marks = d.marks;
+    let update = d.update;
+    let list = d.list;
+    let places = seen.list;
+    CoreAnswer {
+        reply: reply_to(d, seen, length),
+        marks,
+        moves: is_done(update),
+        relists: is_done(list),
+        list: places,
     }
 }
 
@@ -196,17 +217,9 @@ pub fn respond_to(
         let d = decide_seen(policy, seen, body, pair, id, marks);
         let wanted = wants_nats(seen);
         let k = cookie(body, seen);
-        let length = respond_decided(d.number, wanted, source, destination, k, out);
-        let reply = reply_to(d, seen, length as u16);
-        let marks = d.marks;
-        let list = seen.list;
-        return CoreAnswer {
-            reply,
-            marks,
-            moves: d.update == DONE,
-            relists: d.list == DONE,
-            list,
-        };
+        let verdict = d.verdict;
+        let length = respond_decided(verdict, wanted, source, destination, k, out);
+        return answer_to(d, seen, length as u16);
     }
     let reply = refuse_chain(r, out);
     unchanged(reply, marks)

@@ -1,4 +1,4 @@
--- `responder::decide::carries_list` meets its contract.
+-- `deciding::decide::carries_list` meets its contract.
 -- Assumes nothing.
 use borrow.Author.Needs.{needs}
 use Rattle.deciding.proofs.decide.carries_list.Statement.{statement}

@@ -1,4 +1,4 @@
--- `responder::decide::decide` meets its contract.
+-- `deciding::decide::decide` meets its contract.
 -- Assumes nothing.
 use borrow.Author.Needs.{needs}
 use Rattle.deciding.specs.Decide.{decided}

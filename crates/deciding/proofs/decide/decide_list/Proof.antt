@@ -1,4 +1,4 @@
--- `responder::decide::decide_list` meets its contract.
+-- `deciding::decide::decide_list` meets its contract.
 -- Assumes nothing.
 use borrow.Author.Needs.{needs}
 use mathlib.Core.Path.{sym, _∙_}

@@ -1,7 +1,8 @@
--- `responder::decide::decide_update` meets its contract.
+-- `deciding::decide::decide_update` meets its contract.
 -- Assumes nothing.
 use borrow.Author.Needs.{needs}
-use borrow.Author.Tests.{le-leb, lt-leb, eq-eqb, ne-eqb}
+use borrow.Author.Tests.{le-leb, lt-leb}
+use mathlib.Core.Path.{sym, _∙_}
 use Rattle.deciding.specs.Decide.{updateDecided, listDecided}
 use Rattle.deciding.proofs.decide.decide_update.Statement.{statement}
 use Rattle.deciding.proofs.decide.decide_update.Tie as tie
@@ -13,8 +14,9 @@ decide-update-spec =
     (tie.spec
     (λ c. search needs)
     (λ c κs. search needs)
-    (λ c. rw (c .before .before .before .before .if1 .taken, le-leb _ _ (c .before .before .if2 .taken), eq-eqb _ _ (c .before .if3 .taken)) (c .decide-list .ensures))
-    (λ c. rw (c .before .before .before .if1 .taken, le-leb _ _ (c .before .if2 .taken), ne-eqb _ _ (c .if3 .left)))
+    (λ c κs. search needs)
+    (λ c. rw (c .before .before .before .before .before .if1 .taken, le-leb _ _ (c .before .before .before .if2 .taken), sym (c .before .before .is-accepted .ensures) ∙ c .before .if3 .taken) (c .decide-list .ensures))
+    (λ c. rw (c .before .before .before .before .if1 .taken, le-leb _ _ (c .before .before .if2 .taken), sym (c .before .is-accepted .ensures) ∙ c .if3 .left))
     (λ c κs. search needs)
     (λ c. rw (c .before .before .before .if1 .taken, lt-leb _ _ (c .before .if2 .left)) (c .decide-list2 .ensures))
     (λ c κs. search needs)

@@ -1,4 +1,4 @@
--- `responder::decide::is_unaltered` meets its contract: each test that fails is a part of `unaltered`.
+-- `deciding::decide::is_unaltered` meets its contract: each test that fails is a part of `unaltered`.
 -- Assumes nothing.
 use borrow.Author.Needs.{needs}
 use borrow.Author.Tests.{eq-eqb, ne-eqb}

@@ -1,4 +1,4 @@
--- `responder::decide::verdict_on` meets its contract.
+-- `deciding::decide::verdict_on` meets its contract.
 -- Assumes nothing.
 use borrow.Author.Needs.{needs}
 use mathlib.Core.Path.{sym, _∙_}

@@ -9,4 +9,7 @@ reply-to-spec =
     tie.close
     (tie.spec
     (λ c κs. search needs)
-    (λ c. rw (c .first-of .ensures)))
+    (λ c κs. search needs)
+    (λ c κs. search needs)
+    (λ c κs. search needs)
+    (λ c. rw (c .before .before .before .verdict-number .ensures, c .before .before .effect-number .ensures, c .before .effect-number2 .ensures, c .first-of .ensures)))

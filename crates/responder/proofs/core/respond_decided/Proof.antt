@@ -7,18 +7,20 @@ use Rattle.responder.proofs.core.respond_decided.Statement.{statement}
 use Rattle.responder.proofs.core.respond_decided.Tie as tie
 
 pub respond-decided-spec : {M : Type 1} → statement M
-unfolding decidedOctets
 respond-decided-spec =
     tie.close
     (tie.spec
-    (λ c κs. search needs)
-    (λ c. search needs)
-    (λ c. rw (eq-eqb _ _ (c .before .before .before .before .if1 .taken)) (c .before .before .put-done .ensures))
     (λ c. search needs)
     (λ c κs. search needs)
     (λ c. search needs)
-    (λ c. rw (ne-eqb _ _ (c .before .before .before .before .before .before .if1 .left), eq-eqb _ _ (c .before .before .before .before .before .if2 .taken)) (c .before .before .put-error .ensures))
     (λ c. search needs)
     (λ c κs. search needs)
     (λ c. search needs)
-    (λ c. rw (ne-eqb _ _ (c .before .before .before .before .before .before .if1 .left), ne-eqb _ _ (c .before .before .before .before .before .if2 .left)) (c .before .before .put-error2 .ensures)))
+    (λ c. search needs)
+    (λ c κs. search needs)
+    (λ c. search needs)
+    (λ c. rw (c .before .before .before .before .enum-told .given .1) (c .before .before .put-done .ensures))
+    (λ c. search needs)
+    (λ c. rw (c .before .before .before .before .before .enum-told2 .given .1) (c .before .before .put-error .ensures))
+    (λ c. search needs)
+    (λ c. rw (c .before .before .before .before .before .enum-told3 .given .1) (c .before .before .put-error2 .ensures)))

@@ -32,21 +32,21 @@ respond-to-spec =
     let a = c .before .before .before .before .before .before .before .before .before .before .before .before .before .before .before .args in
     let p = c .before .before .before .before .before .before .before .before .before .before .before .before .before .before .before .pre in
     let size =
-    octets-length (c .before .before .before .before .before .before .decide-seen .result .number) (c .before .before .before .before .before .wants-nats .result) (a .source .now) (a .destination .now) (c .before .before .before .before .cookie .result .now) (p .1) (p .2) (cookie-fits (c .before .before .before .before)) in
+    octets-length (c .before .before .before .before .before .before .decide-seen .result .verdict) (c .before .before .before .before .before .wants-nats .result) (a .source .now) (a .destination .now) (c .before .before .before .before .cookie .result .now) (p .1) (p .2) (cookie-fits (c .before .before .before .before)) in
     omega (arith, c .before .before .respond-decided .ensures .0))
     (λ c κs. search needs)
     (λ c. search needs)
     (λ c.
-    let a = c .before .before .before .before .before .before .before .before .before .before .before .before .before .before .before .before .before .before .before .before .args in
+    let a = c .before .before .before .before .before .before .before .before .before .before .before .before .before .before .before .before .args in
     let q = asked (a .id) (a .pair) (a .source .now) (a .destination .now) (a .first) (a .body .now) in
-    let r = c .before .before .before .before .before .before .before .before .before .before .before .before .before .before .before .read in
-    let whole = c .before .before .before .before .before .before .before .before .before .before .before .before .if1 .taken in
-    let d = c .before .before .before .before .before .before .before .before .before .before .before .decide-seen in
-    let w = c .before .before .before .before .before .before .before .before .before .before .wants-nats in
-    let k = c .before .before .before .before .before .before .before .before .before .cookie in
-    let o = c .before .before .before .before .before .before .before .respond-decided in
-    let t = c .before .before .before .before .reply-to in (
-      done-result (a .policy) q (a .marks) (r .result) (r .ensures .is) whole (d .result) (w .result) (k .result .now) (d .ensures) (w .ensures) (k .ensures) (o .result) (t .result) (o .ensures .0) (t .ensures),
+    let r = c .before .before .before .before .before .before .before .before .before .before .before .read in
+    let whole = c .before .before .before .before .before .before .before .before .if1 .taken in
+    let d = c .before .before .before .before .before .before .before .decide-seen in
+    let w = c .before .before .before .before .before .before .wants-nats in
+    let k = c .before .before .before .before .before .cookie in
+    let o = c .before .before .before .respond-decided in (
+      c .answer-to .ensures
+          ∙ done-result (a .policy) q (a .marks) (r .result) (r .ensures .is) whole (d .result) (w .result) (k .result .now) (d .ensures) (w .ensures) (k .ensures) (o .result) (o .ensures .0),
       o .ensures .1 ∙ ap (placed (a .out .now) 0) (done-response (a .policy) q (a .marks) (r .result) (r .ensures .is) whole (d .result) (w .result) (k .result .now) (d .ensures) (w .ensures) (k .ensures)),
     ))
     (λ c κs. search needs)

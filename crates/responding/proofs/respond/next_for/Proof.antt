@@ -1,4 +1,4 @@
--- `responder::respond::next_for` meets its contract.
+-- `responding::respond::next_for` meets its contract.
 -- Assumes nothing.
 use borrow.Author.Tests.{eq-eqb, ne-eqb}
 use Rattle.responding.proofs.respond.next_for.Statement.{statement}

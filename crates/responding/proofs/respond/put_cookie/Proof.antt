@@ -1,4 +1,4 @@
--- `responder::respond::put_cookie` meets its contract.
+-- `responding::respond::put_cookie` meets its contract.
 -- Assumes nothing.
 use borrow.Author.Needs.{needs}
 use borrow.Author.Tests.{eq-eqb, ne-eqb}

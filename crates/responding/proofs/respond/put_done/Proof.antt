@@ -1,4 +1,4 @@
--- `responder::respond::put_done` meets its contract: the two values, then the cookie behind them.
+-- `responding::respond::put_done` meets its contract: the two values, then the cookie behind them.
 -- Assumes nothing.
 use borrow.Author.Needs.{needs}
 use Prim.Native.Nat.{_+_}

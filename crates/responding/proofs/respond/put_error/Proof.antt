@@ -1,4 +1,4 @@
--- `responder::respond::put_error` meets its contract: the error, then the cookie behind it.
+-- `responding::respond::put_error` meets its contract: the error, then the cookie behind it.
 -- Assumes nothing.
 use borrow.Author.Needs.{needs}
 use Prim.Native.Nat.{_+_}
