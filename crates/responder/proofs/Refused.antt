@@ -10,7 +10,7 @@ use Rattle.octets.specs.Lists.{placeOf}
 use Rattle.octets.proofs.Small.{chosen}
 use Rattle.address.specs.declared.pair.Pair.{Pair}
 use Rattle.findings.specs.declared.seen.Seen.{Seen}
-use Rattle.findings.specs.declared.values.NoNats.{NoNats}
+use Rattle.values.specs.declared.NoNats.{NoNats}
 use Rattle.policy.specs.Policy.{acceptable}
 use Rattle.policy.specs.declared.rules.Policy.{Policy}
 use Rattle.reader.specs.Chain.{reading}
