@@ -5,7 +5,7 @@ use lib.Dec.{eqb, leb}
 use Rattle.octets.specs.Lists.{sameOctets}
 use Rattle.address.specs.declared.pair.Pair.{Pair}
 use Rattle.findings.specs.declared.seen.Seen.{Seen}
-use Rattle.findings.specs.declared.values.NoNats.{NoNats}
+use Rattle.values.specs.declared.NoNats.{NoNats}
 use Rattle.policy.specs.Policy.{acceptable}
 use Rattle.policy.specs.declared.rules.Policy.{Policy}
 use Rattle.tables.specs.declared.ike.Marks.{Marks}

@@ -2,10 +2,10 @@
 use address::address::same_address;
 use address::pair::Pair;
 use findings::seen::Seen;
-use findings::values::NoNats;
 use policy::rules::Policy;
 use policy::rules::is_acceptable;
 use tables::ike::Marks;
+use values::NoNats;
 ghost use mathlib.Core.Path.{_≡_};
 ghost use Prim.Native.Nat.{_<_};
 ghost use Rattle.deciding.specs.Decide.{effectNumber, verdictNumber, isDone, isAccepted, tallied, unaltered, verdict, hasList, leftOff, listDecided, updateDecided, decided};

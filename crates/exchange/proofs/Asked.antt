@@ -14,7 +14,7 @@ use Rattle.octets.proofs.Small.{and-true, empty}
 use Rattle.address.specs.Address.{widthOf, addressFits, pairFits}
 use Rattle.address.specs.declared.pair.Pair.{Pair}
 use Rattle.payload.specs.Notify.{kindOf, dataFits}
-use Rattle.findings.specs.Values.{noNatsOf}
+use Rattle.values.specs.Values.{noNatsOf}
 use Rattle.writing.specs.Notify.{Notification, notification}
 use Rattle.requests.specs.Request.{Request, ifAsked, addressNumber, addressNotify, addressNotifies, pairOctets, cookieNotifies, requested, unlessAsked, listedFits, requestFits, cookieFits}
 use Rattle.exchange.specs.RoundTrips.{Sized, pairOf, askedFor}

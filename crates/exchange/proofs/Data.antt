@@ -13,8 +13,8 @@ use Rattle.octets.specs.Octets.{be16, padded}
 use Rattle.octets.proofs.Small.{both, and-true, chosen}
 use Rattle.address.specs.Address.{widthOf, isZero, addressFits, pairFits}
 use Rattle.address.specs.declared.pair.Pair.{Pair}
-use Rattle.findings.specs.Values.{absent, noNatsIn, noNatsOf}
-use Rattle.findings.specs.declared.values.NoNats.{NoNats}
+use Rattle.values.specs.Values.{absent, noNatsIn, noNatsOf}
+use Rattle.values.specs.declared.NoNats.{NoNats}
 use Rattle.requests.specs.Request.{portOctets, noNatsOctets, pairOctets, cookieFits}
 use Rattle.exchange.specs.RoundTrips.{Octets, pairOf}
 use Rattle.exchange.proofs.Places.{here, on, be16-on, high, low}

@@ -9,7 +9,7 @@ use borrow.Author.Tests.{le-ltb, ltb-false}
 use lib.Dec.{eqb, ltb, leb·zero}
 use lib.ListN.{length}
 use Rattle.findings.specs.Seen.{nothingSeen}
-use Rattle.findings.specs.Values.{partOf}
+use Rattle.values.specs.Values.{partOf}
 use Rattle.writing.specs.Notify.{firstType}
 use Rattle.reader.specs.Chain.{scanned, answer, reading}
 use Rattle.reader.specs.declared.read.Outcome.the-variants.{Whole}

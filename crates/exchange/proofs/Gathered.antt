@@ -12,7 +12,7 @@ use Rattle.payload.specs.Notify.{kindOf, dataFits}
 use Rattle.payload.specs.declared.notify.NotifyKind.{NotifyKind}
 use Rattle.payload.specs.declared.notify.NotifyKind.the-variants.{NatDetectionSource, NatDetectionDestination, MobikeSupported, AdditionalIp4, AdditionalIp6, NoAdditionalAddresses, UpdateSaAddresses, Cookie2, NoNatsAllowed, Unknown}
 use Rattle.findings.specs.Seen.{is}
-use Rattle.findings.specs.Values.{noNatsOf}
+use Rattle.values.specs.Values.{noNatsOf}
 use Rattle.writing.specs.Notify.{Notification, chained}
 use Rattle.writing.proofs.Placed.{length-notify}
 use Rattle.requests.specs.Request.{Request}

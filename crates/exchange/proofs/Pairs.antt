@@ -14,8 +14,8 @@ use Rattle.octets.specs.Lists.{all}
 use Rattle.octets.proofs.Small.{both}
 use Rattle.address.specs.Address.{widthOf, isZero, addressFits}
 use Rattle.address.proofs.Width.{width-small}
-use Rattle.findings.specs.Values.{noNatsIn, noNatsOf}
-use Rattle.findings.specs.declared.values.NoNats.{NoNats}
+use Rattle.values.specs.Values.{noNatsIn, noNatsOf}
+use Rattle.values.specs.declared.NoNats.{NoNats}
 use Rattle.requests.specs.Request.{portOctets, noNatsOctets}
 use Rattle.exchange.proofs.Payloads.{be16-behind}
 

@@ -15,7 +15,7 @@ use Rattle.payload.specs.Notify.{kindOf, dataFits}
 use Rattle.payload.specs.declared.notify.NotifyKind.{NotifyKind}
 use Rattle.payload.specs.declared.notify.NotifyKind.the-variants.{NatDetectionSource, NatDetectionDestination, MobikeSupported, AdditionalIp4, AdditionalIp6, NoAdditionalAddresses, UpdateSaAddresses, Cookie2, NoNatsAllowed, Unknown}
 use Rattle.findings.specs.Seen.{is, listed, noted, contentNoted, repeats, counted, withTally}
-use Rattle.findings.specs.Values.{partOf, addressAt, additionalOf}
+use Rattle.values.specs.Values.{partOf, addressAt, additionalOf}
 use Rattle.findings.specs.declared.seen.Places.{Places}
 use Rattle.findings.specs.declared.seen.Seen.{Seen}
 use Rattle.findings.specs.declared.seen.Tally.{Tally}

@@ -11,7 +11,7 @@ use Rattle.address.specs.Address.{widthOf}
 use Rattle.payload.specs.declared.payload.Content.{Content}
 use Rattle.payload.specs.declared.payload.Content.the-variants.{Skipped, Unknown as UnknownPayload, Notify}
 use Rattle.findings.specs.Seen.{contentNoted}
-use Rattle.findings.specs.Values.{partOf, addressAt}
+use Rattle.values.specs.Values.{partOf, addressAt}
 use Rattle.findings.specs.declared.seen.Seen.{Seen}
 use Rattle.writing.specs.Notify.{firstType}
 use Rattle.reader.specs.Chain.{reading}

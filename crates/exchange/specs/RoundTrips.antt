@@ -9,10 +9,10 @@ use lib.ListN.{length, getD, replicate}
 use Rattle.octets.specs.Lists.{firstOnly}
 use Rattle.address.specs.Address.{noPair}
 use Rattle.address.specs.declared.pair.Pair.{Pair}
-use Rattle.findings.specs.Values.{partOf, natValue, noNatsSeen, additionalOf}
+use Rattle.values.specs.Values.{partOf, natValue, noNatsSeen, additionalOf}
 use Rattle.findings.specs.declared.seen.Seen.{Seen}
 use Rattle.findings.specs.declared.seen.Tally.{Tally}
-use Rattle.findings.specs.declared.values.NoNats.{NoNats}
+use Rattle.values.specs.declared.NoNats.{NoNats}
 use Rattle.reader.specs.Chain.{reading}
 use Rattle.requests.specs.Request.{Request, requested, written, writtenOctets}
 use Rattle.exchange.specs.Plain.{plainlyRead}

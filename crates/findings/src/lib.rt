@@ -1,3 +1,2 @@
-// What a chain's payloads say, gathered one by one, and the values handed out from it.
+// What a chain's payloads say, gathered one by one.
 pub mod seen;
-pub mod values;

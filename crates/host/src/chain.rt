@@ -1,12 +1,12 @@
 // The reader's calls.
 use address::address::Address;
 use findings::seen::Seen;
-use findings::values::NoNats;
-use findings::values::addresses_in;
 use reader::read::Reading;
+use values::NoNats;
+use values::addresses_in;
 ghost use mathlib.Core.Path.{_≡_};
 ghost use Rattle.reader.specs.Chain.{ReadAs};
-ghost use Rattle.findings.specs.Values.{partOf, noNatsSeen, addressesIn};
+ghost use Rattle.values.specs.Values.{partOf, noNatsSeen, addressesIn};
 
 #[repr(C)]
 pub struct AddressList {
@@ -34,7 +34,7 @@ pub extern "C" fn unmavreth_cookie<'s, 'a>(out: &'s mut &'a [u8], body: &'a [u8]
 pub extern "C" fn unmavreth_no_nats(body: &[u8], seen: Seen) -> NoNats
     ensures { λ r. ⌜ r ≡ noNatsSeen (now (body .entry)) seen ⌝ }
 {
-    findings::values::no_nats(body, seen)
+    values::no_nats(body, seen)
 }
 
 // The first sixteen additional addresses, from the body that was read and what was seen in it.

@@ -5,7 +5,7 @@ use mathlib.Core.List.{List}
 use mathlib.Core.Bool.{true, false}
 use borrow.Author.Tests.{eq-eqb, ne-eqb}
 use lib.ListN.{length}
-use Rattle.findings.specs.Values.{partOf}
+use Rattle.values.specs.Values.{partOf}
 use Rattle.reader.specs.Chain.{reading}
 use Rattle.reader.specs.declared.read.Reading.{Reading}
 use Rattle.reader.proofs.Errors.{errors-among}

@@ -1,7 +1,7 @@
 // A thin payload reader: the lent body and a place in it; the data that stands there comes back as a part of the body.
-use findings::values::part;
+use values::part;
 ghost use mathlib.Core.Path.{_≡_};
-ghost use Rattle.findings.specs.Values.{partOf};
+ghost use Rattle.values.specs.Values.{partOf};
 
 // A body and the place in it at which a payload's data begins.
 pub struct PayloadReader<'a> {

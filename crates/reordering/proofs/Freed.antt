@@ -15,7 +15,7 @@ use Rattle.tables.specs.Reached.{Tables, tables}
 use Rattle.tables.specs.declared.ike.IkeRecord.{IkeRecord}
 use Rattle.tables.specs.declared.ipsec.IpsecRecord.{IpsecRecord}
 use Rattle.deciding.specs.Decide.{tallied, hasList}
-use Rattle.findings.specs.Values.{addressesIn}
+use Rattle.values.specs.Values.{addressesIn}
 use Rattle.responder.specs.Handle.{Request, meant}
 use Rattle.reordering.specs.Requests.{step, seenIn}
 use Rattle.reordering.proofs.Steps.{early, place, entry, owners, step-taken, there}

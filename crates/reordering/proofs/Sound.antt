@@ -8,7 +8,7 @@ use lib.Dec.{eqb, leb}
 use Rattle.octets.proofs.Small.{both}
 use Rattle.address.specs.declared.address.Address.{Address}
 use Rattle.address.specs.declared.pair.Pair.{Pair}
-use Rattle.findings.specs.Values.{noNatsSeen, addressesIn}
+use Rattle.values.specs.Values.{noNatsSeen, addressesIn}
 use Rattle.findings.specs.declared.seen.Seen.{Seen}
 use Rattle.policy.specs.declared.rules.Policy.{Policy}
 use Rattle.reader.specs.Chain.{reading}

@@ -8,7 +8,7 @@ use lib.Dec.{eqb}
 use lib.ListN.{length, set}
 use Rattle.octets.specs.Lists.{placeOf}
 use Rattle.policy.specs.declared.rules.Policy.{Policy}
-use Rattle.findings.specs.Values.{partOf}
+use Rattle.values.specs.Values.{partOf}
 use Rattle.tables.specs.Records.{ikeSpi, marksIn, follows}
 use Rattle.tables.specs.Reached.{Tables, tables}
 use Rattle.tables.specs.declared.ike.IkeRecord.{IkeRecord}

@@ -7,7 +7,7 @@ use mathlib.Core.Bool.{Bool, false, cond, _&&_, _||_, not}
 use lib.Dec.{eqb}
 use Rattle.order.specs.Order.{Update, Held}
 use Rattle.address.specs.declared.pair.Pair.{Pair}
-use Rattle.findings.specs.Values.{partOf, noNatsSeen}
+use Rattle.values.specs.Values.{partOf, noNatsSeen}
 use Rattle.findings.specs.declared.seen.Seen.{Seen}
 use Rattle.policy.specs.declared.rules.Policy.{Policy}
 use Rattle.reader.specs.Chain.{reading}

@@ -36,7 +36,7 @@ use denote.Triple.Table.{entered, cited}
 use denote.Triple.Walked.{says, Stays, stay-dropped, walkOf, goes-dropped, Walks, ends-at, walked, walk-meets}
 use denote.Exit.{yes}
 use denote.Triple.Clauses.{ensured, lasts}
-use Rattle.findings.specs.Values.{partOf}
+use Rattle.values.specs.Values.{partOf}
 use Rattle.parts.specs.declared.PayloadReader.{PayloadReader}
 use Rattle.parts.proofs.PayloadReader as T
 use Rattle.parts.proofs.PayloadReader.Laws as T′

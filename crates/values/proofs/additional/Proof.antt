@@ -1,4 +1,4 @@
--- `findings::values::additional` meets its contract. The loop's invariant: the first i addresses are those of the joined list.
+-- `values::additional` meets its contract. The loop's invariant: the first i addresses are those of the joined list.
 -- Assumes nothing.
 use Prim.Native.Nat.{ℕ, _≤_, _-_}
 use mathlib.Core.Path.{_≡_, refl}
@@ -7,9 +7,9 @@ use borrow.Author.Needs.{needs}
 use native.Mathlib.Omega.{arith}
 use lib.ListN.{replicate}
 use Rattle.octets.proofs.Zip.{joined, joins-one}
-use Rattle.findings.specs.Values.{addressAt}
-use Rattle.findings.proofs.values.additional.Statement.{statement}
-use Rattle.findings.proofs.values.additional.Tie as tie
+use Rattle.values.specs.Values.{addressAt}
+use Rattle.values.proofs.additional.Statement.{statement}
+use Rattle.values.proofs.additional.Tie as tie
 
 abbrev zeros : List ℕ
 zeros = replicate 16 0

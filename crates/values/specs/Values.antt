@@ -8,9 +8,9 @@ use Rattle.octets.specs.Lists.{firstOnly}
 use Rattle.octets.specs.Octets.{be16, padded}
 use Rattle.address.specs.Address.{widthOf, addressesOf}
 use Rattle.address.specs.declared.address.Address.{Address}
 use Rattle.findings.specs.declared.seen.Places.{Places}
 use Rattle.findings.specs.declared.seen.Seen.{Seen}
-use Rattle.findings.specs.declared.values.NoNats.{NoNats}
+use Rattle.values.specs.declared.NoNats.{NoNats}
 
 -- the n octets at `at`, or none where they would run past the end
 abbrev pub partOf : List ℕ → ℕ → ℕ → List ℕ

@@ -1,10 +1,10 @@
--- `findings::values::part` meets its contract.
+-- `values::part` meets its contract.
 -- Assumes nothing.
 use borrow.Author.Needs.{needs}
 use borrow.Author.Tests.{le-leb, lt-leb}
 use native.Mathlib.Nat.{add-sub-cancel-left}
-use Rattle.findings.proofs.values.part.Statement.{statement}
-use Rattle.findings.proofs.values.part.Tie as tie
+use Rattle.values.proofs.part.Statement.{statement}
+use Rattle.values.proofs.part.Tie as tie
 
 pub part-spec : {M : Type 1} → statement M
 part-spec =

@@ -1,8 +1,8 @@
--- `findings::values::no_nats` meets its contract.
+-- `values::no_nats` meets its contract.
 -- Assumes nothing.
 use borrow.Author.Needs.{needs}
-use Rattle.findings.proofs.values.no_nats.Statement.{statement}
-use Rattle.findings.proofs.values.no_nats.Tie as tie
+use Rattle.values.proofs.no_nats.Statement.{statement}
+use Rattle.values.proofs.no_nats.Tie as tie
 
 pub no-nats-spec : {M : Type 1} → statement M
 no-nats-spec =

@@ -1,12 +1,12 @@
--- `findings::values::no_nats_in` meets its contract.
+-- `values::no_nats_in` meets its contract.
 -- Assumes nothing.
 use borrow.Author.Needs.{needs}
 use native.Mathlib.Omega.{arith}
 use native.Mathlib.Nat.{add-sub-cancel-left}
 use mathlib.Core.Path.{sym}
 use lib.Seq.{length-take-le}
-use Rattle.findings.proofs.values.no_nats_in.Statement.{statement}
-use Rattle.findings.proofs.values.no_nats_in.Tie as tie
+use Rattle.values.proofs.no_nats_in.Statement.{statement}
+use Rattle.values.proofs.no_nats_in.Tie as tie
 
 pub no-nats-in-spec : {M : Type 1} → statement M
 no-nats-in-spec =

@@ -1,15 +1,15 @@
 // The values that a reading hands out: parts of the lent body, and the addresses in it.
-use crate::seen::Places;
-use crate::seen::Seen;
 use address::address::Address;
 use address::address::addresses_of;
 use address::address::width_of;
+use findings::seen::Places;
+use findings::seen::Seen;
 use octets::be16_at;
 use octets::padded_to_16;
 ghost use mathlib.Core.Path.{_≡_};
 ghost use Prim.Native.Nat.{_+_, _≤_, min};
 ghost use lib.ListN.{length};
-ghost use Rattle.findings.specs.Values.{partOf, natValue, noNatsIn, noNatsOf, noNatsSeen, absent, addressAt, additionalOf, addressesIn};
+ghost use Rattle.values.specs.Values.{partOf, natValue, noNatsIn, noNatsOf, noNatsSeen, absent, addressAt, additionalOf, addressesIn};
 
 // The `len` octets at `at`; none where they would run past the end.
 pub fn part(body: &[u8], at: u16, len: u16) -> &[u8]

@@ -1,9 +1,9 @@
--- `findings::values::addresses_in` meets its contract.
+-- `values::addresses_in` meets its contract.
 -- Assumes nothing.
 use borrow.Author.Needs.{needs}
 use native.Mathlib.Omega.{arith}
-use Rattle.findings.proofs.values.addresses_in.Statement.{statement}
-use Rattle.findings.proofs.values.addresses_in.Tie as tie
+use Rattle.values.proofs.addresses_in.Statement.{statement}
+use Rattle.values.proofs.addresses_in.Tie as tie
 
 pub addresses-in-spec : {M : Type 1} → statement M
 addresses-in-spec =

@@ -1,8 +1,8 @@
--- `findings::values::address_at` meets its contract.
+-- `values::address_at` meets its contract.
 -- Assumes nothing.
 use borrow.Author.Needs.{needs}
-use Rattle.findings.proofs.values.address_at.Statement.{statement}
-use Rattle.findings.proofs.values.address_at.Tie as tie
+use Rattle.values.proofs.address_at.Statement.{statement}
+use Rattle.values.proofs.address_at.Tie as tie
 
 pub address-at-spec : {M : Type 1} → statement M
 address-at-spec =

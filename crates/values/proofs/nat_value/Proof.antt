@@ -1,9 +1,9 @@
--- `findings::values::nat_value` meets its contract.
+-- `values::nat_value` meets its contract.
 -- Assumes nothing.
 use borrow.Author.Needs.{needs}
 use borrow.Author.Tests.{eq-eqb, ne-eqb}
-use Rattle.findings.proofs.values.nat_value.Statement.{statement}
-use Rattle.findings.proofs.values.nat_value.Tie as tie
+use Rattle.values.proofs.nat_value.Statement.{statement}
+use Rattle.values.proofs.nat_value.Tie as tie
 
 pub nat-value-spec : {M : Type 1} → statement M
 nat-value-spec =

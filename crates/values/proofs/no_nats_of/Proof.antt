@@ -1,9 +1,9 @@
--- `findings::values::no_nats_of` meets its contract.
+-- `values::no_nats_of` meets its contract.
 -- Assumes nothing.
 use borrow.Author.Needs.{needs}
 use borrow.Author.Tests.{eq-eqb, ne-eqb}
-use Rattle.findings.proofs.values.no_nats_of.Statement.{statement}
-use Rattle.findings.proofs.values.no_nats_of.Tie as tie
+use Rattle.values.proofs.no_nats_of.Statement.{statement}
+use Rattle.values.proofs.no_nats_of.Tie as tie
 
 pub no-nats-of-spec : {M : Type 1} → statement M
 no-nats-of-spec =
