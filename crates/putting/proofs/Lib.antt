@@ -1,0 +1,5 @@
+-- Laws that belong to no one function.
+pub mod Addresses
+pub mod Asked
+pub mod NoNats
+pub mod Tail
