@@ -1,5 +1,4 @@
 -- Laws that belong to no one function.
 pub mod Addresses
 pub mod Asked
-pub mod NoNats
 pub mod Tail

@@ -1,14 +1,14 @@
 // The parts of a request, each put into the output behind the one before it.
 use address::address::width_of;
+use asking::no_nats::no_nats_octets;
 use payload::notify::NotifyType;
-use writing::copy_octets;
 use writing::put_notify;
 ghost use mathlib.Core.Path.{_≡_};
 ghost use mathlib.Core.Bool.{true, cond, not};
 ghost use mathlib.Core.List.{[], _∷_};
 ghost use lib.Dec.{eqb};
 ghost use Prim.Native.Nat.{_+_, _*_, _≤_};
-ghost use lib.ListN.{length, take, drop, replicate};
+ghost use lib.ListN.{length, take, drop};
 ghost use Rattle.writing.specs.Notify.{notification, placed, chained};
 ghost use Rattle.asking.specs.Request.{ifAsked, addressNumber, addressNotify, addressNotifies, noNatsOctets, natNotifies, tailNotifies};
 
@@ -74,30 +74,6 @@ pub fn put_addresses(
     let address = octets[i];
     let end = put_address(out, at, type_if(left != 1, next), family, address);
     put_addresses(out, end, next, families, octets, i + 1, left - 1)
-}
-
-// NO_NATS_ALLOWED's data in the first octets of an array: two addresses of `width` octets, then the ports.
-pub fn no_nats_octets(
-    width: usize,
-    source: [u8; 16],
-    destination: [u8; 16],
-    source_port: u16,
-    destination_port: u16,
-) -> [u8; 36]
-    requires { ⌜ width ≤ 16 ⌝ }
-    ensures { λ r. ⌜ r ≡ placed (replicate 36 0) 0 (noNatsOctets width source destination «source_port» «destination_port») ⌝ }
-{
-    let ports = [
-        (source_port / 256) as u8,
-        (source_port % 256) as u8,
-        (destination_port / 256) as u8,
-        (destination_port % 256) as u8,
-    ];
-    let mut octets = [0u8; 36];
-    copy_octets(&mut octets, 0, &source[..width]);
-    copy_octets(&mut octets, width, &destination[..width]);
-    copy_octets(&mut octets, width + width, &ports);
-    octets
 }
 
 // NO_NATS_ALLOWED with the packet's addresses, of `width` octets, and ports, if it is asked for.

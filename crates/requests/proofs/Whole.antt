@@ -11,7 +11,7 @@ use Rattle.writing.specs.Notify.{Notification, notification, firstType, chained
 use Rattle.writing.proofs.Chained.{Wrote, wrote-both, wrote-length, first-append, chained-append, length-one}
 use Rattle.asking.specs.Request.{Request, ifAsked, natNotifies, pairOctets, tailNotifies, requested}
 use Rattle.putting.proofs.Asked.{length-asked, type-asked}
-use Rattle.putting.proofs.NoNats.{data-short}
+use Rattle.asking.proofs.NoNats.{data-short}
 use Rattle.asking.proofs.Fitting.{Fitting}
 use Rattle.putting.proofs.Tail.{tail-length}
 

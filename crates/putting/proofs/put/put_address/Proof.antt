@@ -10,7 +10,7 @@ use Rattle.address.proofs.Width.{width-small}
 use Rattle.writing.proofs.Placed.{length-notify}
 use Rattle.writing.proofs.Chained.{chained-one}
 use Rattle.asking.specs.Request.{addressNotify, addressNumber}
-use Rattle.putting.proofs.NoNats.{taken}
+use Rattle.asking.proofs.NoNats.{taken}
 use Rattle.putting.proofs.put.put_address.Statement.{statement}
 use Rattle.putting.proofs.put.put_address.Tie as tie
 

@@ -7,7 +7,7 @@ use mathlib.Core.List.{List}
 use native.Mathlib.Omega.{arith}
 use lib.ListN.{length, take, replicate}
 use Rattle.asking.specs.Request.{noNatsOctets}
-use Rattle.putting.proofs.NoNats.{data-length, front}
+use Rattle.asking.proofs.NoNats.{data-length, front}
 use Rattle.putting.proofs.put.put_no_nats.Statement.{statement}
 use Rattle.putting.proofs.put.put_no_nats.Tie as tie
 

@@ -1,12 +1,12 @@
--- `putting::put::no_nats_octets` meets its contract: three parts copied one behind the other.
+-- `asking::no_nats::no_nats_octets` meets its contract: three parts copied one behind the other.
 -- Assumes nothing.
 use borrow.Author.Needs.{needs}
 use mathlib.Core.Path.{_≡_, refl, sym}
 use lib.ListN.{length, take}
 use native.Mathlib.Omega.{arith}
-use Rattle.putting.proofs.NoNats.{taken, one-length, two-length, copied}
-use Rattle.putting.proofs.put.no_nats_octets.Statement.{statement}
-use Rattle.putting.proofs.put.no_nats_octets.Tie as tie
+use Rattle.asking.proofs.NoNats.{taken, one-length, two-length, copied}
+use Rattle.asking.proofs.no_nats.no_nats_octets.Statement.{statement}
+use Rattle.asking.proofs.no_nats.no_nats_octets.Tie as tie
 
 module _ (c : tie.Start) where
   long-source : length (c .args .t2) ≡ 16
