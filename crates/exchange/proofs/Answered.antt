@@ -27,10 +27,10 @@ use Rattle.responder.specs.Core.{firstOf, cookieIn, wantsNats, decisionOn, core
 use Rattle.responder.specs.Handle.{Request as Received, meant, recordNumber, checkedNumber, earlyNumber, handled, handledResponse}
 use Rattle.deciding.proofs.Numbers.{verdict-of, number-accepted}
 use Rattle.responder.proofs.Checks.{passed, lent-fit}
-use Rattle.requests.specs.Request.{Request, request, ifAsked, natNotifies, cookieNotifies, requested, requestFits, requestOctets, cookieFits}
+use Rattle.asking.specs.Request.{Request, request, ifAsked, natNotifies, cookieNotifies, requested, requestFits, requestOctets, cookieFits}
 use Rattle.requests.specs.declared.request.Written.{Written}
 use Rattle.initiator.specs.Response.{same, closes, outcomeOf, tallyOf, assessment}
-use Rattle.requests.proofs.Fitting.{fitting}
+use Rattle.asking.proofs.Fitting.{fitting}
 use Rattle.exchange.specs.RoundTrips.{given, Sized, allKnown, GivenBack}
 use Rattle.exchange.specs.Exchange.{Accepted, Understood, AllUnderstood}
 use Rattle.exchange.proofs.Asked.{all-below, sized-at}

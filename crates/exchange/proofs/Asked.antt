@@ -16,7 +16,7 @@ use Rattle.address.specs.declared.pair.Pair.{Pair}
 use Rattle.payload.specs.Notify.{kindOf, dataFits}
 use Rattle.values.specs.Values.{noNatsOf}
 use Rattle.writing.specs.Notify.{Notification, notification}
-use Rattle.requests.specs.Request.{Request, ifAsked, addressNumber, addressNotify, addressNotifies, pairOctets, cookieNotifies, requested, unlessAsked, listedFits, requestFits, cookieFits}
+use Rattle.asking.specs.Request.{Request, ifAsked, addressNumber, addressNotify, addressNotifies, pairOctets, cookieNotifies, requested, unlessAsked, listedFits, requestFits, cookieFits}
 use Rattle.exchange.specs.RoundTrips.{Sized, pairOf, askedFor}
 use Rattle.exchange.proofs.Ranked.{Each, each, Of, Sorted, only, only-good, by-rank, lowest, number-of, asked, dataOf, one-kind, its-data}
 use Rattle.exchange.proofs.Data.{length-padded, pair-sized, unpadded, fits-padded, pair-again, cookie-again}

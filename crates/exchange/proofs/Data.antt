@@ -15,7 +15,7 @@ use Rattle.address.specs.Address.{widthOf, isZero, addressFits, pairFits}
 use Rattle.address.specs.declared.pair.Pair.{Pair}
 use Rattle.values.specs.Values.{absent, noNatsIn, noNatsOf}
 use Rattle.values.specs.declared.NoNats.{NoNats}
-use Rattle.requests.specs.Request.{portOctets, noNatsOctets, pairOctets, cookieFits}
+use Rattle.asking.specs.Request.{portOctets, noNatsOctets, pairOctets, cookieFits}
 use Rattle.exchange.specs.RoundTrips.{Octets, pairOf}
 use Rattle.exchange.proofs.Places.{here, on, be16-on, high, low}
 

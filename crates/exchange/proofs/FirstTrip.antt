@@ -13,7 +13,8 @@ use Rattle.values.specs.Values.{partOf}
 use Rattle.writing.specs.Notify.{firstType}
 use Rattle.reader.specs.Chain.{scanned, answer, reading}
 use Rattle.reader.specs.declared.read.Outcome.the-variants.{Whole}
-use Rattle.requests.specs.Request.{Request, requested, requestOctets, requestFits, writeNumber, writtenOctets, complete, notWritten, written}
+use Rattle.asking.specs.Request.{Request, requested, requestOctets, requestFits}
+use Rattle.requests.specs.Written.{writeNumber, writtenOctets, complete, notWritten, written}
 use Rattle.exchange.specs.RoundTrips.{givenBy, Sized, GivenBack, ReadingWritten}
 use Rattle.exchange.proofs.Notifies.{notifyChain}
 use Rattle.exchange.proofs.Payloads.{chain-of}

@@ -15,7 +15,7 @@ use Rattle.findings.specs.Seen.{is}
 use Rattle.values.specs.Values.{noNatsOf}
 use Rattle.writing.specs.Notify.{Notification, chained}
 use Rattle.writing.proofs.Placed.{length-notify}
-use Rattle.requests.specs.Request.{Request}
+use Rattle.asking.specs.Request.{Request}
 use Rattle.exchange.specs.RoundTrips.{pairOf}
 use Rattle.exchange.proofs.Notifies.{AllFit}
 

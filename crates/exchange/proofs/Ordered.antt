@@ -13,7 +13,7 @@ use Rattle.payload.specs.Notify.{kindOf}
 use Rattle.writing.specs.Notify.{Notification, notification, notifyOctets, firstType, chained}
 use Rattle.writing.proofs.Placed.{length-notify}
 use Rattle.reader.specs.Chain.{chainAt, reading}
-use Rattle.requests.specs.Request.{Request, ifAsked, addressNumber, addressNotifies, natNotifies, cookieNotifies, requested, requestOctets, countFits, natsFit, requestFits}
+use Rattle.asking.specs.Request.{Request, ifAsked, addressNumber, addressNotifies, natNotifies, cookieNotifies, requested, requestOctets, countFits, natsFit, requestFits}
 use Rattle.exchange.specs.Plain.{rank, mayFollow, zeroFields, inOrder, plainlyRead}
 use Rattle.exchange.specs.RoundTrips.{given}
 use Rattle.exchange.proofs.Notifies.{notifyChain}

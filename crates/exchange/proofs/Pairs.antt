@@ -16,7 +16,7 @@ use Rattle.address.specs.Address.{widthOf, isZero, addressFits}
 use Rattle.address.proofs.Width.{width-small}
 use Rattle.values.specs.Values.{noNatsIn, noNatsOf}
 use Rattle.values.specs.declared.NoNats.{NoNats}
-use Rattle.requests.specs.Request.{portOctets, noNatsOctets}
+use Rattle.asking.specs.Request.{portOctets, noNatsOctets}
 use Rattle.exchange.proofs.Payloads.{be16-behind}
 
 pub data Family : ℕ → Type 0 where

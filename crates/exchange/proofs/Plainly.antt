@@ -19,7 +19,7 @@ use Rattle.reader.specs.Chain.{chainAt, stopped, scanned, reading}
 use Rattle.reader.specs.declared.read.Scan.{Scan}
 use Rattle.reader.specs.declared.read.Outcome.the-variants.{Whole, Broken}
 use Rattle.reader.proofs.Whole.{read-whole}
-use Rattle.requests.specs.Request.{Request, requested, requestOctets, requestFits}
+use Rattle.asking.specs.Request.{Request, requested, requestOctets, requestFits}
 use Rattle.exchange.specs.Plain.{rank, inOrder, natsPaired, plainlyRead}
 use Rattle.exchange.specs.RoundTrips.{Octets, Sized, askedFor}
 use Rattle.exchange.proofs.Notifies.{contentOf, notifyChain}

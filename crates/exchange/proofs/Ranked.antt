@@ -12,7 +12,7 @@ use Rattle.octets.proofs.Small.{both, chosen}
 use Rattle.payload.specs.Notify.{kindOf, dataFits}
 use Rattle.payload.specs.declared.notify.NotifyKind.{NotifyKind}
 use Rattle.writing.specs.Notify.{Notification, notification}
-use Rattle.requests.specs.Request.{ifAsked}
+use Rattle.asking.specs.Request.{ifAsked}
 use Rattle.exchange.specs.Plain.{rank, mayFollow}
 use Rattle.exchange.specs.RoundTrips.{Octets}
 use Rattle.exchange.proofs.Notifies.{AllFit}

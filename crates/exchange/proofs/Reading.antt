@@ -24,7 +24,7 @@ use Rattle.writing.proofs.Placed.{length-notify}
 use Rattle.reader.specs.Chain.{scanned}
 use Rattle.reader.specs.declared.read.Scan.{Scan}
 use Rattle.reader.specs.declared.read.Outcome.the-variants.{Whole}
-use Rattle.requests.specs.Request.{Request}
+use Rattle.asking.specs.Request.{Request}
 use Rattle.exchange.specs.RoundTrips.{givenBy, allKnown}
 use Rattle.exchange.proofs.Notifies.{AllFit, notifyChain}
 use Rattle.exchange.proofs.Payloads.{length-body}

@@ -17,7 +17,7 @@ use Rattle.writing.specs.Notify.{firstType}
 use Rattle.reader.specs.Chain.{reading}
 use Rattle.reader.proofs.Chain.{DataFits}
 use Rattle.reader.proofs.Kept.{kept}
-use Rattle.requests.specs.Request.{requested, requestOctets}
+use Rattle.asking.specs.Request.{requested, requestOctets}
 use Rattle.requests.specs.declared.request.Written.{Written}
 use Rattle.exchange.specs.Plain.{plainlyRead}
 use Rattle.exchange.specs.RoundTrips.{given, Sized, Octets, WrittenAgain, WritingRead}

@@ -17,7 +17,7 @@ use Rattle.address.specs.Address.{widthOf, addressFits, pairFits}
 use Rattle.payload.specs.Notify.{kindOf, dataFits}
 use Rattle.payload.specs.declared.notify.NotifyKind.the-variants.{NoNatsAllowed}
 use Rattle.writing.specs.Notify.{notification}
-use Rattle.requests.specs.Request.{cookieFits, Request, request, ifAsked, addressNotify, addressNotifies, pairOctets, natNotifies, cookieNotifies, requested, requestOctets, unlessAsked, countFits, natsFit, listedFits, requestFits}
+use Rattle.asking.specs.Request.{cookieFits, Request, request, ifAsked, addressNotify, addressNotifies, pairOctets, natNotifies, cookieNotifies, requested, requestOctets, unlessAsked, countFits, natsFit, listedFits, requestFits}
 use Rattle.exchange.specs.RoundTrips.{Sized, askedFor}
 use Rattle.exchange.proofs.Notifies.{AllFit}
 use Rattle.exchange.proofs.Gathered.{Leads, none, one, at-most, in-turn, length-chained}

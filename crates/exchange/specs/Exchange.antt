@@ -7,7 +7,8 @@ use Rattle.tables.specs.declared.ike.IkeRecord.{IkeRecord}
 use Rattle.tables.specs.declared.ipsec.IpsecRecord.{IpsecRecord}
 use Rattle.responder.specs.Handle.{Request as Received, handled, handledResponse}
 use Rattle.responder.specs.declared.core.Reply.{Reply}
-use Rattle.requests.specs.Request.{Request, written, writtenOctets}
+use Rattle.asking.specs.Request.{Request}
+use Rattle.requests.specs.Written.{written, writtenOctets}
 use Rattle.initiator.specs.Response.{assessment}
 use Rattle.initiator.specs.declared.response.Assessment.{Assessment}
 use Rattle.exchange.specs.RoundTrips.{Sized}

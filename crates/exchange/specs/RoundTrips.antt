@@ -14,7 +14,8 @@ use Rattle.findings.specs.declared.seen.Seen.{Seen}
 use Rattle.findings.specs.declared.seen.Tally.{Tally}
 use Rattle.values.specs.declared.NoNats.{NoNats}
 use Rattle.reader.specs.Chain.{reading}
-use Rattle.requests.specs.Request.{Request, requested, written, writtenOctets}
+use Rattle.asking.specs.Request.{Request, requested}
+use Rattle.requests.specs.Written.{written, writtenOctets}
 use Rattle.exchange.specs.Plain.{plainlyRead}
 
 abbrev pub pairOf : NoNats → Pair

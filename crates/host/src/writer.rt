@@ -3,13 +3,14 @@ use crate::chain::AddressList;
 use address::address::families_of;
 use address::address::octets_of;
 use address::pair::Pair;
-use requests::request::Ask;
+use asking::ask::Ask;
 use requests::request::Written;
 ghost use mathlib.Core.Path.{_≡_};
 ghost use lib.ListN.{length};
 ghost use Rattle.address.specs.Address.{familiesOf, octetsOf};
 ghost use Rattle.writing.specs.Notify.{placed};
-ghost use Rattle.requests.specs.Request.{request, written, writtenOctets};
+ghost use Rattle.asking.specs.Request.{request};
+ghost use Rattle.requests.specs.Written.{written, writtenOctets};
 
 // Writes the request that is asked for to the start of `out`, which must have 564 octets whatever is asked. Asking for everything
 // writes 21 Notify payloads, which a peer may refuse: see `requests::request::write`.

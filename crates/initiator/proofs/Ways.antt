@@ -9,7 +9,7 @@ use Rattle.values.specs.Values.{partOf}
 use Rattle.reader.specs.Chain.{reading}
 use Rattle.reader.specs.declared.read.Reading.{Reading}
 use Rattle.reader.proofs.Errors.{errors-among}
-use Rattle.requests.specs.Request.{cookieFits}
+use Rattle.asking.specs.Request.{cookieFits}
 use Rattle.initiator.specs.Response.{refusal, wholeAssessment, assessment}
 
 module _ (sent : List ℕ) (first : ℕ) (body : List ℕ) where

@@ -9,7 +9,7 @@ use Rattle.values.specs.Values.{partOf}
 use Rattle.findings.specs.declared.seen.Tally.{Tally}
 use Rattle.reader.specs.Chain.{reading}
 use Rattle.reader.specs.declared.read.Reading.{Reading}
-use Rattle.requests.specs.Request.{cookieFits}
+use Rattle.asking.specs.Request.{cookieFits}
 use Rattle.initiator.specs.declared.response.Assessment.{Assessment}
 
 -- the same octets, and as many of them

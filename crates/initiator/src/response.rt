@@ -1,7 +1,7 @@
 // The responder's answer to a request of ours: accepted, refused, or so wrong that the IKE SA is to be closed.
+use asking::fits::cookie_fits;
 use findings::seen::Tally;
 use reader::read::read;
-use requests::fits::cookie_fits;
 use values::cookie;
 ghost use mathlib.Core.Path.{_≡_};
 ghost use Prim.Native.Nat.{_≤_};

@@ -9,11 +9,11 @@ use Rattle.address.specs.Address.{widthOf}
 use Rattle.address.proofs.Width.{width-small}
 use Rattle.writing.specs.Notify.{Notification, notification, firstType, chained}
 use Rattle.writing.proofs.Chained.{Wrote, wrote-both, wrote-length, first-append, chained-append, length-one}
-use Rattle.requests.specs.Request.{Request, ifAsked, natNotifies, pairOctets, tailNotifies, requested}
-use Rattle.requests.proofs.Asked.{length-asked, type-asked}
-use Rattle.requests.proofs.NoNats.{data-short}
-use Rattle.requests.proofs.Fitting.{Fitting}
-use Rattle.requests.proofs.Tail.{tail-length}
+use Rattle.asking.specs.Request.{Request, ifAsked, natNotifies, pairOctets, tailNotifies, requested}
+use Rattle.putting.proofs.Asked.{length-asked, type-asked}
+use Rattle.asking.proofs.NoNats.{data-short}
+use Rattle.asking.proofs.Fitting.{Fitting}
+use Rattle.putting.proofs.Tail.{tail-length}
 
 nats-length : (asked : Bool) (source destination : List ℕ) (next : ℕ) → (asked ≡ true → (length source ≡ 20) × (length destination ≡ 20))
     → length (chained (ifAsked asked (natNotifies source destination)) next) ≤ 56

@@ -1,4 +1,2 @@
 // The request writer: the notifications that an initiator asks for, as a payload chain.
-pub mod fits;
-pub mod put;
 pub mod request;

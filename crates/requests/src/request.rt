@@ -1,31 +1,22 @@
 // The request writer: the notifications that are asked for, in one fixed order, as a payload chain.
-use crate::fits::request_fits;
-use crate::put::put_if;
-use crate::put::put_nats;
-use crate::put::put_no_nats;
-use crate::put::put_tail;
-use crate::put::tail_type;
-use crate::put::type_if;
 use address::address::width_of;
 use address::pair::Pair;
+use asking::ask::Ask;
+use asking::fits::request_fits;
 use payload::notify::NotifyType;
+use putting::put::put_if;
+use putting::put::put_nats;
+use putting::put::put_no_nats;
+use putting::put::put_tail;
+use putting::put::tail_type;
+use putting::put::type_if;
 ghost use mathlib.Core.Path.{_≡_};
 ghost use mathlib.Core.Bool.{true};
 ghost use Prim.Native.Nat.{_≤_};
 ghost use lib.ListN.{length};
 ghost use Rattle.writing.specs.Notify.{placed};
-ghost use Rattle.requests.specs.Request.{request, requestFits, requestOctets, complete, notWritten, written, writtenOctets};
-
-// What a request is to carry: which notifications, and how many of the additional addresses.
-#[repr(C)]
-pub struct Ask {
-    pub update: bool,
-    pub no_nats: bool,
-    pub nat_source: bool,
-    pub nat_destination: bool,
-    pub no_additional: bool,
-    pub count: u16,
-}
+ghost use Rattle.asking.specs.Request.{request, requestFits, requestOctets};
+ghost use Rattle.requests.specs.Written.{complete, notWritten, written, writtenOctets};
 
 // The number, the type of the first payload (0: none) and the octets written.
 #[repr(C)]

@@ -6,9 +6,9 @@ use native.Mathlib.Omega.{arith}
 use lib.ListN.{length}
 use Rattle.address.proofs.Width.{width-small}
 use Rattle.writing.proofs.Chained.{Wrote}
-use Rattle.requests.specs.Request.{Request, request, requestOctets}
-use Rattle.requests.proofs.Fitting.{fitting}
-use Rattle.requests.proofs.Tail.{tail-type}
+use Rattle.asking.specs.Request.{Request, request, requestOctets}
+use Rattle.asking.proofs.Fitting.{fitting}
+use Rattle.putting.proofs.Tail.{tail-type}
 use Rattle.requests.proofs.Whole.{Ready, update, no-nats, nats, tail, fits-no-nats, fits-nats, fits-tail, first-type, short, whole}
 use Rattle.requests.proofs.request.put_request.Statement.{statement}
 use Rattle.requests.proofs.request.put_request.Tie as tie

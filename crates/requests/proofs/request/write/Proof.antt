@@ -5,7 +5,7 @@ use mathlib.Core.Path.{sym, _∙_}
 use native.Mathlib.Omega.{arith}
 use borrow.Author.Tests.{lt-ltb, le-ltb}
 use Rattle.writing.proofs.Placed.{placed-none}
-use Rattle.requests.specs.Request.{writeNumber, written, writtenOctets}
+use Rattle.requests.specs.Written.{writeNumber, written, writtenOctets}
 use Rattle.requests.proofs.request.write.Statement.{statement}
 use Rattle.requests.proofs.request.write.Tie as tie
 

@@ -1,0 +1,2 @@
+// The parts of a request, put into an output.
+pub mod put;
