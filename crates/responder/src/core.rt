@@ -10,6 +10,7 @@ use findings::values::addresses_in;
 use findings::values::cookie;
 use findings::values::kept_count;
 use findings::values::no_nats;
+use payload::notify::NotifyType;
 use policy::rules::Policy;
 use reader::read::Reading;
 use reader::read::read;
@@ -86,10 +87,10 @@ pub fn refuse_chain(r: Reading, out: &mut [u8]) -> Reply
     let none = [0u8; 0];
     let told = [r.critical];
     if r.number == 7 {
-        let n = put_error(out, 1, &told, &none);
+        let n = put_error(out, NotifyType::UNSUPPORTED_CRITICAL_PAYLOAD, &told, &none);
         return refusal(r.number, r.offset, n as u16);
     }
-    let n = put_error(out, 7, &none, &none);
+    let n = put_error(out, NotifyType::INVALID_SYNTAX, &none, &none);
     refusal(r.number, r.offset, n as u16)
 }
 
@@ -120,9 +121,9 @@ pub fn respond_decided(
     }
     let none = [0u8; 0];
     if number == 8 {
-        return put_error(out, 41, &none, cookie);
+        return put_error(out, NotifyType::UNEXPECTED_NAT_DETECTED, &none, cookie);
     }
-    put_error(out, 40, &none, cookie)
+    put_error(out, NotifyType::UNACCEPTABLE_ADDRESSES, &none, cookie)
 }
 
 // Steps 1 to 3 on what was read of a body.
