@@ -10,7 +10,7 @@ use lib.ListN.{length, set, length-append}
 use Rattle.octets.specs.Octets.{padded}
 use Rattle.payload.specs.Notify.{kindOf, dataFits}
 use Rattle.payload.specs.declared.notify.NotifyKind.{NotifyKind}
-use Rattle.payload.specs.declared.notify.NotifyKind.the-variants.{NatDetectionSource, NatDetectionDestination, MobikeSupported, AdditionalIp4, AdditionalIp6, NoAdditionalAddresses, UpdateSaAddresses, Cookie2, NoNatsAllowed, Unknown}
+use Rattle.payload.specs.declared.notify.NotifyKind.the-variants.{NatDetectionSource, NatDetectionDestination, MobikeSupported, AdditionalIp4, AdditionalIp6, NoAdditionalAddresses, UpdateSaAddresses, Cookie2, NoNatsAllowed, UnacceptableAddresses, UnexpectedNatDetected, OtherError, OtherStatus}
 use Rattle.findings.specs.Seen.{is}
 use Rattle.values.specs.Values.{noNatsOf}
 use Rattle.writing.specs.Notify.{Notification, chained}
@@ -55,7 +55,10 @@ taken r NoAdditionalAddresses = r .ask .«no_additional» || not (eqb (r .ask .c
 taken r UpdateSaAddresses = r .ask .update
 taken r Cookie2 = not (eqb (length (r .cookie)) 0)
 taken r NoNatsAllowed = r .ask .«no_nats»
-taken r Unknown = true
+taken r UnacceptableAddresses = true
+taken r UnexpectedNatDetected = true
+taken r OtherError = true
+taken r OtherStatus = true
 
 abbrev pub gatherAll : Request → List Notification → Request
 gatherAll r [] = r

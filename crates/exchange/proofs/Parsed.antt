@@ -13,7 +13,7 @@ use Rattle.octets.proofs.Small.{both, neither, chosen}
 use Rattle.payload.specs.Notify.{kindOf, dataFits, isUnknown}
 use Rattle.payload.specs.Payload.{spiFits, notifyAt, sized, payloadAt}
 use Rattle.payload.specs.declared.notify.NotifyKind.{NotifyKind}
-use Rattle.payload.specs.declared.notify.NotifyKind.the-variants.{NatDetectionSource, NatDetectionDestination, MobikeSupported, AdditionalIp4, AdditionalIp6, NoAdditionalAddresses, UpdateSaAddresses, Cookie2, NoNatsAllowed, Unknown}
+use Rattle.payload.specs.declared.notify.NotifyKind.the-variants.{NatDetectionSource, NatDetectionDestination, MobikeSupported, AdditionalIp4, AdditionalIp6, NoAdditionalAddresses, UpdateSaAddresses, Cookie2, NoNatsAllowed, UnacceptableAddresses, UnexpectedNatDetected, OtherError, OtherStatus}
 use Rattle.payload.specs.declared.payload.Content.the-variants.{Skipped, Unknown as UnknownPayload, Notify}
 use Rattle.payload.specs.declared.payload.Fault.the-variants.{Leftover}
 use Rattle.payload.specs.declared.payload.Found.{Found}
@@ -123,7 +123,10 @@ known-ranks NoAdditionalAddresses = refl
 known-ranks UpdateSaAddresses = refl
 known-ranks Cookie2 = refl
 known-ranks NoNatsAllowed = refl
-known-ranks Unknown = refl
+known-ranks UnacceptableAddresses = refl
+known-ranks UnexpectedNatDetected = refl
+known-ranks OtherError = refl
+known-ranks OtherStatus = refl
 
 -- a kind with a rank has no SPI
 no-spi : (k : NotifyKind) (spi : ℕ) → spiFits k spi ≡ true → 0 < rank k → spi ≡ 0

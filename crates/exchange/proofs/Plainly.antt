@@ -10,7 +10,7 @@ use lib.ListN.{length}
 use Rattle.octets.proofs.Small.{both, neither}
 use Rattle.payload.specs.Notify.{kindOf}
 use Rattle.payload.specs.declared.notify.NotifyKind.{NotifyKind}
-use Rattle.payload.specs.declared.notify.NotifyKind.the-variants.{NatDetectionSource, NatDetectionDestination, MobikeSupported, AdditionalIp4, AdditionalIp6, NoAdditionalAddresses, UpdateSaAddresses, Cookie2, NoNatsAllowed, Unknown}
+use Rattle.payload.specs.declared.notify.NotifyKind.the-variants.{NatDetectionSource, NatDetectionDestination, MobikeSupported, AdditionalIp4, AdditionalIp6, NoAdditionalAddresses, UpdateSaAddresses, Cookie2, NoNatsAllowed, UnacceptableAddresses, UnexpectedNatDetected, OtherError, OtherStatus}
 use Rattle.payload.specs.declared.payload.Fault.the-variants.{Conflict}
 use Rattle.findings.specs.Seen.{nothingSeen, counted, withTally, noted, contentNoted, repeats}
 use Rattle.findings.specs.declared.seen.Seen.{Seen}
@@ -72,7 +72,10 @@ one-more s NoAdditionalAddresses number at len e = search (arith, none-there (s 
 one-more s UpdateSaAddresses number at len e = search arith
 one-more s Cookie2 number at len e = search arith
 one-more s NoNatsAllowed number at len e = search arith
-one-more s Unknown number at len e = search arith
+one-more s UnacceptableAddresses number at len e = search arith
+one-more s UnexpectedNatDetected number at len e = search arith
+one-more s OtherError number at len e = search arith
+one-more s OtherStatus number at len e = search arith
 
 -- by what notifications stand there
 abbrev MoreBy : Seen → Seen → List Notification → Type 0

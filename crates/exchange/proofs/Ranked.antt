@@ -6,7 +6,7 @@ use mathlib.Core.Bool.{Bool, true, false, cond}
 use native.Mathlib.Omega.{arith}
 use native.Mathlib.Decide.{decLt}
 use borrow.Author.Tests.{eqb-true, eq-eqb, ne-eqb, le-leb, lt-leb}
-use lib.Dec.{eqb, leb}
+use lib.Dec.{eqb, leb, ltb}
 use lib.ListN.{length}
 use Rattle.octets.proofs.Small.{both, chosen}
 use Rattle.payload.specs.Notify.{kindOf, dataFits}
@@ -117,7 +117,8 @@ numbered : (n : ℕ) → Numbered n (kindOf n)
 unfolding kindOf
 numbered n =
     test 16388 (omega arith) (test 16389 (omega arith) (test 16396 (omega arith) (test 16397 (omega arith) (test 16398 (omega arith)
-    (test 16399 (omega arith) (test 16400 (omega arith) (test 16401 (omega arith) (test 16402 (omega arith) (omega arith)))))))))
+    (test 16399 (omega arith) (test 16400 (omega arith) (test 16401 (omega arith) (test 16402 (omega arith)
+    (test 40 (omega arith) (test 41 (omega arith) (chosen (Numbered n) (ltb n 16384) (λ e. omega arith) (λ e. omega arith))))))))))))
   where
     test : (m : ℕ) {x y : NotifyKind} → Numbered m x → Numbered n y → Numbered n (cond (eqb n m) x y)
     test m p q = chosen (Numbered n) (eqb n m) (λ e. rw (eqb-true n m e) p) (λ e. q)

@@ -13,7 +13,7 @@ use Rattle.octets.proofs.Small.{both, chosen}
 use Rattle.octets.proofs.Zip.{length-zip}
 use Rattle.payload.specs.Notify.{kindOf, dataFits}
 use Rattle.payload.specs.declared.notify.NotifyKind.{NotifyKind}
-use Rattle.payload.specs.declared.notify.NotifyKind.the-variants.{NatDetectionSource, NatDetectionDestination, MobikeSupported, AdditionalIp4, AdditionalIp6, NoAdditionalAddresses, UpdateSaAddresses, Cookie2, NoNatsAllowed, Unknown}
+use Rattle.payload.specs.declared.notify.NotifyKind.the-variants.{NatDetectionSource, NatDetectionDestination, MobikeSupported, AdditionalIp4, AdditionalIp6, NoAdditionalAddresses, UpdateSaAddresses, Cookie2, NoNatsAllowed, UnacceptableAddresses, UnexpectedNatDetected, OtherError, OtherStatus}
 use Rattle.findings.specs.Seen.{is, listed, noted, contentNoted, repeats, counted, withTally}
 use Rattle.values.specs.Values.{partOf, addressAt, additionalOf}
 use Rattle.findings.specs.declared.seen.Places.{Places}
@@ -104,7 +104,10 @@ module _ (body : List ℕ) (s : Seen) (t : Tally) (number place : ℕ) (octets :
     rw there λ e. absurd (omega (arith, leb-true 8 (length octets) (both _ _ f .0))),
   )
   one-noted NoNatsAllowed f c = (c, refl, rw (ne-eqb place 0 later, there), cookies)
-  one-noted Unknown f c = absurd (false≢true (sym c))
+  one-noted UnacceptableAddresses f c = absurd (false≢true (sym c))
+  one-noted UnexpectedNatDetected f c = absurd (false≢true (sym c))
+  one-noted OtherError f c = absurd (false≢true (sym c))
+  one-noted OtherStatus f c = absurd (false≢true (sym c))
 
 -- how a scan ended: whole, with these values and so many payloads
 pub record Scanned (body : List ℕ) (found : Scan) (r : Request) (n : ℕ) : Type 0 where

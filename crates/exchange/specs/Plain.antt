@@ -6,7 +6,7 @@ use mathlib.Core.Bool.{Bool, true, false, cond, _&&_, _||_, not}
 use lib.Dec.{eqb, leb, ltb}
 use lib.ListN.{getD}
 use Rattle.payload.specs.declared.notify.NotifyKind.{NotifyKind}
-use Rattle.payload.specs.declared.notify.NotifyKind.the-variants.{NatDetectionSource, NatDetectionDestination, MobikeSupported, AdditionalIp4, AdditionalIp6, NoAdditionalAddresses, UpdateSaAddresses, Cookie2, NoNatsAllowed, Unknown}
+use Rattle.payload.specs.declared.notify.NotifyKind.the-variants.{NatDetectionSource, NatDetectionDestination, MobikeSupported, AdditionalIp4, AdditionalIp6, NoAdditionalAddresses, UpdateSaAddresses, Cookie2, NoNatsAllowed, UnacceptableAddresses, UnexpectedNatDetected, OtherError, OtherStatus}
 use Rattle.payload.specs.declared.payload.Content.the-variants.{Skipped, Unknown as UnknownPayload, Notify}
 use Rattle.findings.specs.declared.seen.Seen.{Seen}
 use Rattle.reader.specs.Chain.{Chain, ends, faulty, payload, chainAt, reading}
@@ -22,7 +22,10 @@ rank AdditionalIp4 = 6
 rank AdditionalIp6 = 6
 rank Cookie2 = 7
 rank MobikeSupported = 0
-rank Unknown = 0
+rank UnacceptableAddresses = 0
+rank UnexpectedNatDetected = 0
+rank OtherError = 0
+rank OtherStatus = 0
 
 -- A notification stands behind one of a lower rank, or an address behind an address.
 abbrev pub mayFollow : ℕ → ℕ → Bool

@@ -3,12 +3,12 @@ use Prim.Native.Nat.{ℕ, _+_, _≤_}
 use mathlib.Core.Path.{_≡_, refl}
 use mathlib.Core.Bool.{Bool, true, false, cond}
 use native.Mathlib.Omega.{arith}
-use lib.Dec.{ltb}
+use Rattle.payload.specs.Notify.{isUnknown}
 use Rattle.payload.specs.declared.notify.NotifyKind.{NotifyKind}
-use Rattle.payload.specs.declared.notify.NotifyKind.the-variants.{NatDetectionSource, NatDetectionDestination, MobikeSupported, AdditionalIp4, AdditionalIp6, NoAdditionalAddresses, UpdateSaAddresses, Cookie2, NoNatsAllowed, Unknown}
+use Rattle.payload.specs.declared.notify.NotifyKind.the-variants.{NatDetectionSource, NatDetectionDestination, MobikeSupported, AdditionalIp4, AdditionalIp6, NoAdditionalAddresses, UpdateSaAddresses, Cookie2, NoNatsAllowed, UnacceptableAddresses, UnexpectedNatDetected, OtherError, OtherStatus}
 use Rattle.payload.specs.declared.payload.Content.{Content}
 use Rattle.payload.specs.declared.payload.Content.the-variants.{Skipped, Unknown as UnknownPayload, Notify}
-use Rattle.findings.specs.Seen.{is, counted, unknownNotify, noted, withTally, contentNoted, Counted}
+use Rattle.findings.specs.Seen.{counted, unknownNotify, noted, withTally, contentNoted, Counted}
 use Rattle.findings.specs.declared.seen.Tally.{Tally}
 use Rattle.findings.specs.declared.seen.Seen.{Seen}
 
@@ -22,13 +22,9 @@ unfolding contentNoted noted
 one s Skipped place = refl
 one s UnknownPayload place = refl
 one s (Notify k number len) place =
-    either-tally (is k Unknown) (unknownNotify (counted (s .tally) 0) number) (counted (s .tally) 0) refl
+    either-tally (isUnknown k) (unknownNotify (counted (s .tally) 0) k number) (counted (s .tally) 0) refl
 
 -- A payload counts for one at most in each count.
-pub one-more : (b : Bool) (x : ℕ) → cond b (x + 1) x ≤ x + 1
-one-more true x = omega arith
-one-more false x = omega arith
-
 notify-more : (s : Seen) (k : NotifyKind) (number place len n m : ℕ) → Counted n s → n + 1 ≤ m
     → Counted m (noted (withTally s (counted (s .tally) 0)) k number place len)
 unfolding noted
@@ -41,7 +37,10 @@ notify-more s NoAdditionalAddresses number place len n m c h = omega arith
 notify-more s UpdateSaAddresses number place len n m c h = omega arith
 notify-more s Cookie2 number place len n m c h = omega arith
 notify-more s NoNatsAllowed number place len n m c h = omega arith
-notify-more s Unknown number place len n m c h = omega (arith, one-more (ltb number 16384) (s .tally .errors))
+notify-more s UnacceptableAddresses number place len n m c h = omega arith
+notify-more s UnexpectedNatDetected number place len n m c h = omega arith
+notify-more s OtherError number place len n m c h = omega arith
+notify-more s OtherStatus number place len n m c h = omega arith
 
 pub counted-more : (s : Seen) (content : Content) (place n m : ℕ) → Counted n s → n + 1 ≤ m → Counted m (contentNoted s content place)
 unfolding contentNoted

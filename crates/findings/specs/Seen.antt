@@ -2,9 +2,10 @@
 use Prim.Native.Nat.{ℕ, _+_, _≤_}
 use mathlib.Core.Bool.{Bool, true, false, cond, _&&_, _||_, not}
 use lib.ListN.{set, replicate}
-use lib.Dec.{eqb, ltb}
+use lib.Dec.{eqb}
+use Rattle.payload.specs.Notify.{isUnknown, isError}
 use Rattle.payload.specs.declared.notify.NotifyKind.{NotifyKind}
-use Rattle.payload.specs.declared.notify.NotifyKind.the-variants.{NatDetectionSource, NatDetectionDestination, MobikeSupported, AdditionalIp4, AdditionalIp6, NoAdditionalAddresses, UpdateSaAddresses, Cookie2, NoNatsAllowed, Unknown}
+use Rattle.payload.specs.declared.notify.NotifyKind.the-variants.{NatDetectionSource, NatDetectionDestination, MobikeSupported, AdditionalIp4, AdditionalIp6, NoAdditionalAddresses, UpdateSaAddresses, Cookie2, NoNatsAllowed, UnacceptableAddresses, UnexpectedNatDetected, OtherError, OtherStatus}
 use Rattle.payload.specs.declared.payload.Content.{Content}
 use Rattle.payload.specs.declared.payload.Content.the-variants.{Skipped, Unknown as UnknownPayload, Notify}
 use Rattle.findings.specs.declared.seen.Tally.{Tally}
@@ -43,16 +44,16 @@ counted t unknown =
       «first_error» = t .«first_error»;
     }
 
--- 01: "Every other notify type is tallied as unknown, whatever its SPI or data." Those below 16384 are the errors that
--- the initiator's end looks for ("the first error, ... any other type below 16384").
-abbrev pub unknownNotify : Tally → ℕ → Tally
-unknownNotify t number =
+-- 01: "Every other notify type is tallied as unknown, whatever its SPI or data." The errors among them are what the initiator's end
+-- looks for ("the first error").
+abbrev pub unknownNotify : Tally → NotifyKind → ℕ → Tally
+unknownNotify t k number =
     record {
       payloads = t .payloads;
       «unknown_payloads» = t .«unknown_payloads»;
       «unknown_notifies» = t .«unknown_notifies» + 1;
-      errors = cond (ltb number 16384) (t .errors + 1) (t .errors);
-      «first_error» = cond (ltb number 16384 && eqb (t .errors) 0) number (t .«first_error»);
+      errors = cond (isError k) (t .errors + 1) (t .errors);
+      «first_error» = cond (isError k && eqb (t .errors) 0) number (t .«first_error»);
     }
 
 -- 01: "The first 16 are kept"; all are counted. Both lists have 16 places, past which `set` changes nothing.
@@ -71,7 +72,10 @@ ordinal NoAdditionalAddresses = 5
 ordinal UpdateSaAddresses = 6
 ordinal Cookie2 = 7
 ordinal NoNatsAllowed = 8
-ordinal Unknown = 9
+ordinal UnacceptableAddresses = 9
+ordinal UnexpectedNatDetected = 10
+ordinal OtherError = 11
+ordinal OtherStatus = 12
 
 abbrev pub is : NotifyKind → NotifyKind → Bool
 is a b = eqb (ordinal a) (ordinal b)
@@ -86,7 +90,7 @@ notifyListed l k place =
 unfoldable pub noted : Seen → NotifyKind → ℕ → ℕ → ℕ → Seen
 noted s k number place len =
     record {
-      tally = cond (is k Unknown) (unknownNotify (s .tally) number) (s .tally);
+      tally = cond (isUnknown k) (unknownNotify (s .tally) k number) (s .tally);
       update = cond (is k UpdateSaAddresses) true (s .update);
       «no_additional» = cond (is k NoAdditionalAddresses) true (s .«no_additional»);
       «nat_source» = cond (is k NatDetectionSource && eqb (s .«nat_source») 0) place (s .«nat_source»);
@@ -152,7 +156,10 @@ repeats s NoAdditionalAddresses = s .«no_additional» || not (eqb (s .list .cou
 repeats s UpdateSaAddresses = s .update
 repeats s Cookie2 = not (eqb (s .cookie) 0)
 repeats s NoNatsAllowed = not (eqb (s .«no_nats») 0)
-repeats s Unknown = false
+repeats s UnacceptableAddresses = false
+repeats s UnexpectedNatDetected = false
+repeats s OtherError = false
+repeats s OtherStatus = false
 
 abbrev pub conflicts : Seen → Content → Bool
 conflicts s Skipped = false

@@ -12,7 +12,7 @@ pub struct Tally {
     pub unknown_payloads: u16,
     // Notifications of a type that is not in the table.
     pub unknown_notifies: u16,
-    // Those of them below 16384, which are errors, and the first such type.
+    // Those of them that are errors, and the type of the first.
     pub errors: u16,
     pub first_error: u16,
 }
@@ -80,14 +80,14 @@ pub fn one_counted(t: Tally, unknown: u16) -> Tally
     n
 }
 
-// One notification more of a type that is not known.
-pub fn unknown_notified(t: Tally, number: u16) -> Tally
+// One notification more of a kind that is tallied as unknown.
+pub fn unknown_notified(t: Tally, kind: NotifyKind, number: u16) -> Tally
     requires { ⌜ (t .«unknown_notifies» < 65535) × (t .errors < 65535) ⌝ }
-    ensures { λ r. ⌜ r ≡ unknownNotify t number ⌝ }
+    ensures { λ r. ⌜ r ≡ unknownNotify t kind number ⌝ }
 {
     let mut n = t;
     n.unknown_notifies = t.unknown_notifies + 1;
-    if number < 16384 {
+    if kind.is_error() {
         n.errors = t.errors + 1;
         if t.errors == 0 {
             n.first_error = number;
@@ -143,9 +143,9 @@ pub fn notify_noted(seen: Seen, kind: NotifyKind, number: u16, place: u16, len: 
             s.no_nats = place;
             s.no_nats_len = len;
         }
-        NotifyKind::Unknown => {
+        _ => {
             let t = seen.tally;
-            let more = unknown_notified(t, number);
+            let more = unknown_notified(t, kind, number);
             s.tally = more;
         }
     }
@@ -219,7 +219,10 @@ pub fn repeated(seen: Seen, kind: NotifyKind) -> bool
         NotifyKind::UpdateSaAddresses => seen.update,
         NotifyKind::Cookie2 => seen.cookie != 0,
         NotifyKind::NoNatsAllowed => seen.no_nats != 0,
-        NotifyKind::Unknown => false,
+        NotifyKind::UnacceptableAddresses => false,
+        NotifyKind::UnexpectedNatDetected => false,
+        NotifyKind::OtherError => false,
+        NotifyKind::OtherStatus => false,
     }
 }
 

@@ -5,6 +5,10 @@ use mathlib.Core.Bool.{Bool, cond, _&&_, not}
 use lib.Dec.{eqb}
 use lib.ListN.{length}
 use Rattle.octets.specs.Lists.{sameOctets}
+use Rattle.payload.specs.Notify.{kindOf}
+use Rattle.payload.specs.declared.notify.NotifyKind.{NotifyKind}
+use Rattle.payload.specs.declared.notify.NotifyKind.the-variants.{UnacceptableAddresses, UnexpectedNatDetected}
+use Rattle.findings.specs.Seen.{is}
 use Rattle.values.specs.Values.{partOf}
 use Rattle.findings.specs.declared.seen.Tally.{Tally}
 use Rattle.reader.specs.Chain.{reading}
@@ -22,8 +26,11 @@ unfoldable pub closes : List ℕ → List ℕ → ℕ → Bool
 closes sent got errors = not (eqb (length sent) 0) && cond (eqb (length got) 0) (eqb errors 0) (not (same sent got))
 
 -- 01: "told as NAT seen (41), unacceptable (40) or failed (any other type below 16384)".
+abbrev pub toldAs : NotifyKind → ℕ
+toldAs k = cond (is k UnexpectedNatDetected) 2 (cond (is k UnacceptableAddresses) 3 4)
+
 unfoldable pub errorOutcome : ℕ → ℕ
-errorOutcome number = cond (eqb number 41) 2 (cond (eqb number 40) 3 4)
+errorOutcome number = toldAs (kindOf number)
 
 -- 01: "close ...; else the first error ...; else accepted": 1 close, 2 NAT seen, 3 unacceptable, 4 failed, 5 accepted.
 unfoldable pub outcomeOf : List ℕ → List ℕ → Tally → ℕ

@@ -1,6 +1,8 @@
 // The responder's answer to a request of ours: accepted, refused, or so wrong that the IKE SA is to be closed.
 use asking::fits::cookie_fits;
 use findings::seen::Tally;
+use payload::notify::NotifyKind;
+use payload::notify::NotifyType;
 use reader::read::read;
 use values::cookie;
 ghost use mathlib.Core.Path.{_≡_};
@@ -69,10 +71,12 @@ pub fn must_close(sent: &[u8], got: &[u8], errors: u16) -> bool
 pub fn error_outcome(number: u16) -> u8
     ensures { λ r. ⌜ r ≡ errorOutcome number ⌝ }
 {
-    if number == 41 {
-        return NAT_SEEN;
+    let kind = NotifyType { number }.kind();
+    match kind {
+        NotifyKind::UnexpectedNatDetected => NAT_SEEN,
+        NotifyKind::UnacceptableAddresses => UNACCEPTABLE,
+        _ => FAILED,
     }
-    if number == 40 { UNACCEPTABLE } else { FAILED }
 }
 
 pub fn outcome_of(sent: &[u8], got: &[u8], t: Tally) -> u8

@@ -1,11 +1,12 @@
 -- Notify types: their numbers, kinds and data sizes, the table of 01 ("The payload chain").
 use Prim.Native.Nat.{ℕ}
 use mathlib.Core.Bool.{Bool, true, false, cond, _&&_, _||_}
-use lib.Dec.{eqb, leb}
+use lib.Dec.{eqb, leb, ltb}
 use Rattle.payload.specs.declared.notify.NotifyKind.{NotifyKind}
-use Rattle.payload.specs.declared.notify.NotifyKind.the-variants.{NatDetectionSource, NatDetectionDestination, MobikeSupported, AdditionalIp4, AdditionalIp6, NoAdditionalAddresses, UpdateSaAddresses, Cookie2, NoNatsAllowed, Unknown}
+use Rattle.payload.specs.declared.notify.NotifyKind.the-variants.{NatDetectionSource, NatDetectionDestination, MobikeSupported, AdditionalIp4, AdditionalIp6, NoAdditionalAddresses, UpdateSaAddresses, Cookie2, NoNatsAllowed, UnacceptableAddresses, UnexpectedNatDetected, OtherError, OtherStatus}
 
--- 01: "The numbers belong to the notify type as its named constants. Every other notify type is tallied as unknown".
+-- 01: "The numbers belong to the notify type as its named constants." The table's, then those that the initiator's end tells apart:
+-- "the first error, told as NAT seen (41), unacceptable (40) or failed (any other type below 16384)".
 unfoldable pub kindOf : ℕ → NotifyKind
 kindOf n =
     cond (eqb n 16388) NatDetectionSource
@@ -17,7 +18,10 @@ kindOf n =
     (cond (eqb n 16400) UpdateSaAddresses
     (cond (eqb n 16401) Cookie2
     (cond (eqb n 16402) NoNatsAllowed
-    Unknown))))))))
+    (cond (eqb n 40) UnacceptableAddresses
+    (cond (eqb n 41) UnexpectedNatDetected
+    (cond (ltb n 16384) OtherError
+    OtherStatus)))))))))))
 
 -- 01's column "Data octets"; unknown types are taken "whatever [their] SPI or data".
 abbrev pub dataFits : NotifyKind → ℕ → Bool
@@ -30,8 +34,28 @@ dataFits NoAdditionalAddresses n = eqb n 0
 dataFits UpdateSaAddresses n = eqb n 0
 dataFits Cookie2 n = leb 8 n && leb n 64
 dataFits NoNatsAllowed n = eqb n 12 || eqb n 36
-dataFits Unknown n = true
+dataFits UnacceptableAddresses n = true
+dataFits UnexpectedNatDetected n = true
+dataFits OtherError n = true
+dataFits OtherStatus n = true
 
+-- An error: a type below 16384.
+abbrev pub isError : NotifyKind → Bool
+isError NatDetectionSource = false
+isError NatDetectionDestination = false
+isError MobikeSupported = false
+isError AdditionalIp4 = false
+isError AdditionalIp6 = false
+isError NoAdditionalAddresses = false
+isError UpdateSaAddresses = false
+isError Cookie2 = false
+isError NoNatsAllowed = false
+isError UnacceptableAddresses = true
+isError UnexpectedNatDetected = true
+isError OtherError = true
+isError OtherStatus = false
+
+-- 01: "Every other notify type is tallied as unknown, whatever its SPI or data."
 abbrev pub isUnknown : NotifyKind → Bool
 isUnknown NatDetectionSource = false
 isUnknown NatDetectionDestination = false
@@ -42,4 +66,7 @@ isUnknown NoAdditionalAddresses = false
 isUnknown UpdateSaAddresses = false
 isUnknown Cookie2 = false
 isUnknown NoNatsAllowed = false
-isUnknown Unknown = true
+isUnknown UnacceptableAddresses = true
+isUnknown UnexpectedNatDetected = true
+isUnknown OtherError = true
+isUnknown OtherStatus = true

@@ -1,14 +1,15 @@
 // Notify types: their numbers, which of them this gateway knows, and the data that each may carry.
 ghost use mathlib.Core.Path.{_≡_};
 ghost use lib.ListN.{length};
-ghost use Rattle.payload.specs.Notify.{kindOf, dataFits};
+ghost use Rattle.payload.specs.Notify.{kindOf, dataFits, isUnknown, isError};
 
 // A notify type as it stands in a Notify payload.
 pub struct NotifyType {
     pub number: u16,
 }
 
-// What a notify type means to this gateway.
+// What a notify type means to this gateway. The last four are not in the table of types that it reads, so they are tallied as
+// unknown; the first three of them are errors.
 pub enum NotifyKind {
     NatDetectionSource,
     NatDetectionDestination,
@@ -19,10 +20,24 @@ pub enum NotifyKind {
     UpdateSaAddresses,
     Cookie2,
     NoNatsAllowed,
-    Unknown,
+    UnacceptableAddresses,
+    UnexpectedNatDetected,
+    OtherError,
+    OtherStatus,
 }
 
 impl NotifyType {
+    pub const UNSUPPORTED_CRITICAL_PAYLOAD: u16 = 1;
+
+    pub const INVALID_SYNTAX: u16 = 7;
+
+    pub const UNACCEPTABLE_ADDRESSES: u16 = 40;
+
+    pub const UNEXPECTED_NAT_DETECTED: u16 = 41;
+
+    // The types below this one are errors, the others give a status.
+    pub const FIRST_STATUS: u16 = 16384;
+
     pub const NAT_DETECTION_SOURCE_IP: u16 = 16388;
 
     pub const NAT_DETECTION_DESTINATION_IP: u16 = 16389;
@@ -41,7 +56,7 @@ impl NotifyType {
 
     pub const NO_NATS_ALLOWED: u16 = 16402;
 
-    // The one classification that reader, writer and response check share.
+    // The one classification that reader, responder and the assessment of responses share.
     pub fn kind(self) -> NotifyKind
         ensures { λ r. ⌜ r ≡ kindOf (self .number) ⌝ }
     {
@@ -56,7 +71,59 @@ impl NotifyType {
             NotifyType::UPDATE_SA_ADDRESSES => NotifyKind::UpdateSaAddresses,
             NotifyType::COOKIE2 => NotifyKind::Cookie2,
             NotifyType::NO_NATS_ALLOWED => NotifyKind::NoNatsAllowed,
-            _ => NotifyKind::Unknown,
+            NotifyType::UNACCEPTABLE_ADDRESSES => NotifyKind::UnacceptableAddresses,
+            NotifyType::UNEXPECTED_NAT_DETECTED => NotifyKind::UnexpectedNatDetected,
+            _ => {
+                if n < NotifyType::FIRST_STATUS {
+                    NotifyKind::OtherError
+                } else {
+                    NotifyKind::OtherStatus
+                }
+            }
+        }
+    }
+}
+
+impl NotifyKind {
+    // Whether a notification of this kind is an error.
+    pub fn is_error(self) -> bool
+        ensures { λ r. ⌜ r ≡ isError self ⌝ }
+    {
+        match self {
+            NotifyKind::NatDetectionSource => false,
+            NotifyKind::NatDetectionDestination => false,
+            NotifyKind::MobikeSupported => false,
+            NotifyKind::AdditionalIp4 => false,
+            NotifyKind::AdditionalIp6 => false,
+            NotifyKind::NoAdditionalAddresses => false,
+            NotifyKind::UpdateSaAddresses => false,
+            NotifyKind::Cookie2 => false,
+            NotifyKind::NoNatsAllowed => false,
+            NotifyKind::UnacceptableAddresses => true,
+            NotifyKind::UnexpectedNatDetected => true,
+            NotifyKind::OtherError => true,
+            NotifyKind::OtherStatus => false,
+        }
+    }
+
+    // Whether a notification of this kind is tallied as unknown: errors, and every other type that is not in the table.
+    pub fn is_unknown(self) -> bool
+        ensures { λ r. ⌜ r ≡ isUnknown self ⌝ }
+    {
+        match self {
+            NotifyKind::NatDetectionSource => false,
+            NotifyKind::NatDetectionDestination => false,
+            NotifyKind::MobikeSupported => false,
+            NotifyKind::AdditionalIp4 => false,
+            NotifyKind::AdditionalIp6 => false,
+            NotifyKind::NoAdditionalAddresses => false,
+            NotifyKind::UpdateSaAddresses => false,
+            NotifyKind::Cookie2 => false,
+            NotifyKind::NoNatsAllowed => false,
+            NotifyKind::UnacceptableAddresses => true,
+            NotifyKind::UnexpectedNatDetected => true,
+            NotifyKind::OtherError => true,
+            NotifyKind::OtherStatus => true,
         }
     }
 }
@@ -76,6 +143,9 @@ pub fn data_fits(kind: NotifyKind, data: &[u8]) -> bool
         NotifyKind::UpdateSaAddresses => n == 0,
         NotifyKind::Cookie2 => 8 <= n && n <= 64,
         NotifyKind::NoNatsAllowed => n == 12 || n == 36,
-        NotifyKind::Unknown => true,
+        NotifyKind::UnacceptableAddresses => true,
+        NotifyKind::UnexpectedNatDetected => true,
+        NotifyKind::OtherError => true,
+        NotifyKind::OtherStatus => true,
     }
 }

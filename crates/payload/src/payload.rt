@@ -8,6 +8,16 @@ ghost use Prim.Native.Nat.{_+_, _≤_};
 ghost use lib.ListN.{length};
 ghost use Rattle.payload.specs.Payload.{spiFits, notifyAt, payloadAt};
 
+// The type of a Notify payload, and the first and last of the types that are known.
+pub const NOTIFY: u8 = 41;
+
+pub const FIRST_KNOWN: u8 = 33;
+
+pub const LAST_KNOWN: u8 = 48;
+
+// The bit of the flags that says critical.
+pub const CRITICAL: u8 = 128;
+
 // What can be wrong with a chain.
 pub enum Fault {
     // Fewer octets left than a header has, or a length under 4 or past the end.
@@ -47,10 +57,7 @@ pub fn spi_fits(kind: NotifyKind, spi: u16) -> bool
     if spi == 0 {
         return true;
     }
-    match kind {
-        NotifyKind::Unknown => true,
-        _ => false,
-    }
+    kind.is_unknown()
 }
 
 // The Notify at `at`, of `size` octets. Its data, which starts in the middle of the body, is passed on as a part.
@@ -96,15 +103,15 @@ pub fn payload_at(first: u8, body: &[u8], at: usize) -> Found
     if left < size as usize {
         return Found::Faulty(Fault::ChainLength);
     }
-    if first == 41 {
+    if first == NOTIFY {
         return notify_at(body, at, size);
     }
-    if 33 <= first {
-        if first <= 48 {
+    if FIRST_KNOWN <= first {
+        if first <= LAST_KNOWN {
             return Found::Payload(size, Content::Skipped);
         }
     }
-    if 128 <= body[at + 1] {
+    if CRITICAL <= body[at + 1] {
         Found::Faulty(Fault::Critical(first))
     } else {
         Found::Payload(size, Content::Unknown)

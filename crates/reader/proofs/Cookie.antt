@@ -9,7 +9,7 @@ use lib.Dec.{leb}
 use Rattle.octets.proofs.Small.{both}
 use Rattle.payload.specs.Notify.{dataFits}
 use Rattle.payload.specs.declared.notify.NotifyKind.{NotifyKind}
-use Rattle.payload.specs.declared.notify.NotifyKind.the-variants.{NatDetectionSource, NatDetectionDestination, MobikeSupported, AdditionalIp4, AdditionalIp6, NoAdditionalAddresses, UpdateSaAddresses, Cookie2, NoNatsAllowed, Unknown}
+use Rattle.payload.specs.declared.notify.NotifyKind.the-variants.{NatDetectionSource, NatDetectionDestination, MobikeSupported, AdditionalIp4, AdditionalIp6, NoAdditionalAddresses, UpdateSaAddresses, Cookie2, NoNatsAllowed, UnacceptableAddresses, UnexpectedNatDetected, OtherError, OtherStatus}
 use Rattle.payload.specs.declared.payload.Content.{Content}
 use Rattle.payload.specs.declared.payload.Content.the-variants.{Skipped, Unknown as UnknownPayload, Notify}
 use Rattle.findings.specs.Seen.{noted, contentNoted}
@@ -32,7 +32,10 @@ noted-short s NoAdditionalAddresses number place len h f = h
 noted-short s UpdateSaAddresses number place len h f = h
 noted-short s Cookie2 number place len h f = leb-true len 64 (both (leb 8 len) (leb len 64) f .1)
 noted-short s NoNatsAllowed number place len h f = h
-noted-short s Unknown number place len h f = h
+noted-short s UnacceptableAddresses number place len h f = h
+noted-short s UnexpectedNatDetected number place len h f = h
+noted-short s OtherError number place len h f = h
+noted-short s OtherStatus number place len h f = h
 
 content-short : (s : Seen) (content : Content) (place : ℕ) → Short s → DataFits content → Short (contentNoted s content place)
 unfolding contentNoted

@@ -2,14 +2,12 @@
 use Prim.Native.Nat.{ℕ, _≤_}
 use mathlib.Core.List.{List}
 use native.Mathlib.Omega.{arith}
-use lib.Dec.{ltb}
 use Rattle.payload.specs.declared.notify.NotifyKind.{NotifyKind}
-use Rattle.payload.specs.declared.notify.NotifyKind.the-variants.{NatDetectionSource, NatDetectionDestination, MobikeSupported, AdditionalIp4, AdditionalIp6, NoAdditionalAddresses, UpdateSaAddresses, Cookie2, NoNatsAllowed, Unknown}
+use Rattle.payload.specs.declared.notify.NotifyKind.the-variants.{NatDetectionSource, NatDetectionDestination, MobikeSupported, AdditionalIp4, AdditionalIp6, NoAdditionalAddresses, UpdateSaAddresses, Cookie2, NoNatsAllowed, UnacceptableAddresses, UnexpectedNatDetected, OtherError, OtherStatus}
 use Rattle.payload.specs.declared.payload.Content.{Content}
 use Rattle.payload.specs.declared.payload.Content.the-variants.{Skipped, Unknown as UnknownPayload, Notify}
 use Rattle.findings.specs.Seen.{noted, contentNoted}
 use Rattle.findings.specs.declared.seen.Seen.{Seen}
-use Rattle.findings.proofs.Counts.{one-more}
 use Rattle.reader.specs.Chain.{reading}
 use Rattle.reader.proofs.Chain.{DataFits}
 use Rattle.reader.proofs.Kept.{kept}
@@ -28,7 +26,10 @@ noted-among s NoAdditionalAddresses number place len h = h
 noted-among s UpdateSaAddresses number place len h = h
 noted-among s Cookie2 number place len h = h
 noted-among s NoNatsAllowed number place len h = h
-noted-among s Unknown number place len h = omega (arith, one-more (ltb number 16384) (s .tally .errors))
+noted-among s UnacceptableAddresses number place len h = omega arith
+noted-among s UnexpectedNatDetected number place len h = omega arith
+noted-among s OtherError number place len h = omega arith
+noted-among s OtherStatus number place len h = omega arith
 
 content-among : (s : Seen) (content : Content) (place : ℕ) → Among s → DataFits content → Among (contentNoted s content place)
 unfolding contentNoted

@@ -9,6 +9,7 @@ use deciding::decide::verdict_number;
 use findings::seen::Places;
 use findings::seen::Seen;
 use findings::seen::nothing_seen;
+use payload::notify::NotifyType;
 use policy::rules::Policy;
 use reader::read::Reading;
 use reader::read::read;
@@ -89,10 +90,10 @@ pub fn refuse_chain(r: Reading, out: &mut [u8]) -> Reply
     let none = [0u8; 0];
     let told = [r.critical];
     if r.number == 7 {
-        let n = put_error(out, 1, &told, &none);
+        let n = put_error(out, NotifyType::UNSUPPORTED_CRITICAL_PAYLOAD, &told, &none);
         return refusal(r.number, r.offset, n as u16);
     }
-    let n = put_error(out, 7, &none, &none);
+    let n = put_error(out, NotifyType::INVALID_SYNTAX, &none, &none);
     refusal(r.number, r.offset, n as u16)
 }
 
@@ -121,8 +122,8 @@ pub fn respond_decided(
     let none = [0u8; 0];
     match verdict {
         Verdict::Accepted => put_done(out, wanted, source, destination, cookie),
-        Verdict::Altered => put_error(out, 41, &none, cookie),
-        Verdict::Unacceptable => put_error(out, 40, &none, cookie),
+        Verdict::Altered => put_error(out, NotifyType::UNEXPECTED_NAT_DETECTED, &none, cookie),
+        Verdict::Unacceptable => put_error(out, NotifyType::UNACCEPTABLE_ADDRESSES, &none, cookie),
     }
 }
 

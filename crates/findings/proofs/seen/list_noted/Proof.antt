@@ -7,7 +7,7 @@ use mathlib.Core.List.{[], _∷_}
 use denote.Enum.Declared.{tagOf}
 use types.Run.{OneOf, miss}
 use Rattle.payload.specs.declared.notify.NotifyKind.{NotifyKind}
-use Rattle.payload.specs.declared.notify.NotifyKind.the-variants.{NatDetectionSource, NatDetectionDestination, MobikeSupported, AdditionalIp4, AdditionalIp6, NoAdditionalAddresses, UpdateSaAddresses, Cookie2, NoNatsAllowed, Unknown}
+use Rattle.payload.specs.declared.notify.NotifyKind.the-variants.{NatDetectionSource, NatDetectionDestination, MobikeSupported, AdditionalIp4, AdditionalIp6, NoAdditionalAddresses, UpdateSaAddresses, Cookie2, NoNatsAllowed, UnacceptableAddresses, UnexpectedNatDetected, OtherError, OtherStatus}
 use Rattle.payload.proofs.notify.NotifyKind as kind
 use Rattle.findings.specs.Seen.{notifyListed}
 use Rattle.findings.specs.declared.seen.Places.{Places}
@@ -15,17 +15,20 @@ use Rattle.findings.proofs.seen.list_noted.Statement.{statement}
 use Rattle.findings.proofs.seen.list_noted.Tie as tie
 
 -- a kind with another tag than the two of addresses adds none
-others : (k : NotifyKind) (l : Places) (place : ℕ) → OneOf (0 ∷ 1 ∷ 2 ∷ 5 ∷ 6 ∷ 7 ∷ 8 ∷ 9 ∷ []) (tagOf kind.the-type k) → notifyListed l k place ≡ l
+others : (k : NotifyKind) (l : Places) (place : ℕ) → OneOf (0 ∷ 1 ∷ 2 ∷ 5 ∷ 6 ∷ 7 ∷ 8 ∷ 9 ∷ 10 ∷ 11 ∷ 12 ∷ []) (tagOf kind.the-type k) → notifyListed l k place ≡ l
 others NatDetectionSource l place h = refl
 others NatDetectionDestination l place h = refl
 others MobikeSupported l place h = refl
-others AdditionalIp4 l place h = absurd (miss (0 ∷ 1 ∷ 2 ∷ 5 ∷ 6 ∷ 7 ∷ 8 ∷ 9 ∷ []) 3 tt h)
-others AdditionalIp6 l place h = absurd (miss (0 ∷ 1 ∷ 2 ∷ 5 ∷ 6 ∷ 7 ∷ 8 ∷ 9 ∷ []) 4 tt h)
+others AdditionalIp4 l place h = absurd (miss (0 ∷ 1 ∷ 2 ∷ 5 ∷ 6 ∷ 7 ∷ 8 ∷ 9 ∷ 10 ∷ 11 ∷ 12 ∷ []) 3 tt h)
+others AdditionalIp6 l place h = absurd (miss (0 ∷ 1 ∷ 2 ∷ 5 ∷ 6 ∷ 7 ∷ 8 ∷ 9 ∷ 10 ∷ 11 ∷ 12 ∷ []) 4 tt h)
 others NoAdditionalAddresses l place h = refl
 others UpdateSaAddresses l place h = refl
 others Cookie2 l place h = refl
 others NoNatsAllowed l place h = refl
-others Unknown l place h = refl
+others UnacceptableAddresses l place h = refl
+others UnexpectedNatDetected l place h = refl
+others OtherError l place h = refl
+others OtherStatus l place h = refl
 
 pub list-noted-spec : {M : Type 1} → statement M
 list-noted-spec =

@@ -1,15 +1,41 @@
--- `initiator::response::error_outcome` meets its contract.
+-- `initiator::response::error_outcome` meets its contract: the kind that was read picks the case.
 -- Assumes nothing.
-use borrow.Author.Tests.{eq-eqb, ne-eqb}
-use Rattle.initiator.specs.Response.{errorOutcome}
+use borrow.Author.Needs.{needs}
+use mathlib.Core.Path.{_≡_, refl, sym, _∙_}
+use mathlib.Core.List.{[], _∷_}
+use denote.Enum.Declared.{tagOf}
+use types.Run.{OneOf, miss}
+use Rattle.payload.specs.declared.notify.NotifyKind.{NotifyKind}
+use Rattle.payload.specs.declared.notify.NotifyKind.the-variants.{NatDetectionSource, NatDetectionDestination, MobikeSupported, AdditionalIp4, AdditionalIp6, NoAdditionalAddresses, UpdateSaAddresses, Cookie2, NoNatsAllowed, UnacceptableAddresses, UnexpectedNatDetected, OtherError, OtherStatus}
+use Rattle.payload.proofs.notify.NotifyKind as kind
+use Rattle.initiator.specs.Response.{toldAs, errorOutcome}
 use Rattle.initiator.proofs.response.error_outcome.Statement.{statement}
 use Rattle.initiator.proofs.response.error_outcome.Tie as tie
+
+-- a kind with another tag than the two of errors told by name
+others : (k : NotifyKind) → OneOf (0 ∷ 1 ∷ 2 ∷ 3 ∷ 4 ∷ 5 ∷ 6 ∷ 7 ∷ 8 ∷ 11 ∷ 12 ∷ []) (tagOf kind.the-type k) → 4 ≡ toldAs k
+others NatDetectionSource h = refl
+others NatDetectionDestination h = refl
+others MobikeSupported h = refl
+others AdditionalIp4 h = refl
+others AdditionalIp6 h = refl
+others NoAdditionalAddresses h = refl
+others UpdateSaAddresses h = refl
+others Cookie2 h = refl
+others NoNatsAllowed h = refl
+others UnacceptableAddresses h = absurd (miss (0 ∷ 1 ∷ 2 ∷ 3 ∷ 4 ∷ 5 ∷ 6 ∷ 7 ∷ 8 ∷ 11 ∷ 12 ∷ []) 9 tt h)
+others UnexpectedNatDetected h = absurd (miss (0 ∷ 1 ∷ 2 ∷ 3 ∷ 4 ∷ 5 ∷ 6 ∷ 7 ∷ 8 ∷ 11 ∷ 12 ∷ []) 10 tt h)
+others OtherError h = refl
+others OtherStatus h = refl
 
 pub error-outcome-spec : {M : Type 1} → statement M
 unfolding errorOutcome
 error-outcome-spec =
     tie.close
     (tie.spec
-    (λ c. rw (eq-eqb _ _ (c .if1 .taken)))
-    (λ c. rw (ne-eqb _ _ (c .before .if1 .left), eq-eqb _ _ (c .if2 .taken)))
-    (λ c. rw (ne-eqb _ _ (c .before .if1 .left), ne-eqb _ _ (c .if2 .left))))
+    (λ c κs. search needs)
+    (λ c. search needs)
+    (λ c. search needs)
+    (λ c. rw (← c .before .before .kind .ensures, c .enum-told .given .1))
+    (λ c. rw (← c .before .before .kind .ensures, c .enum-told2 .given .1))
+    (λ c. rw (← c .before .kind .ensures) (others (c .before .kind .result) (c .match .keys3))))

@@ -1,10 +1,33 @@
--- `payload::notify::NotifyType::kind` meets its contract: an arm's number picks its case of `kindOf`, and the last
--- arm's number is none of them.
+-- `payload::notify::NotifyType::kind` meets its contract: an arm's number picks its case of `kindOf`, and a
+-- number of the last arm is none of them.
 -- Assumes nothing.
-use borrow.Author.Tests.{ne-eqb}
+use borrow.Author.Tests.{ne-eqb, lt-ltb, le-ltb}
+use mathlib.Core.Path.{_≡_}
+use mathlib.Core.Bool.{cond}
+use lib.Dec.{ltb}
 use Rattle.payload.specs.Notify.{kindOf}
+use Rattle.payload.specs.declared.notify.NotifyKind.the-variants.{OtherError, OtherStatus}
 use Rattle.payload.proofs.notify.NotifyType.kind.Statement.{statement}
 use Rattle.payload.proofs.notify.NotifyType.kind.Tie as tie
+
+-- a number that is no constant's is told by the bound alone
+others : (c : tie.At-match-rest) → kindOf (c .before .args .self .number) ≡ cond (ltb (c .before .args .self .number) 16384) OtherError OtherStatus
+unfolding kindOf
+others c =
+    let r = c .match .rest in
+    rw (
+      ne-eqb _ _ (r .0 .0 .0 .0 .0 .0 .0 .0 .0 .0 .1),
+      ne-eqb _ _ (r .0 .0 .0 .0 .0 .0 .0 .0 .0 .1),
+      ne-eqb _ _ (r .0 .0 .0 .0 .0 .0 .0 .0 .1),
+      ne-eqb _ _ (r .0 .0 .0 .0 .0 .0 .0 .1),
+      ne-eqb _ _ (r .0 .0 .0 .0 .0 .0 .1),
+      ne-eqb _ _ (r .0 .0 .0 .0 .0 .1),
+      ne-eqb _ _ (r .0 .0 .0 .0 .1),
+      ne-eqb _ _ (r .0 .0 .0 .1),
+      ne-eqb _ _ (r .0 .0 .1),
+      ne-eqb _ _ (r .0 .1),
+      ne-eqb _ _ (r .1),
+    )
 
 pub kind-spec : {M : Type 1} → statement M
 unfolding kindOf
@@ -20,15 +43,7 @@ kind-spec =
     (λ c. rw (c .match .keys7))
     (λ c. rw (c .match .keys8))
     (λ c. rw (c .match .keys9))
-    (λ c.
-    rw (
-      ne-eqb _ _ (c .match .rest .0 .0 .0 .0 .0 .0 .0 .0 .1),
-      ne-eqb _ _ (c .match .rest .0 .0 .0 .0 .0 .0 .0 .1),
-      ne-eqb _ _ (c .match .rest .0 .0 .0 .0 .0 .0 .1),
-      ne-eqb _ _ (c .match .rest .0 .0 .0 .0 .0 .1),
-      ne-eqb _ _ (c .match .rest .0 .0 .0 .0 .1),
-      ne-eqb _ _ (c .match .rest .0 .0 .0 .1),
-      ne-eqb _ _ (c .match .rest .0 .0 .1),
-      ne-eqb _ _ (c .match .rest .0 .1),
-      ne-eqb _ _ (c .match .rest .1),
-    )))
+    (λ c. rw (c .match .keys10))
+    (λ c. rw (c .match .keys11))
+    (λ c. rw (others (c .before), lt-ltb _ _ (c .if1 .taken)))
+    (λ c. rw (others (c .before), le-ltb _ _ (c .if1 .left))))
