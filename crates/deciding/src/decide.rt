@@ -185,17 +185,17 @@ pub fn decide_update(verdict: Verdict, seen: Seen, id: u32, marks: Marks) -> Dec
 {
     if seen.update {
         if marks.update_mark <= id as u64 {
-            let mut new = marks;
-            new.update_mark = id as u64 + 1;
+            let mut received = marks;
+            received.update_mark = id as u64 + 1;
             if is_accepted(verdict) {
-                return decide_list(seen, id, Effect::Done, new);
+                return decide_list(seen, id, Effect::Done, received);
             }
             return Decision {
                 verdict,
                 update: Effect::None,
                 list: Effect::None,
                 left_off: 0,
-                marks: new,
+                marks: received,
             };
         }
         return decide_list(seen, id, Effect::Stale, marks);

@@ -13,11 +13,9 @@ use responder::handle::answer;
 use tables::ike::IkeRecord;
 use tables::ike::marks_of;
 use tables::ipsec::IpsecRecord;
-ghost use mathlib.Core.Path.{_≡_};
 ghost use lib.ListN.{length};
-ghost use Rattle.writing.specs.Notify.{placed};
 ghost use Rattle.responder.specs.Core.{asked};
-ghost use Rattle.responder.specs.Handle.{request, handled, handledResponse};
+ghost use Rattle.responder.specs.Handle.{request, HandledAs};
 
 // Handles one INFORMATIONAL request of a peer that is the original initiator: the response goes to the start of `out`, and what is past it stays as it was.
 #[no_mangle]
@@ -34,10 +32,7 @@ pub extern "C" fn unmavreth_request(
     body: &[u8],
     out: &mut [u8],
 ) -> Reply
-    ensures { λ r. ⌜ r ≡ handled (now (policy .entry)) (now (ike .entry)) (now (ipsec .entry)) (request spi (asked id pair (now (source .entry)) (now (destination .entry)) first (now (body .entry))) (length (now (out .entry)))) .reply ⌝ }
-    ensures { λ _. ⌜ now (ike .exit) ≡ handled (now (policy .entry)) (now (ike .entry)) (now (ipsec .entry)) (request spi (asked id pair (now (source .entry)) (now (destination .entry)) first (now (body .entry))) (length (now (out .entry)))) .ike ⌝ }
-    ensures { λ _. ⌜ now (ipsec .exit) ≡ handled (now (policy .entry)) (now (ike .entry)) (now (ipsec .entry)) (request spi (asked id pair (now (source .entry)) (now (destination .entry)) first (now (body .entry))) (length (now (out .entry)))) .ipsec ⌝ }
-    ensures { λ _. ⌜ now (out .exit) ≡ placed (now (out .entry)) 0 (handledResponse (now (policy .entry)) (now (ike .entry)) (now (ipsec .entry)) (request spi (asked id pair (now (source .entry)) (now (destination .entry)) first (now (body .entry))) (length (now (out .entry))))) ⌝ }
+    ensures { λ r. ⌜ HandledAs (now (policy .entry)) (now (ike .entry)) (now (ipsec .entry)) (request spi (asked id pair (now (source .entry)) (now (destination .entry)) first (now (body .entry))) (length (now (out .entry)))) (now (out .entry)) r (now (ike .exit)) (now (ipsec .exit)) (now (out .exit)) ⌝ }
 {
     let size = ipsec_count(ipsec);
     let place = ike_place(ike, spi);

@@ -2,9 +2,9 @@
 use Prim.Native.Nat.{ℕ, zero, suc, _+_, _-_, _≤_}
 use mathlib.Core.Path.{_≡_}
 use mathlib.Core.List.{List}
-use mathlib.Core.Bool.{cond}
+use mathlib.Core.Bool.{cond, _&&_}
 use lib.ListN.{length, getD}
-use lib.Dec.{eqb, ltb}
+use lib.Dec.{eqb, leb, ltb}
 use Rattle.payload.specs.Payload.{payloadAt}
 use Rattle.findings.specs.Seen.{nothingSeen, contentNoted, conflicts, Counted}
 use Rattle.payload.specs.declared.payload.Fault.{Fault}
@@ -101,6 +101,10 @@ answered x = answer (x .outcome) (x .seen)
 unfoldable pub reading : ℕ → List ℕ → Reading
 unfolding chainAt scanned
 reading first body = cond (ltb 4096 (length body)) (refused 3 0 0) (answered (scanned nothingSeen (chainAt body first 0)))
+
+-- 01: "The answer counts the payloads read, and that count equals the number of payloads in the chain; it is 0 with answers 1 to 7."
+abbrev pub countTold : ℕ → ℕ → List ℕ → ℕ
+countTold number first body = cond (leb 1 number && leb number 7) 0 (count (chainAt body first 0))
 
 -- What the reader promises: the reading as defined, and 01's "The answer counts the payloads read, and that count equals the
 -- number of payloads in the chain".

@@ -4,3 +4,4 @@ pub mod Ways
 pub mod Checks
 pub mod Looked
 pub mod Refused
+pub mod Counted

@@ -2,8 +2,10 @@
 use Prim.Native.Nat.{ℕ}
 use mathlib.Core.List.{List, [], map}
 use mathlib.Core.Bool.{Bool, cond, _&&_, not}
+use mathlib.Core.Path.{_≡_}
 use lib.Dec.{eqb, ltb}
 use lib.ListN.{length, getD, set}
+use Rattle.writing.specs.Notify.{placed}
 use Rattle.octets.specs.Flags.{isYes}
 use Rattle.octets.specs.Lists.{placeOf}
 use Rattle.address.specs.Address.{pairFits}
@@ -14,6 +16,7 @@ use Rattle.tables.specs.Calls.{hasIke, listFits}
 use Rattle.tables.specs.declared.ike.IkeRecord.{IkeRecord}
 use Rattle.tables.specs.declared.ike.Marks.{Marks}
 use Rattle.tables.specs.declared.ipsec.IpsecRecord.{IpsecRecord}
+use Rattle.reader.specs.Chain.{countTold}
 use Rattle.responder.specs.Core.{Asked, refusalReply, unchangedAnswer, coreAnswer, coreResult, coreResponse}
 use Rattle.responder.specs.declared.core.CoreAnswer.{CoreAnswer}
 use Rattle.responder.specs.declared.core.Reply.{Reply}
@@ -71,6 +74,16 @@ handled policy ike ipsec q =
 -- The response's octets; "None" for 1 to 5.
 unfoldable pub handledResponse : Policy → List IkeRecord → List IpsecRecord → Request → List ℕ
 handledResponse policy ike ipsec q = cond (eqb (earlyNumber ike ipsec q) 0) (coreResponse policy (q .asks) (marksIn (meant ike (q .spi)))) []
+
+-- What the handler promises of a request on these tables and this output, from any of them: all that it gives back, both tables and the output
+-- after it, and that the payload count is the chain's.
+module _ (policy : Policy) (ike : List IkeRecord) (ipsec : List IpsecRecord) (q : Request) (out : List ℕ) where
+  pub record HandledAs (r : Reply) (ike-after : List IkeRecord) (ipsec-after : List IpsecRecord) (out-after : List ℕ) : Type 0 where
+    pub reply : r ≡ handled policy ike ipsec q .reply
+    pub records : ike-after ≡ handled policy ike ipsec q .ike
+    pub owned : ipsec-after ≡ handled policy ike ipsec q .ipsec
+    pub output : out-after ≡ placed out 0 (handledResponse policy ike ipsec q)
+    pub counts : r .payloads ≡ countTold (r .number) (q .asks .first) (q .asks .body)
 
 -- The same by what was looked up: how many IPsec records are lent, the lowest place with the SPI, and the marks of the record there.
 -- `proofs/Looked.antt` shows that with this and the tables' change around it a request is handled.

@@ -231,11 +231,11 @@ pub fn changed(entry: IkeRecord, a: CoreAnswer, pair: Pair, body: &[u8]) -> IkeR
     ensures { λ r. ⌜ r ≡ changedBy a pair (now (body .entry)) entry ⌝ }
 {
     let marks = a.marks;
-    let new = remark(entry, marks, a.moves, pair);
+    let after = remark(entry, marks, a.moves, pair);
     if a.relists {
         let l = a.list;
         let addresses = addresses_in(body, l);
-        return relist(new, kept_count(l.count), addresses);
+        return relist(after, kept_count(l.count), addresses);
     }
-    new
+    after
 }

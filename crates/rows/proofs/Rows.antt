@@ -11,10 +11,10 @@ use Rattle.policy.specs.Policy.{ruleMatches, acceptable}
 use Rattle.writing.specs.Notify.{notifyOctets}
 use Rattle.deciding.specs.Decide.{unaltered, verdict, listDecided, updateDecided, decided}
 use Rattle.responding.specs.Respond.{cookieNotify, errorResponse, doneResponse}
-use Rattle.responder.specs.Core.{chainError, decidedOctets, coreResponse, coreAnswer, changedBy}
+use Rattle.responder.specs.Core.{chainError,, coreResponse, coreAnswer, changedBy}
 use Rattle.responder.specs.Handle.{recordNumber, checkedNumber, handled, handledResponse}
 use Rattle.rows.specs.Rows.{rowHolds, rows}
 
 pub rows-hold : all rowHolds rows ≡ true
-unfolding rowHolds kindOf notifyAt sized payloadAt noted contentNoted chain chainAt scanned reading prefixMatches ruleMatches acceptable notifyOctets unaltered verdict listDecided updateDecided decided cookieNotify errorResponse doneResponse chainError decidedOctets coreResponse coreAnswer changedBy recordNumber checkedNumber handled handledResponse
+unfolding rowHolds kindOf notifyAt sized payloadAt noted contentNoted chain chainAt scanned reading prefixMatches ruleMatches acceptable notifyOctets unaltered verdict listDecided updateDecided decided cookieNotify errorResponse doneResponse chainError coreResponse coreAnswer changedBy recordNumber checkedNumber handled handledResponse
 rows-hold = refl

@@ -29,9 +29,10 @@ use Rattle.tables.proofs.ike.marks_of as marks
 use Rattle.tables.proofs.ike.marks_of.Symbol as marks-def
 use Rattle.tables.proofs.ike.marks_of.Met as marks-thm
 use Rattle.responder.specs.Core.{asked, changedBy}
-use Rattle.responder.specs.Handle.{Request, Handled, request, meant, handled, handledResponse, answered, answeredResponse}
+use Rattle.responder.specs.Handle.{Request, HandledAs, request, meant, answered, answeredResponse}
 use Rattle.responder.specs.declared.core.CoreAnswer.{CoreAnswer}
 use Rattle.responder.proofs.Looked.{handles}
+use Rattle.responder.proofs.Counted.{counted}
 use Rattle.responder.proofs.core.CoreAnswer as D
 use Rattle.responder.proofs.core.CoreAnswer.Laws as D′
 use Rattle.responder.proofs.core.Reply as Z
@@ -42,7 +43,7 @@ use Rattle.responder.proofs.handle.answer.Met as answer-thm
 use Rattle.lent.proofs.Walk.{closes}
 use Rattle.lent.proofs.IkeTable.{R, Q, table-slot, rec-vals}
 use Rattle.lent.proofs.PolicyTypes.{R as Rₚ, policy-vals}
-use Rattle.lent.proofs.Calls.{_&_, tokens, Told, plainly, gives, spares, spare-first, spare-next, list-last, calls-both, calls-for, calls-to, copied, ends-local, says4}
+use Rattle.lent.proofs.Calls.{_&_, tokens, Told, plainly, gives, spares, spare-first, spare-next, list-last, calls-both, calls-for, calls-to, copied, ends-local}
 use Rattle.lent.proofs.Asked.{counts, finds-ike, reads-ike, changes-ike, reads-policy}
 use Rattle.lent.proofs.owned.ipsec_count as count
 use Rattle.lent.proofs.owned.ipsec_count.Symbol as count-def
@@ -128,14 +129,19 @@ module _ {M : Type 1} (𝓤 : URA M) (H : Heap 𝓤) (A : Atoms 𝓤) (W : Given
   response = placed (out .now) 0 (answeredResponse (policy .now) size place (marksIn old) q)
 
   -- what is answered, stored and moved is what the contract says
-  abbrev all : Handled
-  all = handled (policy .now) (ike .now) (ipsec .now) q
-
   abbrev Said : List IkeRecord → List IpsecRecord → List ℕ → Type 0
-  Said zs us ws = (c .reply ≡ all .reply) × (zs ≡ all .ike) × (us ≡ all .ipsec) × (ws ≡ placed (out .now) 0 (handledResponse (policy .now) (ike .now) (ipsec .now) q))
+  Said = HandledAs (policy .now) (ike .now) (ipsec .now) q (out .now) (c .reply)
 
   all-said : length (ike .now) ≡ 32 → (zs : List IkeRecord) (us : List IpsecRecord) (ws : List ℕ) → zs ≡ set (ike .now) place new → us ≡ cond (c .moves) (map (follows spi pair) (ipsec .now)) (ipsec .now) → ws ≡ response → Said zs us ws
-  all-said long zs us ws e₁ e₂ e₃ = let h = handles (policy .now) (ike .now) (ipsec .now) q long in (h .reply, rw e₁ (h .ike-after), rw e₂ (h .ipsec-after), rw e₃ (ap (placed (out .now) 0) (h .octets)))
+  all-said long zs us ws e₁ e₂ e₃ =
+      let h = handles (policy .now) (ike .now) (ipsec .now) q long in
+      record {
+        reply = h .reply;
+        records = rw e₁ (h .ike-after);
+        owned = rw e₂ (h .ipsec-after);
+        output = rw e₃ (ap (placed (out .now) 0) (h .octets));
+        counts = rw (h .reply) (counted (policy .now) (ike .now) (ipsec .now) q);
+      }
 
   abbrev End : List IkeRecord → List IpsecRecord → List ℕ → List (Item 𝓤)
   End zs us ws = ‵ (finally Rᵢ (ipsec .name) us) ∷ ‵ (flft (κs .1 .0) (qs .1 .0)) ∷ ‵ (fres (ike .name) (Q .coded .code zs)) ∷ ‵ (flft (κs .0) (qs .0)) ∷ tokens 𝓤 5 (κs .1 .1) (qs .1 .1) ∷ ‵ (finally u8 (out .name) ws) ∷ []
@@ -145,7 +151,7 @@ module _ {M : Type 1} (𝓤 : URA M) (H : Heap 𝓤) (A : Atoms 𝓤) (W : Given
   exits zs us ws is l₁ l₂ e =
       qed W (End zs us ws) ∵
       suffices ! _ (ends-at 𝓤 H A f.ended stayed (f.clauses 𝓤 H A at-mem run) W ((κs, qs, tt, a, vals), tt) (LL.val Z.the-type Z′.the-laws (c .reply)) (c .reply)
-      (zs, (us, (tt, (tt, (tt, (tt, (tt, (tt, (tt, (tt, (ws, tt))))))))))) (tt, (l₁, (tt, (tt, (tt, (tt, (tt, (tt, (tt, (tt, (l₂, tt)))))))))))) $ says4 ! (e .0) (e .1) (e .2) (e .3) $
+      (zs, (us, (tt, (tt, (tt, (tt, (tt, (tt, (tt, (tt, (ws, tt))))))))))) (tt, (l₁, (tt, (tt, (tt, (tt, (tt, (tt, (tt, (tt, (l₂, tt)))))))))))) $ says ! e $
       move ! (1 ∷ 4 ∷ []) $ join ! $ move ! (3 ∷ 0 ∷ []) $ join ! $ frame ! $
       nothing ! $ move ! (3 ∷ 0 ∷ []) $ fjoin ! $ nothing ! $ fjoin ! $ nothing ! $ fjoin ! $ nothing ! $ fjoin ! $ nothing ! $ fjoin ! $ nothing ! $ fjoin ! $ nothing ! $ fjoin ! $ nothing ! $ fjoin ! $ nothing ! $ fjoin ! $
       move ! (1 ∷ 0 ∷ []) $ fjoin ! $ move ! (1 ∷ 0 ∷ []) $ fjoin ! $ frame ! $ owned ! Z.the-row (Is Z.the-row) (LL.makes Z.the-type Z′.the-plain 𝓤 H A) (c .reply) _ is $ done !
