@@ -192,11 +192,7 @@ mod tests {
     }
 
     /// All but the cookie.
-    fn assessed(
-        sent: &[u8],
-        notifications: &[(u16, &[u8])],
-        unknown: usize,
-    ) -> Assessed<'static> {
+    fn assessed(sent: &[u8], notifications: &[(u16, &[u8])], unknown: usize) -> Assessed<'static> {
         let (first, body) = response(notifications, unknown);
         let Assessed { number, outcome, payloads, offset, tally, .. } =
             assess(sent, first, &body, Faults::NONE);

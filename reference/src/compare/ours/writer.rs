@@ -45,7 +45,8 @@ extern "C" {
 
 /// What is asked for, with octets other than 1 for yes, by how long the cookie is.
 fn as_octets(ask: Ask, cookie: usize) -> CAsk {
-    let octet = |yes: bool, place: u8| if yes { (cookie as u8).wrapping_mul(51) | place } else { 0 };
+    let octet =
+        |yes: bool, place: u8| if yes { (cookie as u8).wrapping_mul(51) | place } else { 0 };
     CAsk {
         update: octet(ask.update, 1),
         no_nats: octet(ask.no_nats, 2),
