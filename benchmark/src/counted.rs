@@ -120,7 +120,12 @@ pub fn counted_second_write(arguments: &Arguments, faults: Faults) -> reference:
 
 #[inline(never)]
 #[no_mangle]
-pub fn counted_second_assess(sent: &[u8], first: u8, body: &[u8], faults: Faults) -> Assessed {
+pub fn counted_second_assess<'a>(
+    sent: &[u8],
+    first: u8,
+    body: &'a [u8],
+    faults: Faults,
+) -> Assessed<'a> {
     let assessed = reference::assess::assess(sent, first, body, faults);
     black_box(&assessed);
     assessed

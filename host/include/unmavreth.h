@@ -461,14 +461,15 @@ unmavreth_reply unmavreth_request(unmavreth_ike_table *ike, unmavreth_ipsec *ips
 
 // ----------------------------------------------------------------------------------------------- the initiator's end
 
-// What a request is to carry. Both kinds of NAT detection are asked for, or neither.
+// What a request is to carry; of each yes or no, 0 is no and any other value yes. Both kinds of NAT detection are asked
+// for, or neither.
 typedef struct unmavreth_ask {
-    bool update;          // UPDATE_SA_ADDRESSES
-    bool no_nats;         // NO_NATS_ALLOWED with `pair`
-    bool nat_source;      // NAT_DETECTION_SOURCE_IP with `source`
-    bool nat_destination; // NAT_DETECTION_DESTINATION_IP with `destination`
-    bool no_additional;   // NO_ADDITIONAL_ADDRESSES
-    uint16_t count;       // how many of `addresses`; 0 without no_additional says nothing about them
+    uint8_t update;          // UPDATE_SA_ADDRESSES
+    uint8_t no_nats;         // NO_NATS_ALLOWED with `pair`
+    uint8_t nat_source;      // NAT_DETECTION_SOURCE_IP with `source`
+    uint8_t nat_destination; // NAT_DETECTION_DESTINATION_IP with `destination`
+    uint8_t no_additional;   // NO_ADDITIONAL_ADDRESSES
+    uint16_t count;          // how many of `addresses`; 0 without no_additional says nothing about them
 } unmavreth_ask;
 UNMAVRETH_SIZE(unmavreth_ask, 8);
 UNMAVRETH_AT(unmavreth_ask, update, 0);
@@ -511,13 +512,17 @@ typedef struct unmavreth_assessment {
     uint16_t payloads; // of the response; 0 with every number but 0
     uint16_t offset;   // with 6 and 7, where the payload begins, else 0
     uint32_t tally;    // what was unknown in it: a cookie that was not sent too, errors not; 0 with every number but 0
+    uint16_t cookie;   // where the data of the response's COOKIE2 begins; 0: none, as with every number but 0
+    uint16_t cookie_len;
 } unmavreth_assessment;
-UNMAVRETH_SIZE(unmavreth_assessment, 12);
+UNMAVRETH_SIZE(unmavreth_assessment, 16);
 UNMAVRETH_AT(unmavreth_assessment, number, 0);
 UNMAVRETH_AT(unmavreth_assessment, outcome, 1);
 UNMAVRETH_AT(unmavreth_assessment, payloads, 2);
 UNMAVRETH_AT(unmavreth_assessment, offset, 4);
 UNMAVRETH_AT(unmavreth_assessment, tally, 8);
+UNMAVRETH_AT(unmavreth_assessment, cookie, 12);
+UNMAVRETH_AT(unmavreth_assessment, cookie_len, 14);
 
 // Says what the response to a request comes to; `sent` is the cookie of that request, 0 octets if it had none.
 // Numbers, in the order of the checks:

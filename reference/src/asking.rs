@@ -9,8 +9,7 @@ use crate::writer;
 /// The longest request: every notification, sixteen IPv6 addresses, a cookie of 64 octets.
 pub const LEAST_OUTPUT: usize = 564;
 
-/// Laid out as in the library's C interface, and so handed over as it is.
-#[repr(C)]
+/// What a request is to carry.
 #[derive(Debug, Clone, Copy, Default, PartialEq, Eq)]
 pub struct Ask {
     pub update: bool,

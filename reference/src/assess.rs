@@ -2,8 +2,10 @@
 use crate::asking::may_be_sent;
 use crate::calls::Refusal;
 use crate::chain::{self, Class};
+use crate::cookie;
 use crate::faults::{Fault, Faults};
 use crate::notify::NotifyType;
+use crate::outcome::Place;
 use crate::reader::{self, Answer};
 use crate::summary::Summary;
 
@@ -19,7 +21,7 @@ pub enum Verdict {
 
 /// What the assess gives back, in the form in which the two programs are compared.
 #[derive(Debug, Clone, Copy, Default, PartialEq, Eq)]
-pub struct Assessed {
+pub struct Assessed<'a> {
     pub number: u8,
     /// The verdict's number; 0 with refusals.
     pub outcome: u8,
@@ -27,9 +29,13 @@ pub struct Assessed {
     /// Told with 6 and 7.
     pub offset: u16,
     pub tally: u32,
+    /// The cookie that came back.
+    pub cookie: Place<'a>,
+    /// The part of the response's body that is handed out for it.
+    pub handed_out: Place<'a>,
 }
 
-impl Assessed {
+impl Assessed<'_> {
     /// Every field by name, to be shown.
     pub fn fields(&self) -> Vec<(String, String)> {
         let fields = [
@@ -38,13 +44,26 @@ impl Assessed {
             ("payloads", self.payloads.to_string()),
             ("offset", self.offset.to_string()),
             ("tally", self.tally.to_string()),
+            ("cookie", self.cookie.show()),
+            ("cookie handed out", self.handed_out.show()),
         ];
         fields.map(|(name, value)| (name.to_string(), value)).to_vec()
     }
 }
 
 /// Assesses a response to a request that was sent with this cookie; an empty one is none.
-pub fn assess(sent: &[u8], first: u8, body: &[u8], faults: Faults) -> Assessed {
+pub fn assess<'a>(sent: &[u8], first: u8, body: &'a [u8], faults: Faults) -> Assessed<'a> {
+    let mut assessed = judge(sent, first, body, faults);
+    if assessed.number != 0 && faults.on(Fault::CameBackRefused) {
+        assessed.cookie = Place::of(cookie::of_refused(first, body, faults));
+    }
+    let (at, length) = assessed.cookie.as_told();
+    assessed.handed_out = cookie::hand_out(body, at, length, faults);
+    assessed
+}
+
+/// All but the part that is handed out.
+fn judge<'a>(sent: &[u8], first: u8, body: &'a [u8], faults: Faults) -> Assessed<'a> {
     let reading = reader::read(first, body, faults);
     let answer = reading.answer;
     let too_long_first = answer == Answer::BodyTooLong && faults.on(Fault::BodyBeforeSent);
@@ -62,7 +81,10 @@ pub fn assess(sent: &[u8], first: u8, body: &[u8], faults: Faults) -> Assessed {
     let untallied = verdict == Verdict::Close && faults.on(Fault::CloseUntallied);
     let tally = if untallied { 0 } else { tally(sent, summary, faults) };
     let payloads = summary.payloads as u16;
-    Assessed { number: 0, outcome: verdict as u8, payloads, offset: 0, tally }
+    let untold = verdict == Verdict::Close && faults.on(Fault::CameBackUntold);
+    let cookie = if untold { Place::default() } else { Place::of(summary.cookie) };
+    let outcome = verdict as u8;
+    Assessed { outcome, payloads, tally, cookie, ..Assessed::default() }
 }
 
 fn verdict(sent: &[u8], summary: &Summary, faults: Faults) -> Verdict {
@@ -169,9 +191,12 @@ mod tests {
         (types[0], body)
     }
 
-    fn assessed(sent: &[u8], notifications: &[(u16, &[u8])], unknown: usize) -> Assessed {
+    /// All but the cookie.
+    fn assessed(sent: &[u8], notifications: &[(u16, &[u8])], unknown: usize) -> Assessed<'static> {
         let (first, body) = response(notifications, unknown);
-        assess(sent, first, &body, Faults::NONE)
+        let Assessed { number, outcome, payloads, offset, tally, .. } =
+            assess(sent, first, &body, Faults::NONE);
+        Assessed { number, outcome, payloads, offset, tally, ..Assessed::default() }
     }
 
     fn verdict_of(sent: &[u8], notifications: &[(u16, &[u8])]) -> u8 {
@@ -239,9 +264,23 @@ mod tests {
     }
 
     #[test]
+    fn the_cookie_that_came_back_is_handed_out() {
+        let (first, body) = response(&[(40, &[]), (COOKIE2, &SENT)], 0);
+        for sent in [&SENT[..], &OTHER, &NONE] {
+            let assessed = assess(sent, first, &body, Faults::NONE);
+            assert_eq!(assessed.cookie, Place::in_body(&body, 16, 8));
+            assert_eq!(assessed.handed_out.octets, SENT);
+        }
+        let refused = assess(&[1; 7], first, &body, Faults::NONE);
+        assert_eq!((refused.cookie, refused.handed_out), (Place::default(), Place::default()));
+    }
+
+    #[test]
     fn refusals_give_0() {
         let refused = |number, offset| Assessed { number, offset, ..Assessed::default() };
-        let assess = |sent: &[u8], first, body: &[u8]| assess(sent, first, body, Faults::NONE);
+        fn assess<'a>(sent: &[u8], first: u8, body: &'a [u8]) -> Assessed<'a> {
+            super::assess(sent, first, body, Faults::NONE)
+        }
         for size in [1, 7, 65, 66, 300] {
             assert_eq!(assess(&vec![1; size], 41, &[0; 4097]), refused(1, 0));
         }

@@ -237,6 +237,8 @@ pub enum Fault {
     UnaskedUntallied,
     DifferentTallied,
     CloseUntallied,
+    CameBackUntold,
+    CameBackRefused,
 
     NoNatsFirst,
     DestinationFirst,
@@ -518,7 +520,7 @@ const OF_ORDERS: [(Fault, &str); 8] = [
     (Fault::FirstMarkIgnored, "first-mark-ignored"),
 ];
 
-const OF_ASSESS: [(Fault, &str); 19] = [
+const OF_ASSESS: [(Fault, &str); 21] = [
     (Fault::SentShort, "sent-short"),
     (Fault::Sent65, "sent-65"),
     (Fault::BodyBeforeSent, "body-before-sent"),
@@ -538,6 +540,8 @@ const OF_ASSESS: [(Fault, &str); 19] = [
     (Fault::UnaskedUntallied, "unasked-untallied"),
     (Fault::DifferentTallied, "different-tallied"),
     (Fault::CloseUntallied, "close-untallied"),
+    (Fault::CameBackUntold, "came-back-untold"),
+    (Fault::CameBackRefused, "came-back-refused"),
 ];
 
 const OF_WRITER: [(Fault, &str); 35] = [

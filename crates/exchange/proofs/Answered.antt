@@ -119,13 +119,14 @@ module _ (k : List ℕ) where
 
   -- a response that gives back nothing but the cookie, and no error
   taken : (first n : ℕ) (body : List ℕ) → cookieFits (length k) ≡ true → reading first body .number ≡ 0 → reading first body .seen .tally ≡ allKnown n
-      → given first body .cookie ≡ k → Accepted (assessment k first body)
+      → given first body .cookie ≡ k → Accepted k body (assessment k first body)
   unfolding assessment outcomeOf
   taken first n body f z t c =
       record {
         number = rw (f, eq-eqb (reading first body .number) 0 z);
         outcome = rw (f, eq-eqb (reading first body .number) 0 z, t, c, kept-open);
         tally = rw (f, eq-eqb (reading first body .number) 0 z, t, c) (not-tallied n);
+        cookie = rw (f, eq-eqb (reading first body .number) 0 z) c;
       }
 
 -- What the responder makes of a written request.
@@ -141,7 +142,7 @@ module _ (q : Request) (z : Sized q) (fits : requestFits q ≡ true) (policy : P
 
     module _ (s : length (r .asks .nat-source) ≡ 20) (d : length (r .asks .nat-destination) ≡ 20) where
       core-accepted : coreAnswer policy (r .asks) m .reply .number ≡ 0
-          → Accepted (assessment (q .cookie) (coreAnswer policy (r .asks) m .reply .first) (coreResponse policy (r .asks) m))
+          → Accepted (q .cookie) (coreResponse policy (r .asks) m) (assessment (q .cookie) (coreAnswer policy (r .asks) m .reply .first) (coreResponse policy (r .asks) m))
       unfolding coreAnswer coreResponse
       core-accepted e =
           let read = eq-eqb (reading (r .asks .first) (r .asks .body) .number) 0 (back .number) in

@@ -2,6 +2,7 @@
 use Prim.Native.Nat.{ℕ}
 use mathlib.Core.Path.{_≡_}
 use mathlib.Core.List.{List}
+use Rattle.findings.specs.Values.{partOf}
 use Rattle.policy.specs.declared.rules.Policy.{Policy}
 use Rattle.tables.specs.declared.ike.IkeRecord.{IkeRecord}
 use Rattle.tables.specs.declared.ipsec.IpsecRecord.{IpsecRecord}
@@ -9,8 +10,9 @@ use Rattle.responder.specs.Handle.{Request as Received, handled, handledRespons
 use Rattle.responder.specs.declared.core.Reply.{Reply}
 use Rattle.asking.specs.Request.{Request}
 use Rattle.requests.specs.Written.{written, writtenOctets}
-use Rattle.initiator.specs.Response.{assessment}
+use Rattle.initiator.specs.Response.{outcomeNumber, assessment}
 use Rattle.initiator.specs.declared.response.Assessment.{Assessment}
+use Rattle.initiator.specs.declared.response.Outcome.the-variants as told
 use Rattle.exchange.specs.RoundTrips.{Sized}
 
 -- What the hosts must do: hand the responder the first type and the octets that the writer gave. The SPI, the ID, the packet's
@@ -19,18 +21,19 @@ pub record Carried (q : Request) (room : ℕ) (r : Received) : Type 0 where
   pub first : r .asks .first ≡ written q room .first
   pub body : r .asks .body ≡ writtenOctets q room
 
--- accepted, with nothing unknown in the response
-pub record Accepted (a : Assessment) : Type 0 where
+-- accepted, with nothing unknown in the response, and the cookie that was sent is handed out of it
+pub record Accepted (sent response : List ℕ) (a : Assessment) : Type 0 where
   pub number : a .number ≡ 0
-  pub outcome : a .outcome ≡ 5
+  pub outcome : a .outcome ≡ outcomeNumber told.Accepted
   pub tally : a .tally ≡ 0
+  pub cookie : partOf response (a .cookie) (a .«cookie_len») ≡ sent
 
 -- The request is never answered 6 or 7. Where the responder says done, its response, handed to the initiator with its first type
 -- and beside the cookie that was sent, is accepted.
 pub record Understood (q : Request) (reply : Reply) (response : List ℕ) : Type 0 where
   pub not-malformed : reply .number ≡ 6 → ⊥
   pub not-critical : reply .number ≡ 7 → ⊥
-  pub accepted : reply .number ≡ 0 → Accepted (assessment (q .cookie) (reply .first) response)
+  pub accepted : reply .number ≡ 0 → Accepted (q .cookie) response (assessment (q .cookie) (reply .first) response)
 
 -- From any policy and any tables.
 abbrev pub AllUnderstood : Type 0

@@ -3,20 +3,23 @@ use crate::chain::AddressList;
 use address::address::families_of;
 use address::address::octets_of;
 use address::pair::Pair;
-use asking::ask::Ask;
+use asking::ask::AskOctets;
+use asking::ask::ask_of;
 use requests::request::Written;
 ghost use mathlib.Core.Path.{_≡_};
 ghost use lib.ListN.{length};
 ghost use Rattle.address.specs.Address.{familiesOf, octetsOf};
 ghost use Rattle.writing.specs.Notify.{placed};
+ghost use Rattle.asking.specs.Ask.{askOf};
 ghost use Rattle.asking.specs.Request.{request};
 ghost use Rattle.requests.specs.Written.{written, writtenOctets};
 
-// Writes the request that is asked for to the start of `out`, which must have 564 octets whatever is asked. Asking for everything
-// writes 21 Notify payloads, which a peer may refuse: see `requests::request::write`.
+// Writes the request that is asked for to the start of `out`, which must have 564 octets whatever is asked; each yes or no in
+// `ask` is an octet, of which 0 is no. Asking for everything writes 21 Notify payloads, which a peer may refuse: see
+// `requests::request::write`.
 #[no_mangle]
 pub extern "C" fn unmavreth_write(
-    ask: Ask,
+    ask: AskOctets,
     pair: Pair,
     addresses: AddressList,
     source: &[u8],
@@ -24,14 +27,15 @@ pub extern "C" fn unmavreth_write(
     cookie: &[u8],
     out: &mut [u8],
 ) -> Written
-    ensures { λ r. ⌜ r ≡ written (request ask pair (familiesOf (addresses .list)) (octetsOf (addresses .list)) (now (source .entry)) (now (destination .entry)) (now (cookie .entry))) (length (now (out .entry))) ⌝ }
-    ensures { λ _. ⌜ now (out .exit) ≡ placed (now (out .entry)) 0 (writtenOctets (request ask pair (familiesOf (addresses .list)) (octetsOf (addresses .list)) (now (source .entry)) (now (destination .entry)) (now (cookie .entry))) (length (now (out .entry)))) ⌝ }
+    ensures { λ r. ⌜ r ≡ written (request (askOf ask) pair (familiesOf (addresses .list)) (octetsOf (addresses .list)) (now (source .entry)) (now (destination .entry)) (now (cookie .entry))) (length (now (out .entry))) ⌝ }
+    ensures { λ _. ⌜ now (out .exit) ≡ placed (now (out .entry)) 0 (writtenOctets (request (askOf ask) pair (familiesOf (addresses .list)) (octetsOf (addresses .list)) (now (source .entry)) (now (destination .entry)) (now (cookie .entry))) (length (now (out .entry)))) ⌝ }
 {
+    let wanted = ask_of(ask);
     let list = addresses.list;
     let families = families_of(list);
     let octets = octets_of(list);
     requests::request::write(
-        ask,
+        wanted,
         pair,
         families,
         octets,

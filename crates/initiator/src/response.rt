@@ -9,22 +9,19 @@ ghost use mathlib.Core.Path.{_≡_};
 ghost use Prim.Native.Nat.{_≤_};
 ghost use lib.ListN.{length};
 ghost use Rattle.octets.specs.Lists.{sameOctets};
-ghost use Rattle.initiator.specs.Response.{closes, errorOutcome, outcomeOf, tallyOf, refusal, assessment};
+ghost use Rattle.initiator.specs.Response.{outcomeNumber, closes, errorOutcome, outcomeOf, tallyOf, refusal, AssessedAs};
 
-// What a response comes to. 01's words for the numbers: close, NAT seen, unacceptable, failed, accepted; NONE with refusals.
-pub const NONE: u8 = 0;
+// What a response that was read whole comes to, in the words of 01.
+pub enum Outcome {
+    Close,
+    NatSeen,
+    Unacceptable,
+    Failed,
+    Accepted,
+}
 
-pub const CLOSE: u8 = 1;
-
-pub const NAT_SEEN: u8 = 2;
-
-pub const UNACCEPTABLE: u8 = 3;
-
-pub const FAILED: u8 = 4;
-
-pub const ACCEPTED: u8 = 5;
-
-// All that is told of a response.
+// All that is told of a response; the outcome by its number, 0 with refusals. The cookie that came back is the part of the body at
+// `cookie`.
 #[repr(C)]
 pub struct Assessment {
     pub number: u8,
@@ -32,6 +29,20 @@ pub struct Assessment {
     pub payloads: u16,
     pub offset: u16,
     pub tally: u32,
+    pub cookie: u16,
+    pub cookie_len: u16,
+}
+
+pub fn outcome_number(outcome: Outcome) -> u8
+    ensures { λ r. ⌜ r ≡ outcomeNumber outcome ⌝ }
+{
+    match outcome {
+        Outcome::Close => 1,
+        Outcome::NatSeen => 2,
+        Outcome::Unacceptable => 3,
+        Outcome::Failed => 4,
+        Outcome::Accepted => 5,
+    }
 }
 
 // Whether two parts of the same length have the same octets.
@@ -68,25 +79,25 @@ pub fn must_close(sent: &[u8], got: &[u8], errors: u16) -> bool
 }
 
 // What an error of this notify type is told as.
-pub fn error_outcome(number: u16) -> u8
+pub fn error_outcome(number: u16) -> Outcome
     ensures { λ r. ⌜ r ≡ errorOutcome number ⌝ }
 {
     let kind = NotifyType { number }.kind();
     match kind {
-        NotifyKind::UnexpectedNatDetected => NAT_SEEN,
-        NotifyKind::UnacceptableAddresses => UNACCEPTABLE,
-        _ => FAILED,
+        NotifyKind::UnexpectedNatDetected => Outcome::NatSeen,
+        NotifyKind::UnacceptableAddresses => Outcome::Unacceptable,
+        _ => Outcome::Failed,
     }
 }
 
-pub fn outcome_of(sent: &[u8], got: &[u8], t: Tally) -> u8
+pub fn outcome_of(sent: &[u8], got: &[u8], t: Tally) -> Outcome
     ensures { λ r. ⌜ r ≡ outcomeOf (now (sent .entry)) (now (got .entry)) t ⌝ }
 {
     if must_close(sent, got, t.errors) {
-        return CLOSE;
+        return Outcome::Close;
     }
     if t.errors == 0 {
-        return ACCEPTED;
+        return Outcome::Accepted;
     }
     error_outcome(t.first_error)
 }
@@ -111,16 +122,18 @@ pub fn refuse(number: u8, offset: u16) -> Assessment
 {
     Assessment {
         number,
-        outcome: NONE,
+        outcome: 0,
         payloads: 0,
         offset,
         tally: 0,
+        cookie: 0,
+        cookie_len: 0,
     }
 }
 
 // Says what a response comes to, given the cookie sent with the request (empty: none).
 pub fn assess(sent: &[u8], first: u8, body: &[u8]) -> Assessment
-    ensures { λ r. ⌜ r ≡ assessment (now (sent .entry)) first (now (body .entry)) ⌝ }
+    ensures { λ r. ⌜ AssessedAs (now (sent .entry)) first (now (body .entry)) r ⌝ }
 {
     if cookie_fits(sent.len()) {
         let r = read(first, body);
@@ -130,10 +143,12 @@ pub fn assess(sent: &[u8], first: u8, body: &[u8]) -> Assessment
             let got = cookie(body, seen);
             return Assessment {
                 number: 0,
-                outcome: outcome_of(sent, got, t),
+                outcome: outcome_number(outcome_of(sent, got, t)),
                 payloads: t.payloads,
                 offset: 0,
                 tally: tally_of(sent, got, t),
+                cookie: seen.cookie,
+                cookie_len: seen.cookie_len,
             };
         }
         return refuse(r.number, r.offset);

@@ -1,6 +1,6 @@
 //! The initiator's end: writing a request, and judging the response to it.
 use crate::layout::{Address, AddressList, Ask, Assessment, Pair, Written};
-use crate::{raw, Number, Outcome};
+use crate::{cookie, raw, Number, Outcome};
 
 /// A request to write. What isn't asked for isn't looked at; the default asks for nothing.
 #[derive(Debug, Clone, Copy, Default, PartialEq, Eq)]
@@ -116,5 +116,12 @@ impl Assessment {
     #[inline]
     pub fn tally(&self) -> u32 {
         self.tally
+    }
+
+    /// The cookie that came back, a part of the response's body that was lent to the call; empty if there
+    /// is none or the response wasn't read.
+    #[inline]
+    pub fn cookie<'a>(&self, body: &'a [u8]) -> &'a [u8] {
+        cookie(body, self.cookie, self.cookie_len)
     }
 }

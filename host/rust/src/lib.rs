@@ -53,6 +53,7 @@
 //! // The response goes back, and brings the cookie.
 //! let assessed = assess(&sent, reply.first(), reply.response(&answer));
 //! assert_eq!((assessed.number(), assessed.outcome()), (Number::Done, Outcome::Accepted));
+//! assert_eq!(assessed.cookie(reply.response(&answer)), sent);
 //! ```
 #![deny(missing_docs)]
 #![deny(unsafe_op_in_unsafe_fn)]

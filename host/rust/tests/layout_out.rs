@@ -204,6 +204,11 @@ fn every_field_of_an_assessment() {
     let assessed = assess(&[], first, &body);
     assert_eq!((assessed.number(), assessed.outcome()), (Number::Done, Outcome::Unacceptable));
     assert_eq!((assessed.payloads(), assessed.offset(), assessed.tally()), (4, 0, 3));
+    assert!(assessed.cookie(&body).is_empty());
+    let (first, body) = chain(&[notify(COOKIE2, &[9; 8]), bare(33)]);
+    assert_eq!(assess(&[9; 8], first, &body).cookie(&body), [9; 8]);
+    assert_eq!(assess(&[8; 8], first, &body).cookie(&body), [9; 8]);
+    assert!(assess(&[9; 7], first, &body).cookie(&body).is_empty());
     let (first, mut body) = chain(&[bare(200), bare(201)]);
     body[7] = 3;
     let assessed = assess(&[], first, &body);

@@ -34,6 +34,8 @@ pub struct Assessment {
     pub(crate) payloads: u16,
     pub(crate) offset: u16,
     pub(crate) tally: u32,
+    pub(crate) cookie: u16,
+    pub(crate) cookie_len: u16,
 }
 
 /// A part of lent octets: where it begins and how many there are.
@@ -49,5 +51,7 @@ laid_out!(Reply, size 16, align 2, {
     cookie_len: 12, length: 14,
 });
 laid_out!(Written, size 4, align 2, { number: 0, first: 1, length: 2 });
-laid_out!(Assessment, size 12, align 4, { number: 0, outcome: 1, payloads: 2, offset: 4, tally: 8 });
+laid_out!(Assessment, size 16, align 4, {
+    number: 0, outcome: 1, payloads: 2, offset: 4, tally: 8, cookie: 12, cookie_len: 14,
+});
 laid_out!(Part, size 16, align 8, { start: 0, octets: 8 });

@@ -65,7 +65,8 @@ pub struct Reading {
     pub(crate) seen: Seen,
 }
 
-/// What a request of ours is to carry. The library only reads it, so that its flags are `bool`.
+/// What a request of ours is to carry. The library only reads it, so that its flags, octets in C, are
+/// `bool` here.
 #[repr(C)]
 #[derive(Debug, Clone, Copy, Default, PartialEq, Eq)]
 pub struct Ask {

@@ -1,5 +1,7 @@
 // The library's assessment of responses: its C interface, and its answers as they are compared.
+use super::cookie::hand_out;
 use reference::assess::Assessed;
+use reference::outcome::Place;
 use std::mem::{offset_of, size_of};
 
 #[repr(C)]
@@ -9,10 +11,13 @@ struct CAssessed {
     payloads: u16,
     offset: u16,
     tally: u32,
+    cookie: u16,
+    cookie_len: u16,
 }
 
-const _: () = assert!(size_of::<CAssessed>() == 12);
+const _: () = assert!(size_of::<CAssessed>() == 16);
 const _: () = assert!(offset_of!(CAssessed, payloads) == 2 && offset_of!(CAssessed, tally) == 8);
+const _: () = assert!(offset_of!(CAssessed, cookie_len) == 14);
 
 #[link(name = "host", kind = "static")]
 extern "C" {
@@ -26,10 +31,12 @@ extern "C" {
 }
 
 /// Assesses a response by the library.
-pub fn assess(sent: &[u8], first: u8, body: &[u8]) -> Assessed {
+pub fn assess<'a>(sent: &[u8], first: u8, body: &'a [u8]) -> Assessed<'a> {
     // SAFETY: each start and length are those of a slice that outlives the call.
     let assessed =
         unsafe { unmavreth_response(sent.as_ptr(), sent.len(), first, body.as_ptr(), body.len()) };
-    let CAssessed { number, outcome, payloads, offset, tally } = assessed;
-    Assessed { number, outcome, payloads, offset, tally }
+    let CAssessed { number, outcome, payloads, offset, tally, cookie, cookie_len } = assessed;
+    let handed_out = hand_out(body, cookie, cookie_len);
+    let cookie = Place::in_body(body, usize::from(cookie), usize::from(cookie_len));
+    Assessed { number, outcome, payloads, offset, tally, cookie, handed_out }
 }

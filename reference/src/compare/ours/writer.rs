@@ -12,13 +12,24 @@ struct CWritten {
     length: u16,
 }
 
-const _: () = assert!(size_of::<Ask>() == 8 && offset_of!(Ask, count) == 6);
+/// Yes or no is an octet, of which 0 is no.
+#[repr(C)]
+struct CAsk {
+    update: u8,
+    no_nats: u8,
+    nat_source: u8,
+    nat_destination: u8,
+    no_additional: u8,
+    count: u16,
+}
+
+const _: () = assert!(size_of::<CAsk>() == 8 && offset_of!(CAsk, count) == 6);
 const _: () = assert!(size_of::<CWritten>() == 4 && offset_of!(CWritten, length) == 2);
 
 #[link(name = "host", kind = "static")]
 extern "C" {
     fn unmavreth_write(
-        ask: Ask,
+        ask: CAsk,
         pair: AddressPair,
         addresses: CAddressList,
         nat_source: *const u8,
@@ -32,6 +43,20 @@ extern "C" {
     ) -> CWritten;
 }
 
+/// What is asked for, with octets other than 1 for yes, by how long the cookie is.
+fn as_octets(ask: Ask, cookie: usize) -> CAsk {
+    let octet =
+        |yes: bool, place: u8| if yes { (cookie as u8).wrapping_mul(51) | place } else { 0 };
+    CAsk {
+        update: octet(ask.update, 1),
+        no_nats: octet(ask.no_nats, 2),
+        nat_source: octet(ask.nat_source, 4),
+        nat_destination: octet(ask.nat_destination, 8),
+        no_additional: octet(ask.no_additional, 128),
+        count: ask.count,
+    }
+}
+
 /// Writes a request by the library.
 pub fn write(arguments: &Arguments) -> Written {
     let Arguments { ask, pair, addresses, nat_source, nat_destination, cookie, output } = arguments;
@@ -40,7 +65,7 @@ pub fn write(arguments: &Arguments) -> Written {
     // slices overlap; the rest goes by value, and any is allowed.
     let written = unsafe {
         unmavreth_write(
-            *ask,
+            as_octets(*ask, cookie.len()),
             *pair,
             CAddressList { list: *addresses },
             nat_source.as_ptr(),

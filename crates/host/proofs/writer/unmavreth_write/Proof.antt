@@ -11,5 +11,6 @@ unmavreth-write-spec =
     (λ c κs. search needs)
     (λ c κs. search needs)
     (λ c κs. search needs)
+    (λ c κs. search needs)
     (λ c. search needs)
-    (λ c. rw (← c .before .before .before .before .before .families-of .ensures, ← c .before .before .before .before .octets-of .ensures) (c .before .before .write .ensures)))
+    (λ c. rw (← c .before .before .before .before .before .before .before .ask-of .ensures, ← c .before .before .before .before .before .families-of .ensures, ← c .before .before .before .before .octets-of .ensures) (c .before .before .write .ensures)))
