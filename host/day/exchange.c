@@ -34,11 +34,11 @@ static void print_read(const message *m)
     unmavreth_reading r = unmavreth_read(m->first, m->octets, m->length);
     if (r.seen.no_nats != 0) {
         char text[PAIR_TEXT];
-        unmavreth_pair claimed = unmavreth_no_nats(m->octets, m->length, r.seen);
+        unmavreth_pair claimed = unmavreth_no_nats(m->octets, m->length, r.seen.no_nats, r.seen.no_nats_len);
         pair_text(text, &claimed);
         printf("    NO_NATS_ALLOWED says %s\n", text);
     }
-    unmavreth_addresses_list addresses = unmavreth_addresses(m->octets, m->length, r.seen);
+    unmavreth_addresses_list addresses = unmavreth_addresses(m->octets, m->length, r.seen.list);
     for (size_t i = 0; i < r.seen.list.count && i < UNMAVRETH_ADDRESSES; i++) {
         char text[ADDRESS_TEXT];
         address_text(text, addresses.list[i].family, addresses.list[i].octets);

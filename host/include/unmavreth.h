@@ -10,7 +10,8 @@
 //   - hold valid values: a bool is 0 or 1 (only structs passed by value have one); any other octets are allowed;
 //   - not overlap anything else that is lent to the same call, if it is lent for writing (a pointer without const);
 //   - be left alone by everyone else: no other thread writes it, or reads it if it is lent for writing.
-// No call keeps a pointer to what it was lent; unmavreth_cookie hands out a part of the body that it was lent.
+// No call keeps a pointer to what it was lent; unmavreth_cookie and unmavreth_nat_value hand out a part of the body that
+// they were lent.
 //
 // The promises are about fields and octets, not about padding: compare records field by field, not with memcmp.
 //
@@ -375,21 +376,28 @@ UNMAVRETH_SIZE(unmavreth_part, 16);
 UNMAVRETH_AT(unmavreth_part, start, 0);
 UNMAVRETH_AT(unmavreth_part, octets, 8);
 
+// What was seen is handed out by the four calls below, from the body that was read and the places that its reading
+// tells. Any place and length may be given: at place 0, whatever the length, and where octets would run past the end,
+// there is nothing.
+
 // Hands out a cookie as a part of the body, by the place and the length that a reading or a reply of this body told:
-// *out becomes the `cookie_len` octets at `cookie`, or an empty part if there is none or if they would run past the
-// end. On entry *out must hold some valid part, such as { body, 0 }. The part is of use for as long as the host
-// leaves the body alone.
+// *out becomes the `cookie_len` octets at body + cookie, in the body itself and not a copy, or an empty part that
+// begins where the body does. On entry *out must hold some valid part, such as { body, 0 }. The part is of use for as
+// long as the host leaves the body alone.
 void unmavreth_cookie(unmavreth_part *out, const uint8_t *body, size_t octets, uint16_t cookie, uint16_t cookie_len);
 
-// What NO_NATS_ALLOWED holds, from the body that was read and what was seen in it: the `no_nats_len` octets at
-// `no_nats`. Family 0 and zeros if there is none, or if these are not 12 or 36 octets within the body, which no
-// reading tells.
-unmavreth_pair unmavreth_no_nats(const uint8_t *body, size_t octets, unmavreth_seen seen);
+// Hands out a NAT detection value in the same way, by the place that a reading told (`nat_source`, `nat_destination`):
+// its 20 octets, or an empty part.
+void unmavreth_nat_value(unmavreth_part *out, const uint8_t *body, size_t octets, uint16_t place);
 
-// The first sixteen additional addresses, from the body that was read and what was seen in it. Places past the count
-// are not looked at, and are given as zeros. An address of another family than 4 and 6, or that would run past the end
-// of the body, is given as its family and zeros; no reading tells one.
-unmavreth_addresses_list unmavreth_addresses(const uint8_t *body, size_t octets, unmavreth_seen seen);
+// What NO_NATS_ALLOWED holds: the `no_nats_len` octets at `no_nats`. Family 0 and zeros if there is none, or if these
+// are not 12 or 36 octets within the body, which no reading tells.
+unmavreth_pair unmavreth_no_nats(const uint8_t *body, size_t octets, uint16_t no_nats, uint16_t no_nats_len);
+
+// The first sixteen additional addresses. Places past the count are not looked at, and are given as zeros. An address
+// of another family than 4 and 6, at place 0, or that would run past the end of the body, is given as its family and
+// zeros; no reading tells one.
+unmavreth_addresses_list unmavreth_addresses(const uint8_t *body, size_t octets, unmavreth_places list);
 
 // ----------------------------------------------------------------------------------------------- answering a request
 

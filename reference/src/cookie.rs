@@ -46,10 +46,12 @@ fn hostile(body: &[u8], at: u16, length: u16) -> [(u16, u16); 14] {
     ]
 }
 
-/// The part at this place; empty if it has no octets or would run past the end of the body.
+/// The part at this place; empty if it has no octets or would run past the end of the body. Data never
+/// begins at place 0, which means none.
 pub fn hand_out(body: &[u8], at: u16, length: u16, faults: Faults) -> Place<'_> {
     let (at, length) = (usize::from(at), usize::from(length));
-    if length == 0 {
+    let none = at == 0 && !faults.on(Fault::CookieAtPlace0);
+    if length == 0 || none {
         Place::default()
     } else if !ends_inside(body, at, length, faults) {
         let cut = faults.on(Fault::CookieCut) && at < body.len();
@@ -108,13 +110,14 @@ mod tests {
     #[test]
     fn a_part_that_ends_inside_is_handed_out() {
         assert_eq!(octets(8, 2), [8, 9]);
-        assert_eq!(octets(0, 10), BODY);
+        assert_eq!(octets(1, 9), BODY[1..]);
         assert_eq!(hand_out(&BODY, 3, 4, Faults::NONE), Place::in_body(&BODY, 3, 4));
     }
 
     #[test]
     fn none_and_what_runs_past_the_end_are_empty() {
-        let empty = [(0, 0), (10, 0), (65535, 0), (8, 3), (10, 1), (8, 65534), (65535, 65535)];
+        let empty =
+            [(0, 0), (0, 10), (10, 0), (65535, 0), (8, 3), (10, 1), (8, 65534), (65535, 65535)];
         for (at, length) in empty {
             assert_eq!(hand_out(&BODY, at, length, Faults::NONE), Place::default());
         }

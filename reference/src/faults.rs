@@ -32,12 +32,14 @@ pub enum Fault {
     CookieEndWraps,
     CookieToEnd,
     CookieAlike,
+    CookieAtPlace0,
     CriticalNextType,
     MalformedTypeTold,
     ListPastCount,
     ListOver16Empty,
     AddressCut,
     AddressAtEnd,
+    AddressAtPlace0,
     OtherFamilyRead,
     PastEndNoFamily,
 
@@ -298,7 +300,7 @@ pub enum Fault {
     PlainNeedsUpdate,
 }
 
-const OF_READER: [(Fault, &str); 36] = [
+const OF_READER: [(Fault, &str); 38] = [
     (Fault::LastFlaw, "last-flaw"),
     (Fault::CriticalSkipped, "critical-skipped"),
     (Fault::CriticalKnown, "critical-known"),
@@ -327,12 +329,14 @@ const OF_READER: [(Fault, &str); 36] = [
     (Fault::CookieEndWraps, "cookie-end-wraps"),
     (Fault::CookieToEnd, "cookie-to-end"),
     (Fault::CookieAlike, "cookie-alike"),
+    (Fault::CookieAtPlace0, "cookie-at-place-0"),
     (Fault::CriticalNextType, "critical-next-type"),
     (Fault::MalformedTypeTold, "malformed-type-told"),
     (Fault::ListPastCount, "list-past-count"),
     (Fault::ListOver16Empty, "list-over-16-empty"),
     (Fault::AddressCut, "address-cut"),
     (Fault::AddressAtEnd, "address-at-end"),
+    (Fault::AddressAtPlace0, "address-at-place-0"),
     (Fault::OtherFamilyRead, "other-family-read"),
     (Fault::PastEndNoFamily, "past-end-no-family"),
 ];

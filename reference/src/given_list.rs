@@ -46,14 +46,16 @@ pub fn give(body: &[u8], seen: SeenList, faults: Faults) -> [Address; MAX_KEPT] 
     list
 }
 
-/// The octets there as an address of the family; zeros if they would run past the end of the body,
-/// or if the family has none.
+/// The octets there as an address of the family; zeros at place 0, which means none, if they would run
+/// past the end of the body, or if the family has none.
 fn address_at(body: &[u8], place: u16, family: u8, faults: Faults) -> Address {
     let others = if faults.on(Fault::OtherFamilyRead) { MOST_OCTETS } else { 0 };
     let start = usize::from(place);
     let end = start + octet_count(family).unwrap_or(others);
     let counts_as_past = end == body.len() && faults.on(Fault::AddressAtEnd);
+    let none = start == 0 && !faults.on(Fault::AddressAtPlace0);
     let octets = match body.get(start..end) {
+        _ if none => &[],
         Some(octets) if !counts_as_past => octets,
         _ if faults.on(Fault::PastEndNoFamily) => return Address::ZERO,
         _ if faults.on(Fault::AddressCut) => body.get(start..).unwrap_or_default(),
@@ -97,17 +99,17 @@ mod tests {
 
     #[test]
     fn addresses_that_end_inside_are_given() {
-        let list = given(3, &[(16, 4), (4, 6), (0, 4)]);
+        let list = given(3, &[(16, 4), (4, 6), (1, 4)]);
         assert_eq!((list[0].family, &list[0].octets[..5]), (4, &[16, 17, 18, 19, 0][..]));
         assert_eq!((list[1].family, &list[1].octets[..]), (6, &BODY[4..]));
-        assert_eq!((list[2].family, &list[2].octets[..5]), (4, &[0, 1, 2, 3, 0][..]));
+        assert_eq!((list[2].family, &list[2].octets[..5]), (4, &[1, 2, 3, 4, 0][..]));
         assert_eq!(list[3..], [Address::ZERO; 13]);
     }
 
     #[test]
-    fn past_the_end_and_of_other_families_only_the_family_is_given() {
-        let list = given(5, &[(17, 4), (5, 6), (65535, 6), (8, 5), (65532, 4)]);
-        assert_eq!(list[..5], [4, 6, 6, 5, 4].map(zeros));
+    fn past_the_end_at_place_0_and_of_other_families_only_the_family_is_given() {
+        let list = given(6, &[(17, 4), (5, 6), (65535, 6), (8, 5), (65532, 4), (0, 4)]);
+        assert_eq!(list[..6], [4, 6, 6, 5, 4, 4].map(zeros));
     }
 
     #[test]

@@ -6,10 +6,9 @@ use mathlib.Core.Bool.{Bool, true, false, cond}
 use native.Mathlib.Nat.{zero-add}
 use native.Mathlib.Omega.{arith}
 use borrow.Author.Tests.{le-ltb, ltb-false}
-use lib.Dec.{eqb, ltb, leb·zero}
+use lib.Dec.{eqb, ltb}
 use lib.ListN.{length}
 use Rattle.findings.specs.Seen.{nothingSeen}
-use Rattle.values.specs.Values.{partOf}
 use Rattle.writing.specs.Notify.{firstType}
 use Rattle.reader.specs.Chain.{scanned, answer, reading}
 use Rattle.reader.specs.declared.read.Outcome.the-variants.{Whole}
@@ -22,16 +21,13 @@ use Rattle.exchange.proofs.Gathered.{Clear}
 use Rattle.exchange.proofs.Reading.{scan-gives}
 use Rattle.exchange.proofs.Staged.{upTo, request-leads, request-length}
 
-part-none : (body : List ℕ) → partOf body 0 0 ≡ []
-part-none body = rw (leb·zero (length body))
-
 module _ (q : Request) (z : Sized q) (fits : requestFits q ≡ true) where
   abbrev Body : List ℕ
   Body = requestOctets q
 
   -- before anything is seen nothing was asked for
   start : givenBy Body nothingSeen ≡ upTo q false false false false false 0 []
-  start = rw (part-none Body)
+  start = refl
 
   pub given-back : GivenBack q (firstType (requested q) 0) Body
   unfolding reading

@@ -2,6 +2,7 @@
 pub mod Notifies
 pub mod Payloads
 pub mod Gathered
+pub mod Structs
 pub mod Reading
 pub mod Pairs
 pub mod Staged

@@ -4,18 +4,20 @@ use mathlib.Core.Path.{_≡_, refl, sym, ap, _∙_}
 use mathlib.Core.List.{List, [], _∷_, _++_, zipWith, append-assoc}
 use mathlib.Core.Bool.{true, false, false≢true}
 use native.Mathlib.Omega.{arith}
-use borrow.Author.Tests.{eqb-true, eq-eqb, ne-eqb, le-leb, leb-true, not-false}
+use borrow.Author.Tests.{eqb-true, eq-eqb, ne-eqb, leb-true, not-false}
 use lib.Dec.{eqb}
 use lib.ListN.{length, set, replicate, length-append, length-set}
 use lib.Seq.{drop-append-add, take-append-seam}
 use Rattle.octets.proofs.Pad.{put-last}
 use Rattle.octets.proofs.Small.{both, chosen}
 use Rattle.octets.proofs.Zip.{length-zip}
+use Rattle.address.specs.Address.{familiesOf, octetsOf}
 use Rattle.payload.specs.Notify.{kindOf, dataFits}
 use Rattle.payload.specs.declared.notify.NotifyKind.{NotifyKind}
 use Rattle.payload.specs.declared.notify.NotifyKind.the-variants.{NatDetectionSource, NatDetectionDestination, MobikeSupported, AdditionalIp4, AdditionalIp6, NoAdditionalAddresses, UpdateSaAddresses, Cookie2, NoNatsAllowed, UnacceptableAddresses, UnexpectedNatDetected, OtherError, OtherStatus}
 use Rattle.findings.specs.Seen.{is, listed, noted, contentNoted, repeats, counted, withTally}
-use Rattle.values.specs.Values.{partOf, addressAt, additionalOf}
+use Rattle.values.specs.Values.{partOf, addressAt, addressesIn}
+use Rattle.values.proofs.Stands.{part-there}
 use Rattle.findings.specs.declared.seen.Places.{Places}
 use Rattle.findings.specs.declared.seen.Seen.{Seen}
 use Rattle.findings.specs.declared.seen.Tally.{Tally}
@@ -28,6 +30,7 @@ use Rattle.asking.specs.Request.{Request}
 use Rattle.exchange.specs.RoundTrips.{givenBy, allKnown}
 use Rattle.exchange.proofs.Notifies.{AllFit, notifyChain}
 use Rattle.exchange.proofs.Payloads.{length-body}
+use Rattle.exchange.proofs.Structs.{Sixteen, families-in, octets-in}
 use Rattle.exchange.proofs.Gathered.{gathered, taken, gatherAll, Clear}
 
 -- a notification's data stands behind its header
@@ -35,12 +38,9 @@ pub part-at : (front : List ℕ) (next number : ℕ) (octets rest : List ℕ)
     → partOf (front ++ (notifyOctets next number octets ++ rest)) (length front + 8) (length octets) ≡ octets
 unfolding notifyOctets
 part-at front next number octets rest =
-    rw (
-      le-leb (length front + 8 + length octets) (length (front ++ (notifyOctets next number octets ++ rest)))
-          (omega (arith, length-body front next number octets rest)),
-      drop-append-add front (notifyOctets next number octets ++ rest) 8,
-    )
-    (take-append-seam octets rest)
+    let body = front ++ (notifyOctets next number octets ++ rest) in
+    part-there body (length front + 8) (length octets) (omega arith) (omega (arith, length-body front next number octets rest))
+    ∙ rw (drop-append-add front (notifyOctets next number octets ++ rest) 8) (take-append-seam octets rest)
 
 -- two lists stored into at one place, then joined
 zip-set : {A B C : Type 0} (f : A → B → C) (xs : List A) (ys : List B) (i : ℕ) (x : A) (y : B)
@@ -52,17 +52,14 @@ zip-set f (a ∷ xs) [] (suc i) x y = refl
 zip-set f (a ∷ xs) (b ∷ ys) zero x y = refl
 zip-set f (a ∷ xs) (b ∷ ys) (suc i) x y = ap (λ l. f a b ∷ l) (zip-set f xs ys i x y)
 
--- a list of sixteen places and families
-abbrev pub Sixteen : Places → Type 0
-Sixteen l = (length (l .places) ≡ 16) × (length (l .families) ≡ 16)
+pub listed-sixteen : (l : Places) (family place : ℕ) → Sixteen l → Sixteen (listed l family place)
+listed-sixteen l family place h = (length-set (l .places) (l .count) place ∙ h .0, length-set (l .families) (l .count) family ∙ h .1)
 
 pub noted-sixteen : (s : Seen) (k : NotifyKind) (number place len : ℕ) → Sixteen (s .list) → Sixteen (noted s k number place len .list)
 unfolding noted
 noted-sixteen s k number place len h =
-    chosen Sixteen (is k AdditionalIp4) (λ e. more 4) (λ e. chosen Sixteen (is k AdditionalIp6) (λ e. more 6) (λ e. h))
-  where
-    more : (family : ℕ) → Sixteen (listed (s .list) family place)
-    more family = (length-set (s .list .places) (s .list .count) place ∙ h .0, length-set (s .list .families) (s .list .count) family ∙ h .1)
+    chosen Sixteen (is k AdditionalIp4) (λ e. listed-sixteen (s .list) 4 place h)
+    (λ e. chosen Sixteen (is k AdditionalIp6) (λ e. listed-sixteen (s .list) 6 place h) (λ e. h))
 
 -- where no cookie is handed out none was seen
 abbrev NoneSeen : List ℕ → Seen → Type 0
@@ -74,13 +71,22 @@ module _ (body : List ℕ) (s : Seen) (t : Tally) (number place : ℕ) (octets :
   part : (n : ℕ) → eqb (length octets) n ≡ true → partOf body place n ≡ octets
   part n e = rw (eqb-true (length octets) n e) at there
 
-  -- one address more, behind those counted so far, whatever stood there
-  listed-more : (family : ℕ) → additionalOf body (listed (s .list) family place) ≡ set (additionalOf body (s .list)) (s .list .count) (addressAt body place family)
-  listed-more family =
+  -- one address more, behind those counted so far, whatever stood there: its octets, and its family
+  octets-more : (family : ℕ)
+      → octetsOf (addressesIn body (listed (s .list) family place)) ≡ set (octetsOf (addressesIn body (s .list))) (s .list .count) (addressAt body place family)
+  octets-more family =
       let l = s .list in
       let at = addressAt body in
       let long = length-zip at (l .places) (l .families) (sized .0 ∙ sym (sized .1)) ∙ sized .0 in
-      rw (zip-set at) (sym (put-last (replicate 16 0) (zipWith at (l .places) (l .families)) 16 (l .count) long (at place family)))
+      rw (octets-in body (listed l family place) (listed-sixteen l family place sized), octets-in body l sized, zip-set at)
+      (sym (put-last (replicate 16 0) (zipWith at (l .places) (l .families)) 16 (l .count) long (at place family)))
+
+  families-more : (family : ℕ)
+      → familiesOf (addressesIn body (listed (s .list) family place)) ≡ set (familiesOf (addressesIn body (s .list))) (s .list .count) family
+  families-more family =
+      let l = s .list in
+      rw (families-in body (listed l family place) (listed-sixteen l family place sized), families-in body l sized)
+      (sym (put-last 0 (l .families) 16 (l .count) (sized .1) family))
 
   abbrev Noted : NotifyKind → Seen → Type 0
   Noted k next =
@@ -90,11 +96,11 @@ module _ (body : List ℕ) (s : Seen) (t : Tally) (number place : ℕ) (octets :
       → Noted k (noted (withTally s t) k number place (length octets))
   unfolding noted
   one-noted NatDetectionSource f c =
-      (refl, refl, rw (not-false (eqb (s .«nat_source») 0) c, ne-eqb place 0 later, part 20 f), cookies)
-  one-noted NatDetectionDestination f c = (c, refl, rw (ne-eqb place 0 later, part 20 f), cookies)
+      (refl, refl, rw (not-false (eqb (s .«nat_source») 0) c, part 20 f, ne-eqb place 0 later), cookies)
+  one-noted NatDetectionDestination f c = (c, refl, rw (part 20 f, ne-eqb place 0 later), cookies)
   one-noted MobikeSupported f c = (refl, refl, refl, cookies)
-  one-noted AdditionalIp4 f c = (c, refl, rw (listed-more 4, part 4 f), cookies)
-  one-noted AdditionalIp6 f c = (c, refl, rw (listed-more 6, part 16 f), cookies)
+  one-noted AdditionalIp4 f c = (c, refl, rw (octets-more 4, families-more 4, part 4 f), cookies)
+  one-noted AdditionalIp6 f c = (c, refl, rw (octets-more 6, families-more 6, part 16 f), cookies)
   one-noted NoAdditionalAddresses f c = (c, refl, refl, cookies)
   one-noted UpdateSaAddresses f c = (c, refl, refl, cookies)
   one-noted Cookie2 f c = (
@@ -103,7 +109,7 @@ module _ (body : List ℕ) (s : Seen) (t : Tally) (number place : ℕ) (octets :
     rw there,
     rw there λ e. absurd (omega (arith, leb-true 8 (length octets) (both _ _ f .0))),
   )
-  one-noted NoNatsAllowed f c = (c, refl, rw (ne-eqb place 0 later, there), cookies)
+  one-noted NoNatsAllowed f c = (c, refl, rw (there, ne-eqb place 0 later), cookies)
   one-noted UnacceptableAddresses f c = absurd (false≢true (sym c))
   one-noted UnexpectedNatDetected f c = absurd (false≢true (sym c))
   one-noted OtherError f c = absurd (false≢true (sym c))

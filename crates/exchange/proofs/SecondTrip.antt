@@ -22,7 +22,8 @@ use Rattle.requests.specs.declared.request.Written.{Written}
 use Rattle.exchange.specs.Plain.{plainlyRead}
 use Rattle.exchange.specs.RoundTrips.{given, Sized, Octets, WrittenAgain, WritingRead}
 use Rattle.exchange.proofs.Payloads.{chain-of}
-use Rattle.exchange.proofs.Reading.{Sixteen, noted-sixteen}
+use Rattle.exchange.proofs.Structs.{Sixteen, families-in, octets-in, octets-sixteen}
+use Rattle.exchange.proofs.Reading.{noted-sixteen}
 use Rattle.exchange.proofs.Staged.{request-fits}
 use Rattle.exchange.proofs.FirstTrip.{given-back, fits-written, number-zero}
 use Rattle.exchange.proofs.Data.{length-padded, pair-sized}
@@ -49,13 +50,13 @@ module _ (first : ℕ) (body : List ℕ) where
       record {
         source = pair .0;
         destination = pair .1;
-        families = sixteen .1;
-        addresses = length-copied (replicate 16 0) all 16 (l .count) long;
+        families = rw (families-in body l sixteen) (length-copied 0 (l .families) 16 (l .count) (sixteen .1));
+        addresses = rw (octets-in body l sixteen) (octets-sixteen body l sixteen);
         octets =
-            λ i h.
-            copied-at (replicate 16 0) (λ a. length a ≡ 16) [] refl all 16 (min (l .count) 16) i h (omega (arith, long))
+            λ i h. rw (octets-in body l sixteen)
+            (copied-at (replicate 16 0) (λ a. length a ≡ 16) [] refl all 16 (min (l .count) 16) i h (omega (arith, long))
             (ap length (getD-zip at (l .places) (l .families) i 0 0 [] (omega (arith, sixteen .0)) (omega (arith, sixteen .1)))
-            ∙ length-padded (partOf body (getD (l .places) i 0) (widthOf (getD (l .families) i 0))));
+            ∙ length-padded (partOf body (getD (l .places) i 0) (widthOf (getD (l .families) i 0)))));
       }
 
   -- what a plainly read chain gave is the request that writes it

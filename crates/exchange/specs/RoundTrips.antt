@@ -7,11 +7,11 @@ use mathlib.Core.Bool.{true, cond, not}
 use lib.Dec.{eqb}
 use lib.ListN.{length, getD, replicate}
 use Rattle.octets.specs.Lists.{firstOnly}
-use Rattle.address.specs.Address.{noPair}
+use Rattle.address.specs.Address.{noPair, familiesOf, octetsOf}
 use Rattle.address.specs.declared.pair.Pair.{Pair}
-use Rattle.values.specs.Values.{partOf, natValue, noNatsSeen, additionalOf}
 use Rattle.findings.specs.declared.seen.Seen.{Seen}
 use Rattle.findings.specs.declared.seen.Tally.{Tally}
+use Rattle.values.specs.Values.{partOf, natLength, noNatsAt, addressesIn}
 use Rattle.values.specs.declared.NoNats.{NoNats}
 use Rattle.reader.specs.Chain.{reading}
 use Rattle.asking.specs.Request.{Request, requested}
@@ -22,7 +22,9 @@ abbrev pub pairOf : NoNats → Pair
 pairOf n =
     record { family = n .family; source = n .source; destination = n .destination; «source_port» = n .«source_port»; «destination_port» = n .«destination_port» }
 
--- What was seen in a body, as the writer takes it.
+-- What the exported calls hand out of a body by what was seen in it, as `unmavreth_write` takes it: the parts that `unmavreth_nat_value`
+-- and `unmavreth_cookie` give (`PartOf`), the pair that `unmavreth_no_nats` gives, and the address structs of `unmavreth_addresses`, whose
+-- families and octets the writer takes.
 abbrev pub givenBy : List ℕ → Seen → Request
 givenBy body s =
     record {
@@ -35,11 +37,11 @@ givenBy body s =
             «no_additional» = s .«no_additional»;
             count = s .list .count;
           };
-      pair = pairOf (noNatsSeen body s);
-      families = s .list .families;
-      addresses = additionalOf body (s .list);
-      source = natValue body (s .«nat_source»);
-      destination = natValue body (s .«nat_destination»);
+      pair = pairOf (noNatsAt body (s .«no_nats») (s .«no_nats_len»));
+      families = familiesOf (addressesIn body (s .list));
+      addresses = octetsOf (addressesIn body (s .list));
+      source = partOf body (s .«nat_source») natLength;
+      destination = partOf body (s .«nat_destination») natLength;
       cookie = partOf body (s .cookie) (s .«cookie_len»);
     }
 

@@ -1,12 +1,12 @@
 // The reader's calls.
 use address::address::Address;
-use findings::seen::Seen;
+use findings::seen::Places;
 use reader::read::Reading;
 use values::NoNats;
 use values::addresses_in;
 ghost use mathlib.Core.Path.{_≡_};
 ghost use Rattle.reader.specs.Chain.{ReadAs};
-ghost use Rattle.values.specs.Values.{partOf, noNatsSeen, addressesIn};
+ghost use Rattle.values.specs.Values.{PartOf, natLength, noNatsAt, addressesIn};
 
 #[repr(C)]
 pub struct AddressList {
@@ -24,25 +24,33 @@ pub extern "C" fn unmavreth_read(first: u8, body: &[u8]) -> Reading
 // Hands out COOKIE2's data as a part of the body, by the place and the length that a reading or a reply told; empty if there is none.
 #[no_mangle]
 pub extern "C" fn unmavreth_cookie<'s, 'a>(out: &'s mut &'a [u8], body: &'a [u8], at: u16, len: u16)
-    ensures { λ _. ⌜ now (now (out .exit)) ≡ partOf (now (body .entry)) at len ⌝ }
+    ensures { λ _. ⌜ PartOf (body .entry) at len (now (out .exit)) ⌝ }
 {
-    *out = parts::cookie(body, at, len);
+    *out = parts::data_at(body, at, len);
 }
 
-// What NO_NATS_ALLOWED held, from the body that was read and what was seen in it.
+// Hands out a NAT detection value as a part of the body, by the place that a reading told; empty if there is none.
 #[no_mangle]
-pub extern "C" fn unmavreth_no_nats(body: &[u8], seen: Seen) -> NoNats
-    ensures { λ r. ⌜ r ≡ noNatsSeen (now (body .entry)) seen ⌝ }
+pub extern "C" fn unmavreth_nat_value<'s, 'a>(out: &'s mut &'a [u8], body: &'a [u8], at: u16)
+    ensures { λ _. ⌜ PartOf (body .entry) at natLength (now (out .exit)) ⌝ }
 {
-    values::no_nats(body, seen)
+    *out = parts::data_at(body, at, 20);
 }
 
-// The first sixteen additional addresses, from the body that was read and what was seen in it.
+// What NO_NATS_ALLOWED held, by the place and the length that a reading told; family 0 if there is none.
 #[no_mangle]
-pub extern "C" fn unmavreth_addresses(body: &[u8], seen: Seen) -> AddressList
-    ensures { λ r. ⌜ r .list ≡ addressesIn (now (body .entry)) (seen .list) ⌝ }
+pub extern "C" fn unmavreth_no_nats(body: &[u8], at: u16, len: u16) -> NoNats
+    ensures { λ r. ⌜ r ≡ noNatsAt (now (body .entry)) at len ⌝ }
+{
+    values::no_nats_at(body, at, len)
+}
+
+// The first sixteen additional addresses, by the places and the families that a reading told.
+#[no_mangle]
+pub extern "C" fn unmavreth_addresses(body: &[u8], list: Places) -> AddressList
+    ensures { λ r. ⌜ r .list ≡ addressesIn (now (body .entry)) list ⌝ }
 {
     AddressList {
-        list: addresses_in(body, seen.list),
+        list: addresses_in(body, list),
     }
 }

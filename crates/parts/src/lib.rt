@@ -1,7 +1,7 @@
 // A thin payload reader: the lent body and a place in it; the data that stands there comes back as a part of the body.
 use values::part;
 ghost use mathlib.Core.Path.{_≡_};
-ghost use Rattle.values.specs.Values.{partOf};
+ghost use Rattle.values.specs.Values.{PartOf};
 
 // A body and the place in it at which a payload's data begins.
 pub struct PayloadReader<'a> {
@@ -15,16 +15,16 @@ pub fn reader_at<'a>(body: &'a [u8], at: u16) -> PayloadReader<'a>
     PayloadReader { body, at }
 }
 
-// The `len` octets at the reader's place, as a part of its body; none where they would run past the end.
+// The `len` octets at the reader's place, as a part of its body; none at place 0, or where they would run past the end.
 pub fn octets<'a>(r: PayloadReader<'a>, len: u16) -> &'a [u8]
-    ensures { λ s. ⌜ now s ≡ partOf (now (r .entry .body)) (r .entry .at) len ⌝ }
+    ensures { λ s. ⌜ PartOf (r .entry .body) (r .entry .at) len s ⌝ }
 {
     part(r.body, r.at, len)
 }
 
-// COOKIE2's data as a part of the body that was read, by the place and length that a call told; empty if there is none.
-pub fn cookie<'a>(body: &'a [u8], at: u16, len: u16) -> &'a [u8]
-    ensures { λ s. ⌜ now s ≡ partOf (now (body .entry)) at len ⌝ }
+// A payload's data as a part of the body that was read, by the place and the length that a call told; empty if there is none.
+pub fn data_at<'a>(body: &'a [u8], at: u16, len: u16) -> &'a [u8]
+    ensures { λ s. ⌜ PartOf (body .entry) at len s ⌝ }
 {
     octets(reader_at(body, at), len)
 }

@@ -1,14 +1,13 @@
 -- How long the parts of a response are.
-use Prim.Native.Nat.{ℕ, _+_, _≤_}
+use Prim.Native.Nat.{ℕ, _≤_}
 use mathlib.Core.Path.{_≡_}
-use mathlib.Core.List.{List, [], _++_}
+use mathlib.Core.List.{List, []}
 use mathlib.Core.Bool.{Bool, true, false, cond}
 use native.Mathlib.Omega.{arith}
-use lib.Dec.{eqb, leb}
-use lib.ListN.{length, take, drop, length-append, length-take}
-use Rattle.writing.specs.Notify.{notifyOctets}
-use Rattle.writing.proofs.Placed.{length-notify}
+use lib.Dec.{eqb}
+use lib.ListN.{length}
 use Rattle.findings.specs.declared.seen.Seen.{Seen}
+use Rattle.values.proofs.Stands.{part-length}
 use Rattle.reader.specs.Chain.{reading}
 use Rattle.reader.proofs.Cookie.{cookie-short}
 use Rattle.responder.specs.Core.{cookieIn, decidedOctets}
@@ -18,14 +17,9 @@ use Rattle.responding.proofs.Lengths.{error-length, done-length}
 
 -- the cookie of a chain that was read has at most 64 octets
 pub cookie-part : (first : ℕ) (body : List ℕ) (s : Seen) → s ≡ reading first body .seen → length (cookieIn body s) ≤ 64
-cookie-part first body s e = go (leb (s .cookie + s .«cookie_len») (length body))
-  where
-    short : s .«cookie_len» ≤ 64
-    short = rw e (cookie-short first body)
-
-    go : (b : Bool) → length (cond b (take (s .«cookie_len») (drop (s .cookie) body)) []) ≤ 64
-    go true = rw (length-take (s .«cookie_len») (drop (s .cookie) body)) (omega (arith, short))
-    go false = omega arith
+cookie-part first body s e =
+    let short : s .«cookie_len» ≤ 64 = rw e (cookie-short first body) in
+    omega (arith, part-length body (s .cookie) (s .«cookie_len»), short)
 
 pub octets-length : (v : Verdict) (wanted : Bool) (source destination cookie : List ℕ) → length source ≡ 20 → length destination ≡ 20 → length cookie ≤ 64
     → length (decidedOctets v wanted source destination cookie) ≤ 128

@@ -22,7 +22,7 @@ use tables::ike::remark;
 use values::addresses_in;
 use values::cookie;
 use values::kept_count;
-use values::no_nats;
+use values::no_nats_at;
 ghost use mathlib.Core.Path.{_≡_};
 ghost use Prim.Native.Nat.{_≤_};
 ghost use lib.ListN.{length};
@@ -138,7 +138,7 @@ pub fn decide_seen(
 ) -> Decision
     ensures { λ r. ⌜ r ≡ decided policy (noNatsSeen (now (body .entry)) seen) seen pair id marks ⌝ }
 {
-    let n = no_nats(body, seen);
+    let n = no_nats_at(body, seen.no_nats, seen.no_nats_len);
     decide(policy, n, seen, pair, id, marks)
 }
 

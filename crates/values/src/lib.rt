@@ -9,37 +9,28 @@ use octets::padded_to_16;
 ghost use mathlib.Core.Path.{_≡_};
 ghost use Prim.Native.Nat.{_+_, _≤_, min};
 ghost use lib.ListN.{length};
-ghost use Rattle.values.specs.Values.{partOf, natValue, noNatsIn, noNatsOf, noNatsSeen, absent, addressAt, additionalOf, addressesIn};
+ghost use Rattle.values.specs.Values.{partOf, PartOf, noNatsIn, noNatsOf, noNatsAt, absent, addressAt, additionalOf, addressesIn};
 
-// The `len` octets at `at`; none where they would run past the end.
+// The `len` octets at `at` as a part of the body; none at place 0, which is no place, or where they would run past the end.
 pub fn part(body: &[u8], at: u16, len: u16) -> &[u8]
-    ensures { λ r. ⌜ now r ≡ partOf (now (body .entry)) at len ⌝ }
+    ensures { λ r. ⌜ PartOf (body .entry) at len r ⌝ }
 {
     let start = at as usize;
     let end = start + len as usize;
-    if end <= body.len() {
-        &body[start..end]
-    } else {
-        &body[..0]
+    if at == 0 {
+        return &body[..0];
     }
+    if body.len() < end {
+        return &body[..0];
+    }
+    &body[start..end]
 }
 
-// COOKIE2's data as a part of the body, empty if there is none.
+// COOKIE2's data, empty if there is none.
 pub fn cookie(body: &[u8], seen: Seen) -> &[u8]
     ensures { λ r. ⌜ now r ≡ partOf (now (body .entry)) (seen .cookie) (seen .«cookie_len») ⌝ }
 {
     part(body, seen.cookie, seen.cookie_len)
-}
-
-// The NAT detection value at a place, empty where there is none.
-pub fn nat_value(body: &[u8], place: u16) -> &[u8]
-    ensures { λ r. ⌜ now r ≡ natValue (now (body .entry)) place ⌝ }
-{
-    if place == 0 {
-        part(body, 0, 0)
-    } else {
-        part(body, place, 20)
-    }
 }
 
 // What NO_NATS_ALLOWED holds; family 0 where there is none.
@@ -94,10 +85,11 @@ pub fn no_nats_of(data: &[u8]) -> NoNats
     nothing_allowed()
 }
 
-pub fn no_nats(body: &[u8], seen: Seen) -> NoNats
-    ensures { λ r. ⌜ r ≡ noNatsSeen (now (body .entry)) seen ⌝ }
+// The same by the place and the length that a reading tells.
+pub fn no_nats_at(body: &[u8], at: u16, len: u16) -> NoNats
+    ensures { λ r. ⌜ r ≡ noNatsAt (now (body .entry)) at len ⌝ }
 {
-    no_nats_of(part(body, seen.no_nats, seen.no_nats_len))
+    no_nats_of(part(body, at, len))
 }
 
 // The address at a place, of a family that says how many octets it has.

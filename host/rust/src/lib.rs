@@ -76,6 +76,6 @@ pub use layout::{
 };
 pub use numbers::{Effect, Number, Outcome};
 pub use policy::{acceptable, set_policy};
-pub use reader::{addresses, cookie, no_nats, read};
+pub use reader::{addresses, cookie, nat_value, no_nats, read};
 pub use records::{close_ike, close_ipsec, open, open_ipsec};
 pub use responder::{handle, Request};

@@ -1,8 +1,8 @@
 //! The C interface of `libhost.a`. A start and a count are those of memory that the caller lends for
 //! the call; nothing lent for writing may overlap anything else that is lent.
 use crate::layout::{
-    AddressList, Ask, Assessment, IkeRecord, IpsecRecord, Opening, Pair, Part, Policy, Reading,
-    Reply, Rule, Seen, Written,
+    AddressList, Ask, Assessment, IkeRecord, IpsecRecord, Opening, Pair, Part, Places, Policy,
+    Reading, Reply, Rule, Written,
 };
 
 extern "C" {
@@ -17,9 +17,17 @@ extern "C" {
         cookie_len: u16,
     );
 
-    pub(crate) fn unmavreth_no_nats(body: *const u8, octets: usize, seen: Seen) -> Pair;
+    /// `*out` must hold a valid part on entry.
+    pub(crate) fn unmavreth_nat_value(out: *mut Part, body: *const u8, octets: usize, place: u16);
 
-    pub(crate) fn unmavreth_addresses(body: *const u8, octets: usize, seen: Seen) -> AddressList;
+    pub(crate) fn unmavreth_no_nats(
+        body: *const u8,
+        octets: usize,
+        no_nats: u16,
+        no_nats_len: u16,
+    ) -> Pair;
+
+    pub(crate) fn unmavreth_addresses(body: *const u8, octets: usize, list: Places) -> AddressList;
 
     pub(crate) fn unmavreth_response(
         sent: *const u8,

@@ -14,13 +14,23 @@ pub fn read(first: u8, body: &[u8]) -> Reading {
 }
 
 /// The part of a body at a place, of a length, as a reading or a reply tells them for COOKIE2; empty
-/// where the length is 0 or the part would run past the end of the body.
+/// at place 0, where the length is 0, or where the part would run past the end of the body.
 #[inline]
 pub fn cookie(body: &[u8], place: u16, length: u16) -> &[u8] {
     let mut part = Part { start: body.as_ptr(), octets: 0 };
     // SAFETY: start and length are those of a slice that outlives the call, and `part` is another
     // place, which holds an empty part of that slice.
     unsafe { raw::unmavreth_cookie(&mut part, body.as_ptr(), body.len(), place, length) };
+    within(body, part)
+}
+
+/// The NAT detection value at a place, as a reading tells it: 20 octets, a part of the body; empty at
+/// place 0, or where they would run past the end of the body.
+#[inline]
+pub fn nat_value(body: &[u8], place: u16) -> &[u8] {
+    let mut part = Part { start: body.as_ptr(), octets: 0 };
+    // SAFETY: as in `cookie`.
+    unsafe { raw::unmavreth_nat_value(&mut part, body.as_ptr(), body.len(), place) };
     within(body, part)
 }
 
@@ -36,8 +46,8 @@ fn within(body: &[u8], part: Part) -> &[u8] {
 /// if it wasn't there.
 #[inline]
 pub fn no_nats(body: &[u8], seen: &Seen) -> Pair {
-    // SAFETY: start and length are those of a slice that outlives the call; any `seen` may be given.
-    unsafe { raw::unmavreth_no_nats(body.as_ptr(), body.len(), *seen) }
+    // SAFETY: start and length are those of a slice that outlives the call; any place may be given.
+    unsafe { raw::unmavreth_no_nats(body.as_ptr(), body.len(), seen.no_nats, seen.no_nats_len) }
 }
 
 /// The first 16 additional addresses, from the body that was read and what was seen in it; zeros past
@@ -45,7 +55,7 @@ pub fn no_nats(body: &[u8], seen: &Seen) -> Pair {
 #[inline]
 pub fn addresses(body: &[u8], seen: &Seen) -> [Address; 16] {
     // SAFETY: as in `no_nats`.
-    unsafe { raw::unmavreth_addresses(body.as_ptr(), body.len(), *seen) }.list
+    unsafe { raw::unmavreth_addresses(body.as_ptr(), body.len(), seen.list) }.list
 }
 
 impl Reading {
@@ -77,6 +87,18 @@ impl Reading {
     #[inline]
     pub fn cookie<'a>(&self, body: &'a [u8]) -> &'a [u8] {
         cookie(body, self.seen.cookie, self.seen.cookie_len)
+    }
+
+    /// The first NAT_DETECTION_SOURCE_IP's data as a part of the body that was read; empty if there is none.
+    #[inline]
+    pub fn nat_source<'a>(&self, body: &'a [u8]) -> &'a [u8] {
+        nat_value(body, self.seen.nat_source)
+    }
+
+    /// NAT_DETECTION_DESTINATION_IP's data as a part of the body that was read; empty if there is none.
+    #[inline]
+    pub fn nat_destination<'a>(&self, body: &'a [u8]) -> &'a [u8] {
+        nat_value(body, self.seen.nat_destination)
     }
 }
 

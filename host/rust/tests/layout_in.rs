@@ -123,12 +123,12 @@ fn what_was_seen_is_given_back() {
     assert_eq!(no_nats(&body, &seen), pair);
     seen.no_nats_len = 13;
     assert_eq!(no_nats(&body, &seen), Pair::NONE);
-    seen.list.places = std::array::from_fn(|at| 11 * at as u16);
+    seen.list.places = std::array::from_fn(|at| 8 + 11 * at as u16);
     seen.list.families = std::array::from_fn(|at| [4, 6, 6][at % 3]);
     assert_eq!(addresses(&body, &seen), [Address::NONE; 16]);
     seen.list.count = 16;
     for (at, told) in addresses(&body, &seen).iter().enumerate() {
-        let from = 11 * at as u8;
+        let from = 8 + 11 * at as u8;
         let four = Address::ipv4([from, from + 1, from + 2, from + 3]);
         let six = Address::ipv6(octets(from));
         assert_eq!(*told, [four, six, six][at % 3]);

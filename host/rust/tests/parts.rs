@@ -1,7 +1,7 @@
-//! The cookie is a part of the lent body, and what is past a written length stays as it was.
+//! What is handed out is a part of the lent body, and what is past a written length stays as it was.
 mod common;
 use common::*;
-use unmavreth::{cookie, read, write, Ask, Draft, Number};
+use unmavreth::{cookie, nat_value, read, write, Ask, Draft, Number};
 
 #[test]
 fn the_cookie_is_a_part_of_the_body() {
@@ -9,6 +9,23 @@ fn the_cookie_is_a_part_of_the_body() {
     let part = read(first, &body).cookie(&body);
     assert_eq!(part, COOKIE);
     assert_eq!(part.as_ptr_range(), body[16..25].as_ptr_range());
+}
+
+#[test]
+fn the_nat_detection_values_are_parts_of_the_body() {
+    let (source, destination) = (notify(NAT_SOURCE, &[1; 20]), notify(NAT_DESTINATION, &[2; 20]));
+    let (first, body) = chain(&[notify(UPDATE, &[]), source, destination]);
+    let reading = read(first, &body);
+    assert_eq!(reading.nat_source(&body).as_ptr_range(), body[16..36].as_ptr_range());
+    assert_eq!(reading.nat_destination(&body).as_ptr_range(), body[44..64].as_ptr_range());
+    assert_eq!(
+        (reading.nat_source(&body), reading.nat_destination(&body)),
+        (&[1; 20][..], &[2; 20][..])
+    );
+    let (first, body) = chain(&[notify(UPDATE, &[])]);
+    assert!(read(first, &body).nat_source(&body).is_empty());
+    assert!(nat_value(&[5; 40], 0).is_empty() && nat_value(&[5; 40], 21).is_empty());
+    assert_eq!(nat_value(&[5; 40], 20), [5; 20]);
 }
 
 #[test]
@@ -29,7 +46,7 @@ fn any_place_and_length_may_be_asked_for() {
     for at in edges {
         for length in edges {
             let part = cookie(&body, at, length);
-            let inside = usize::from(at) + usize::from(length) <= body.len();
+            let inside = at != 0 && usize::from(at) + usize::from(length) <= body.len();
             assert_eq!(part.len(), if inside { usize::from(length) } else { 0 });
             assert!(cookie(&[], at, length).is_empty());
         }

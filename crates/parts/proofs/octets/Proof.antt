@@ -25,7 +25,7 @@ use denote.RattleType.{RattleType, owns}
 use denote.Laws.{Is, shows}
 use denote.Plain.{uint-vals, uint-tells, uint-makes}
 use denote.Builtin.{u8, u16}
-use denote.Ref.{RefT, now}
+use denote.Ref.{RefT}
 use denote.Signature.{plain, namedLft}
 use denote.Slice.{sliceVal, ShrSlice, shr-slice-lawful}
 use denote.Steps.{owned, peeks, heard, nothing}
@@ -41,7 +41,7 @@ use denote.Triple.Table.{entered, cited}
 use denote.Triple.Walked.{says, Stays, stay-dropped, walkOf, goes-dropped, Walks, ends-at, walked, walk-meets}
 use denote.Exit.{yes}
 use denote.Triple.Clauses.{ensured, lasts}
-use Rattle.values.specs.Values.{partOf}
+use Rattle.values.specs.Values.{PartOf}
 use Rattle.values.proofs.part as part
 use Rattle.values.proofs.part.Symbol as part-def
 use Rattle.values.proofs.part.Symbol.{name as #values·part}
@@ -91,7 +91,7 @@ module _ {M : Type 1} (𝓤 : URA M) (H : Heap 𝓤) (A : Atoms 𝓤) (W : Given
   Slice = ShrSlice (named 0) κ u8
 
   abbrev Said : RefT (List ℕ) → Type 0
-  Said r = now r ≡ partOf (now (d .body)) (d .at) n
+  Said r = PartOf (d .body) (d .at) n r
 
   abbrev vd : Values (D (κ, tt) .parts)
   vd = (d .body, (d .at, tt))

@@ -11,4 +11,4 @@ address-at-spec =
     (λ c κs. search needs)
     (λ c κs. search needs)
     (λ c κs. search needs)
-    (λ c. rw (← c .before .before .width-of .ensures, ← c .before .part .ensures) (c .padded-to-16 .ensures)))
+    (λ c. rw (← c .before .before .width-of .ensures, ← c .before .part .ensures .octets) (c .padded-to-16 .ensures)))

@@ -1,4 +1,4 @@
-// The library's cookie: its C interface, and the part of the body that it hands out.
+// The parts of the body that the library hands out, the cookie and the NAT detection values: its C interface.
 use reference::outcome::Place;
 
 #[repr(C)]
@@ -16,15 +16,29 @@ extern "C" {
         at: u16,
         cookie_len: u16,
     );
+    fn unmavreth_nat_value(out: *mut COctets, body: *const u8, body_len: usize, at: u16);
 }
 
-/// The part of the body that the library hands out for this place, where its start and its length
-/// say that it is. Nothing is read through its start.
+/// The cookie that the library hands out for this place and length.
 pub fn hand_out(body: &[u8], at: u16, length: u16) -> Place<'_> {
     let mut out = COctets { start: body.as_ptr(), length: 0 };
     // SAFETY: start and length are those of a slice that outlives the call, and so is what `out`
     // holds, an empty part of it.
     unsafe { unmavreth_cookie(&mut out, body.as_ptr(), body.len(), at, length) };
+    part(body, out)
+}
+
+/// The NAT detection value that it hands out for this place.
+pub fn nat_value(body: &[u8], at: u16) -> Place<'_> {
+    let mut out = COctets { start: body.as_ptr(), length: 0 };
+    // SAFETY: as in `hand_out`.
+    unsafe { unmavreth_nat_value(&mut out, body.as_ptr(), body.len(), at) };
+    part(body, out)
+}
+
+/// A part that was handed out, where its start and its length say that it is. Nothing is read
+/// through its start.
+fn part(body: &[u8], out: COctets) -> Place<'_> {
     match out.length {
         0 => Place::default(),
         length => {

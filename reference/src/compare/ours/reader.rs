@@ -1,12 +1,10 @@
 // The library's reader: its C interface, and its readings in the form in which they are compared.
-use super::cookie::hand_out;
+use super::cookie::{hand_out, nat_value};
 use reference::address::{Address, AddressPair};
 use reference::cookie::handed_out;
 use reference::given_list::{given_lists, SeenList};
 use reference::outcome::{Outcome, Place};
 use std::mem::{offset_of, size_of};
-
-const NAT_DETECTION_LENGTH: usize = 20;
 
 /// The two flags are octets here, so that any value the library leaves there may be looked at.
 #[repr(C)]
@@ -25,7 +23,13 @@ struct CSeen {
     no_nats_len: u16,
     cookie: u16,
     cookie_len: u16,
-    addresses: u16,
+    list: CPlaces,
+}
+
+#[repr(C)]
+#[derive(Clone, Copy)]
+struct CPlaces {
+    count: u16,
     places: [u16; 16],
     families: [u8; 16],
 }
@@ -45,8 +49,8 @@ pub(super) struct CAddressList {
 
 const _: () = assert!(size_of::<CSeen>() == 74);
 const _: () = assert!(offset_of!(CSeen, update) == 10 && offset_of!(CSeen, nat_source) == 12);
-const _: () = assert!(offset_of!(CSeen, addresses) == 24);
-const _: () = assert!(offset_of!(CSeen, places) == 26 && offset_of!(CSeen, families) == 58);
+const _: () = assert!(offset_of!(CSeen, list) == 24 && size_of::<CPlaces>() == 50);
+const _: () = assert!(offset_of!(CPlaces, places) == 2 && offset_of!(CPlaces, families) == 34);
 const _: () = assert!(size_of::<CReading>() == 78 && offset_of!(CReading, critical_type) == 1);
 const _: () = assert!(offset_of!(CReading, offset) == 2 && offset_of!(CReading, seen) == 4);
 const _: () = assert!(size_of::<AddressPair>() == 38);
@@ -56,8 +60,8 @@ const _: () = assert!(size_of::<CAddressList>() == 272 && size_of::<Address>() =
 #[link(name = "host", kind = "static")]
 extern "C" {
     fn unmavreth_read(first: u8, body: *const u8, len: usize) -> CReading;
-    fn unmavreth_no_nats(body: *const u8, len: usize, seen: CSeen) -> AddressPair;
-    fn unmavreth_addresses(body: *const u8, len: usize, seen: CSeen) -> CAddressList;
+    fn unmavreth_no_nats(body: *const u8, len: usize, at: u16, no_nats_len: u16) -> AddressPair;
+    fn unmavreth_addresses(body: *const u8, len: usize, list: CPlaces) -> CAddressList;
 }
 
 /// Reads a chain by the library.
@@ -66,23 +70,24 @@ pub fn read(first: u8, body: &[u8]) -> Outcome<'_> {
     // SAFETY: start and length are those of a slice that outlives each call.
     let (reading, no_nats_pair) = unsafe {
         let reading = unmavreth_read(first, start, length);
-        let no_nats_pair = unmavreth_no_nats(start, length, reading.seen);
+        let CSeen { no_nats, no_nats_len, .. } = reading.seen;
+        let no_nats_pair = unmavreth_no_nats(start, length, no_nats, no_nats_len);
         (reading, no_nats_pair)
     };
     outcome(body, reading, no_nats_pair)
 }
 
-/// The list that the library gives for this reading, but with these additional addresses.
-fn give(body: &[u8], seen: CSeen, list: SeenList) -> [Address; 16] {
+/// The list that the library gives for these additional addresses.
+fn give(body: &[u8], list: SeenList) -> [Address; 16] {
     let SeenList { count, places, families } = list;
-    let seen = CSeen { addresses: count, places, families, ..seen };
+    let list = CPlaces { count, places, families };
     // SAFETY: start and length are those of a slice that outlives the call.
-    unsafe { unmavreth_addresses(body.as_ptr(), body.len(), seen) }.list
+    unsafe { unmavreth_addresses(body.as_ptr(), body.len(), list) }.list
 }
 
 fn outcome(body: &[u8], reading: CReading, no_nats_pair: AddressPair) -> Outcome<'_> {
     let seen = reading.seen;
-    let CSeen { addresses: count, places, families, .. } = seen;
+    let CPlaces { count, places, families } = seen.list;
     let told = SeenList { count, places, families };
     let place = |offset, length| Place::in_body(body, usize::from(offset), usize::from(length));
     let cookie = place(seen.cookie, seen.cookie_len);
@@ -97,8 +102,8 @@ fn outcome(body: &[u8], reading: CReading, no_nats_pair: AddressPair) -> Outcome
         first_error: seen.first_error,
         update: seen.update,
         no_additional: seen.no_additional,
-        nat_source: nat_detection(body, seen.nat_source),
-        nat_destination: nat_detection(body, seen.nat_destination),
+        nat_source: nat_value(body, seen.nat_source),
+        nat_destination: nat_value(body, seen.nat_destination),
         cookie,
         handed_out: handed_out(body, cookie, |at, length| hand_out(body, at, length)),
         no_nats: place(seen.no_nats, seen.no_nats_len),
@@ -106,15 +111,7 @@ fn outcome(body: &[u8], reading: CReading, no_nats_pair: AddressPair) -> Outcome
         addresses: usize::from(count),
         address_offsets: places.map(usize::from),
         address_families: families,
-        address_list: give(body, seen, told),
-        given_lists: given_lists(body, told, |list| give(body, seen, list)),
-    }
-}
-
-/// The library tells only where a NAT detection value begins, and 0 if there is none.
-fn nat_detection(body: &[u8], offset: u16) -> Place<'_> {
-    match offset {
-        0 => Place::default(),
-        _ => Place::in_body(body, usize::from(offset), NAT_DETECTION_LENGTH),
+        address_list: give(body, told),
+        given_lists: given_lists(body, told, |list| give(body, list)),
     }
 }

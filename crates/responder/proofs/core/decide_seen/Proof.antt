@@ -10,4 +10,4 @@ decide-seen-spec =
     (tie.spec
     (λ c κs. search needs)
     (λ c κs. search needs)
-    (λ c. rw (← c .before .no-nats .ensures) (c .decide .ensures)))
+    (λ c. rw (← c .before .no-nats-at .ensures) (c .decide .ensures)))

@@ -1,6 +1,6 @@
--- `parts::cookie` meets its contract: a walk of its MIR, by hand. The reader that `reader_at` returns is held in a local and passed to `octets`, whose part is the result. Of the two only their contracts are known.
+-- `parts::data_at` meets its contract: a walk of its MIR, by hand. The reader that `reader_at` returns is held in a local and passed to `octets`, whose part is the result. Of the two only their contracts are known.
 -- Assumes nothing.
-use mathlib.Core.Path.{_≡_, refl, ap, _∙_}
+use mathlib.Core.Path.{_≡_, refl}
 use Prim.Native.Nat.{ℕ, _<_, _^_}
 use mathlib.Core.List.{List, [], _∷_}
 use lib.ListN.{length}
@@ -23,7 +23,7 @@ use denote.RattleType.{RattleType, owns}
 use denote.Laws.{Is, shows}
 use denote.Plain.{uint-makes, uint-vals, uint-tells}
 use denote.Builtin.{u8, u16}
-use denote.Ref.{RefT, NamedLft, now}
+use denote.Ref.{RefT, NamedLft}
 use denote.Signature.{plain, shrSliceOf, namedLft}
 use denote.Slice.{sliceVal, ShrSlice, slice-vals, shr-slice-tells, shr-slice-lawful}
 use denote.Steps.{owned, peeks, heard, nothing}
@@ -36,7 +36,7 @@ use denote.Triple.Table.{entered, cited}
 use denote.Triple.Walked.{says, Stays, stay-dropped, walkOf, goes-dropped, Walks, ends-at, walked, walk-meets}
 use denote.Exit.{yes}
 use denote.Triple.Clauses.{ensured, lasts}
-use Rattle.values.specs.Values.{partOf}
+use Rattle.values.specs.Values.{PartOf}
 use Rattle.parts.specs.declared.PayloadReader.{PayloadReader}
 use Rattle.parts.proofs.PayloadReader as T
 use Rattle.parts.proofs.PayloadReader.Laws as T′
@@ -48,10 +48,10 @@ use Rattle.parts.proofs.octets as octets
 use Rattle.parts.proofs.octets.Symbol as octets-def
 use Rattle.parts.proofs.octets.Symbol.{name as #parts·octets}
 use Rattle.parts.proofs.octets.Met as octets-thm
-use Rattle.parts.proofs.cookie.Key.{name as #parts·cookie}
-use Rattle.parts.proofs.cookie as f
-use Rattle.parts.proofs.cookie.Statement as stated
-use Rattle.parts.proofs.cookie.Code as code
+use Rattle.parts.proofs.data_at.Key.{name as #parts·data-at}
+use Rattle.parts.proofs.data_at as f
+use Rattle.parts.proofs.data_at.Statement as stated
+use Rattle.parts.proofs.data_at.Code as code
 
 -- the reader's type, over the signature's lifetimes
 abbrev B : Lfts 1 → RattleType
@@ -112,12 +112,12 @@ module _ {M : Type 1} (𝓤 : URA M) (H : Heap 𝓤) (A : Atoms 𝓤) (W : Given
       nothing ! $ owned ! u16 (Is u16) (uint-makes 𝓤 H A W w16) n _ (refl, len-fits) $ fjoin ! $ move ! (1 ∷ 0 ∷ []) $ fjoin ! $ move ! (1 ∷ 0 ∷ []) $ join ! $ frame ! $ done !
 
   abbrev Taken : PayloadReader → RefT (List ℕ) → Type 0
-  Taken r x = now x ≡ partOf (now (r .body)) (r .at) n
+  Taken r x = PartOf (r .body) (r .at) n x
 
   taken : (r : PayloadReader) (x : RefT (List ℕ)) → ent 𝓤 (ensured 𝓤 H A octets.ended (octets.clauses 𝓤 H A mem run) (κ, tt) (r, (n, tt)) tt x) (fact 𝓤 (Taken r x))
   taken r x = exE 𝓤 _ (λ ws. snd∗ 𝓤 (sem 𝓤 H A (lasts octets.ended (κ, tt) (r, (n, tt)) ws)) (fact 𝓤 (Taken r x)))
 
-  exits : (x : RefT (List ℕ)) (u : Val) → now x ≡ partOf (now s) (at) n → ent 𝓤 (⋆ 𝓤 H A (‵ (Slice .own x (u ∷ [])) ∷ (‵ (flft κ q) ⊛ ‵ ftrue) ∷ [])) (Post u)
+  exits : (x : RefT (List ℕ)) (u : Val) → PartOf s at n x → ent 𝓤 (⋆ 𝓤 H A (‵ (Slice .own x (u ∷ [])) ∷ (‵ (flft κ q) ⊛ ‵ ftrue) ∷ [])) (Post u)
   exits x u e =
       qed W (‵ (Slice .own x (u ∷ [])) ∷ (‵ (flft κ q) ⊛ ‵ ftrue) ∷ []) ∵
       suffices ! _ (ends-at 𝓤 H A f.ended stayed (f.clauses 𝓤 H A mem run) W (((κ, tt), (q, tt), tt, (s, (at, (n, tt))), vals), tt) u x (tt, (tt, (tt, tt))) (tt, (tt, (tt, tt)))) $ says ! e $
@@ -145,7 +145,7 @@ module _ {M : Type 1} (𝓤 : URA M) (H : Heap 𝓤) (A : Atoms 𝓤) (W : Given
         land ! (from ! (stop !)) (init ! 10 refl (shr-slice-lawful 𝓤 H A W (named 0) κ u8 .typed x _ is′ .0)) $
         returns ! (look ! 10 refl) $ forget ! 2 refl $ forget ! 4 refl $ forget ! 6 refl $ forget ! 8 refl $ forget ! 10 refl $
         move ! (10 ∷ 11 ∷ []) $ free1 ! $ move ! (8 ∷ 9 ∷ []) $ free1 ! $ move ! (6 ∷ 7 ∷ []) $ free1 ! $ move ! (4 ∷ 5 ∷ []) $ free1 ! $ move ! (2 ∷ 3 ∷ []) $ free1 ! $ free0 ! $
-        by ! (exits x u′ (e′ ∙ ap (λ (y : RefT (List ℕ)). partOf (now y) (r .at) n) (e .0) ∙ ap (λ (i : ℕ). partOf (now s) i n) (e .1))))))))))))))))
+        by ! (exits x u′ (rw (e .0, e .1) at e′)))))))))))))))
 
 module _ {M : Type 1} (𝓤 : URA M) (H : Heap 𝓤) (A : Atoms 𝓤) (W : Given 𝓤 H A) (mem : Memory → SProp 𝓤) (run : Routine → Fun 𝓤) (𝓣 : Tables 𝓤 H)
     (known-reader-at : Triple 𝓤 (𝓣 .C #parts·reader-at) (ReaderAt 𝓤 H A mem run)) (known-octets : Triple 𝓤 (𝓣 .C #parts·octets) (Octets 𝓤 H A mem run)) where
@@ -158,11 +158,11 @@ module _ {M : Type 1} (𝓤 : URA M) (H : Heap 𝓤) (A : Atoms 𝓤) (W : Given
       walk-meets 𝓤 H A f.ended stayed W (goes-dropped 𝓤 H A W 1 (shrSliceOf (0 ∷ []) tt (plain (λ _. u8))) yes (λ κs x f. refl), (goes-dropped 𝓤 H A W 1 (plain (λ _. u16)) yes (λ κs x f. refl), (goes-dropped 𝓤 H A W 1 (plain (λ _. u16)) yes (λ κs x f. refl), tt)))
       (f.clauses 𝓤 H A mem run) (WpFn 𝓤 H (𝓣 .C) (𝓣 .Λ) code.function) (WpFn-mono 𝓤 H (W .laws) 𝓣 code.function) walks
 
-pub cookie-spec : {M : Type 1} → stated.statement M
+pub data-at-spec : {M : Type 1} → stated.statement M
 unfolding code.routine tablesOf
-cookie-spec 𝓤 H 𝓜 𝓖 𝓡 =
+data-at-spec 𝓤 H 𝓜 𝓖 𝓡 =
     entered 𝓤 H (tripleOf 𝓤 H (𝓖 .A) f.signature (f.spec 𝓤 H (𝓖 .A) (𝓜 .mem) (𝓡 .run)))
-    (tables 𝓤 H 𝓜 𝓡 code.env .C) (tables 𝓤 H 𝓜 𝓡 code.env .Λ) #parts·cookie code.function (code.unfolded 𝓤 H 𝓜 𝓡)
+    (tables 𝓤 H 𝓜 𝓡 code.env .C) (tables 𝓤 H 𝓜 𝓡 code.env .Λ) #parts·data-at code.function (code.unfolded 𝓤 H 𝓜 𝓡)
     (meets 𝓤 H (𝓖 .A) (givenOf 𝓤 H 𝓜 𝓖) (𝓜 .mem) (𝓡 .run) (tablesOf 𝓤 H 𝓜 (tables 𝓤 H 𝓜 𝓡 code.env))
     (cited 𝓤 H (ReaderAt 𝓤 H (𝓖 .A) (𝓜 .mem) (𝓡 .run)) 𝓜 𝓡 code.env #parts·reader-at reader-at-def.routine code.calls-parts·reader-at (reader-at-thm.met 𝓤 H 𝓜 𝓖 𝓡))
     (cited 𝓤 H (Octets 𝓤 H (𝓖 .A) (𝓜 .mem) (𝓡 .run)) 𝓜 𝓡 code.env #parts·octets octets-def.routine code.calls-parts·octets (octets-thm.met 𝓤 H 𝓜 𝓖 𝓡)))

@@ -1,0 +1,65 @@
+-- The address structs that a reading hands out, taken apart as the writer takes them: their families, and their octets.
+use Prim.Native.Nat.{ℕ, zero, suc, _-_, _≤_, min}
+use mathlib.Core.Path.{_≡_, refl, sym, ap, _∙_}
+use mathlib.Core.List.{List, [], _∷_, _++_, map, zipWith}
+use native.Mathlib.Omega.{arith}
+use lib.ListN.{length, take, replicate}
+use lib.Seq.{take-at, length-take-le}
+use Rattle.octets.specs.Lists.{firstOnly}
+use Rattle.octets.proofs.Pad.{length-copied}
+use Rattle.octets.proofs.Zip.{length-zip}
+use Rattle.address.specs.Address.{addressOf, familiesOf, octetsOf}
+use Rattle.findings.specs.declared.seen.Places.{Places}
+use Rattle.values.specs.Values.{addressAt, additionalOf, addressesIn}
+
+-- a list of sixteen places and families
+abbrev pub Sixteen : Places → Type 0
+Sixteen l = (length (l .places) ≡ 16) × (length (l .families) ≡ 16)
+
+-- what a function makes of the first i elements and of k times z behind them
+map-run : {A B : Type 0} (f : A → B) (z : A) (i k : ℕ) (xs : List A) → map f (take i xs ++ replicate k z) ≡ take i (map f xs) ++ replicate k (f z)
+map-run f z zero zero xs = refl
+map-run f z zero (suc k) xs = ap (λ l. f z ∷ l) (map-run f z zero k xs)
+map-run f z (suc i) zero [] = refl
+map-run f z (suc i) (suc k) [] = ap (λ l. f z ∷ l) (map-run f z (suc i) k [])
+map-run f z (suc i) k (x ∷ xs) = ap (λ l. f x ∷ l) (map-run f z i k xs)
+
+-- families and octets joined to structs come out again
+families-back : (fs : List ℕ) (os : List (List ℕ)) → length fs ≡ length os → familiesOf (zipWith addressOf fs os) ≡ fs
+unfolding zipWith
+families-back [] os e = refl
+families-back (f ∷ fs) [] e = absurd (omega arith)
+families-back (f ∷ fs) (o ∷ os) e = ap (λ l. f ∷ l) (families-back fs os (omega arith))
+
+octets-back : (fs : List ℕ) (os : List (List ℕ)) → length fs ≡ length os → octetsOf (zipWith addressOf fs os) ≡ os
+unfolding zipWith
+octets-back [] [] e = refl
+octets-back [] (o ∷ os) e = absurd (omega arith)
+octets-back (f ∷ fs) [] e = absurd (omega arith)
+octets-back (f ∷ fs) (o ∷ os) e = ap (λ l. o ∷ l) (octets-back fs os (omega arith))
+
+-- what is cut off once stays as it is
+cut-again : {A : Type 0} (z : A) (n : ℕ) (xs : List A) → n ≤ length xs → firstOnly z n (firstOnly z n xs) ≡ firstOnly z n xs
+cut-again z n xs h = rw (take-at (take n xs) (replicate (16 - n) z) n (length-take-le n xs h))
+
+module _ (body : List ℕ) (l : Places) (sized : Sixteen l) where
+  abbrev kept : ℕ
+  kept = min (l .count) 16
+
+  abbrev octets : List (List ℕ)
+  octets = zipWith (addressAt body) (l .places) (l .families)
+
+  long : length octets ≡ 16
+  long = length-zip (addressAt body) (l .places) (l .families) (sized .0 ∙ sym (sized .1)) ∙ sized .0
+
+  pub octets-sixteen : length (additionalOf body l) ≡ 16
+  octets-sixteen = length-copied (replicate 16 0) octets 16 (l .count) long
+
+  pub families-in : familiesOf (addressesIn body l) ≡ firstOnly 0 kept (l .families)
+  families-in =
+      rw (map-run, families-back (l .families) (additionalOf body l) (sized .1 ∙ sym octets-sixteen))
+
+  pub octets-in : octetsOf (addressesIn body l) ≡ additionalOf body l
+  octets-in =
+      rw (map-run, octets-back (l .families) (additionalOf body l) (sized .1 ∙ sym octets-sixteen))
+      (cut-again (replicate 16 0) kept octets (omega (arith, long)))
