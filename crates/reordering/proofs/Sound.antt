@@ -21,7 +21,7 @@ use Rattle.responder.specs.Core.{decisionOn, coreAnswer, changedBy}
 use Rattle.responder.specs.Handle.{Request}
 use Rattle.deciding.specs.declared.decide.Decision.{Decision}
 use Rattle.reordering.specs.Requests.{seenIn, sound}
-use Rattle.reordering.proofs.Steps.{early, entry, core}
+use Rattle.reordering.proofs.Steps.{early, core}
 use Rattle.reordering.proofs.Winner.{counts}
 
 abbrev pub idOf : Request → ℕ
