@@ -1,9 +1,8 @@
 -- Laws that belong to no one function.
-pub mod Keeps
+pub mod Events
 pub mod Steps
-pub mod Alike
-pub mod Apart
 pub mod Winner
 pub mod Sound
 pub mod Freed
+pub mod Held
 pub mod Theorem

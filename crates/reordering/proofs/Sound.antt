@@ -25,7 +25,7 @@ use Rattle.deciding.specs.declared.decide.Effect.the-variants.{None, Done, Stal
 use Rattle.deciding.specs.declared.decide.Verdict.{Verdict}
 use Rattle.deciding.specs.declared.decide.Verdict.the-variants.{Accepted}
 use Rattle.reordering.specs.Requests.{seenIn, sound}
-use Rattle.reordering.proofs.Steps.{early, entry, core}
+use Rattle.reordering.proofs.Steps.{early, core}
 use Rattle.reordering.proofs.Winner.{counts}
 
 abbrev pub idOf : Request → ℕ

@@ -1,70 +1,156 @@
--- One request as a change of its own record and of the IPsec records it owns, and what every request leaves alone.
-use Prim.Native.Nat.{ℕ, _<_}
-use mathlib.Core.Path.{_≡_, refl}
-use mathlib.Core.List.{List, [], map}
-use mathlib.Core.Bool.{Bool, true, false, cond}
+-- A request as a call by its SPI: what it does to the record that it sees, and what it answers.
+use Prim.Native.Nat.{ℕ}
+use mathlib.Core.Path.{_≡_, refl, sym, ap, _∙_}
+use mathlib.Core.List.{[], map, map-id}
+use mathlib.Core.Bool.{Bool, true, false, cond, _&&_, and-false}
+use mathlib.Core.Option.{Option, none, some, Option·map, Option·getD}
+use native.Mathlib.Omega.{arith}
+use native.Mathlib.Decide.{ℕ-discrete}
 use borrow.Author.Tests.{eq-eqb, ne-eqb}
 use lib.Dec.{eqb}
 use lib.ListN.{length, set}
+use Rattle.octets.specs.Flags.{isYes}
 use Rattle.octets.specs.Lists.{placeOf}
-use Rattle.policy.specs.declared.rules.Policy.{Policy}
+use Rattle.octets.proofs.Small.{chosen}
+use Rattle.address.specs.declared.pair.Pair.{Pair}
 use Rattle.values.specs.Values.{partOf}
-use Rattle.tables.specs.Records.{ikeSpi, marksIn, follows}
+use Rattle.policy.specs.declared.rules.Policy.{Policy}
+use Rattle.tables.specs.Records.{ikeSpi, noIke, marksIn, follows}
+use Rattle.tables.specs.Calls.{hasIke, listFits}
 use Rattle.tables.specs.Reached.{Tables, tables}
+use Rattle.tables.specs.View.{View, view, Change, stays, becomes, applied, Proper, BySpi}
+use Rattle.tables.specs.declared.ike.Agreed.{Agreed}
 use Rattle.tables.specs.declared.ike.IkeRecord.{IkeRecord}
-use Rattle.tables.specs.declared.ipsec.IpsecRecord.{IpsecRecord}
-use Rattle.responder.specs.Core.{CoreResult, refusalReply, coreResult, coreResponse}
-use Rattle.responder.specs.Handle.{Request, meant, earlyNumber, handled, handledResponse}
-use Rattle.responder.proofs.Checks.{passed, record-there}
+use Rattle.tables.proofs.View.{found, applied-stays}
+use Rattle.responder.specs.Core.{CoreResult, refusalReply, coreAnswer, coreResult, coreResponse, changedBy}
+use Rattle.responder.specs.Handle.{Request, meant, argumentsFit, recordNumber, checkedNumber, earlyNumber, handled, handledResponse}
+use Rattle.responder.proofs.Checks.{passed}
 use Rattle.reordering.specs.Requests.{step, Answer, answer}
 
 abbrev pub early : Tables → Request → ℕ
 early t q = earlyNumber (t .ike) (t .ipsec) q
 
-abbrev pub place : Tables → Request → ℕ
-place t q = placeOf ikeSpi (q .spi) (t .ike)
+-- What checks 1 to 5 go by beside the request: how many IPsec records are lent, and what was agreed for the record, if there is one.
+pub record Terms : Type 0 where
+  pub lent : ℕ
+  pub agreed : Option Agreed
 
-abbrev pub entry : Tables → Request → IkeRecord
-entry t q = meant (t .ike) (q .spi)
+abbrev pub terms : View → Terms
+terms v = record { lent = v .lent; agreed = Option·map (λ (r : IkeRecord). r .agreed) (v .entry) }
 
--- what an applied update does to the IPsec records, and what any other request does to them
-abbrev pub owners : Bool → Request → List IpsecRecord → List IpsecRecord
-owners b q xs = cond b (map (follows (q .spi) (q .asks .pair)) xs) xs
+abbrev recordNumberOf : Option Agreed → ℕ
+recordNumberOf none = 4
+recordNumberOf (some a) = cond (isYes (a .mobike)) 0 5
 
--- a request's change, where its checks passed
-abbrev pub changed : CoreResult → Request → Tables → Tables
-changed c q t = tables (set (t .ike) (place t q) (c .entry)) (owners (c .moves) q (t .ipsec))
+abbrev pub earlyBy : Request → Terms → ℕ
+earlyBy q w =
+    checkedNumber (eqb (w .lent) 128 && argumentsFit (q .spi) (q .asks .pair) (q .asks .nat-source) (q .asks .nat-destination))
+    (q .room) (length (q .asks .body)) (recordNumberOf (w .agreed))
+
+pub early-is : (q : Request) (t : Tables) → early t q ≡ earlyBy q (terms (view (q .spi) t))
+unfolding recordNumber checkedNumber
+early-is q t = go (eqb (q .spi) 0) refl (hasIke (q .spi) (t .ike)) refl
+  where
+    go : (a : Bool) → eqb (q .spi) 0 ≡ a → (b : Bool) → hasIke (q .spi) (t .ike) ≡ b → early t q ≡ earlyBy q (terms (view (q .spi) t))
+    go true e b f = rw (e, and-false (listFits (t .ipsec)))
+    go false e true f = rw (e, f)
+    go false e false f = rw (e, f)
+
+-- where the checks passed there is a record
+pub passed-seen : (q : Request) (v : View) → earlyBy q (terms v) ≡ 0 → (r : IkeRecord) × (v .entry ≡ some r)
+passed-seen q v e = go (v .entry) (passed _ _ _ _ e .there)
+  where
+    go : (o : Option IkeRecord) → recordNumberOf (Option·map (λ (r : IkeRecord). r .agreed) o) ≡ 0 → (r : IkeRecord) × (o ≡ some r)
+    go none z = absurd (omega arith)
+    go (some r) z = (r, refl)
 
 module _ (policy : Policy) where
   abbrev pub core : Request → IkeRecord → CoreResult
   core q e = coreResult policy (q .asks) e
 
+  -- where the checks passed
+  abbrev pub altered : Request → Option IkeRecord → Change
+  altered q none = stays
+  altered q (some r) = becomes (core q r .entry) (cond (core q r .moves) (some (q .asks .pair)) none)
+
+  abbrev pub does : Request → View → Change
+  does q v = cond (eqb (earlyBy q (terms v)) 0) (altered q (v .entry)) stays
+
   -- the answer by the number of the first five checks and by the record
-  abbrev pub answerAt : Request → ℕ → IkeRecord → Answer
-  answerAt q n e =
+  abbrev answerBy : Request → ℕ → IkeRecord → Answer
+  answerBy q n e =
       let r = cond (eqb n 0) (core q e .reply) (refusalReply n 0 0) in
-      record { reply = r; cookie = partOf (q .asks .body) (r .cookie) (r .«cookie_len»); octets = cond (eqb n 0) (coreResponse policy (q .asks) (marksIn e)) [] }
+      record {
+        reply = r;
+        cookie = partOf (q .asks .body) (r .cookie) (r .«cookie_len»);
+        octets = cond (eqb n 0) (coreResponse policy (q .asks) (marksIn e)) [];
+      }
 
-  pub step-taken : (q : Request) (t : Tables) → early t q ≡ 0 → step policy q t ≡ changed (core q (entry t q)) q t
+  abbrev says : Request → View → Answer
+  says q v = answerBy q (earlyBy q (terms v)) (Option·getD (v .entry) noIke)
+
+  proper : (q : Request) (v : View) → Proper (v .entry) (does q v)
+  unfolding changedBy
+  proper q v = go (v .entry) (eqb (earlyBy q (terms v)) 0)
+    where
+      go : (o : Option IkeRecord) (b : Bool) → Proper o (cond b (altered q o) stays)
+      go none true = refl
+      go none false = refl
+      go (some r) true =
+          chosen (λ (x : IkeRecord). x .spi ≡ r .spi) (coreAnswer policy (q .asks) (marksIn r) .relists) (λ e. refl) (λ e. refl)
+      go (some r) false = tt
+
+  -- where checks 1 to 5 passed
+  moved : (k : ℕ) (t : Tables) (r : IkeRecord) (p : Pair) (b : Bool)
+      → tables (set (t .ike) (placeOf ikeSpi k (t .ike)) r) (cond b (map (follows k p) (t .ipsec)) (t .ipsec))
+      ≡ applied k (becomes r (cond b (some p) none)) t
+  unfolding applied
+  moved k t r p true = refl
+  moved k t r p false = rw (map-id (t .ipsec))
+
+  pub does-taken : (q : Request) (v : View) {r : IkeRecord} → earlyBy q (terms v) ≡ 0 → v .entry ≡ some r → does q v ≡ altered q (some r)
+  does-taken q v e o = rw (eq-eqb (earlyBy q (terms v)) 0 e, o)
+
+  step-taken : (q : Request) (t : Tables) {r : IkeRecord} → early t q ≡ 0 → view (q .spi) t .entry ≡ some r
+      → step policy q t ≡ applied (q .spi) (altered q (some r)) t
   unfolding step handled
-  step-taken q t e = rw (eq-eqb (early t q) 0 e)
+  step-taken q t {r} e o =
+      rw (eq-eqb (early t q) 0 e, found (q .spi) t o .is)
+      (moved (q .spi) t (core q r .entry) (q .asks .pair) (core q r .moves))
 
-  pub step-refused : (q : Request) (t : Tables) → (early t q ≡ 0 → ⊥) → step policy q t ≡ t
+  step-refused : (q : Request) (t : Tables) → (early t q ≡ 0 → ⊥) → step policy q t ≡ t
   unfolding step handled
   step-refused q t n = rw (ne-eqb (early t q) 0 n)
 
-  pub answer-is : (q : Request) (t : Tables) → answer policy q t ≡ answerAt q (early t q) (entry t q)
-  unfolding answer handled handledResponse
-  answer-is q t = go (eqb (early t q) 0) refl
+  pub step-is : (q : Request) (t : Tables) → step policy q t ≡ applied (q .spi) (does q (view (q .spi) t)) t
+  step-is q t = go (ℕ-discrete (early t q) 0)
     where
-      go : (b : Bool) → eqb (early t q) 0 ≡ b → answer policy q t ≡ answerAt q (early t q) (entry t q)
+      go : Dec (early t q ≡ 0) → step policy q t ≡ applied (q .spi) (does q (view (q .spi) t)) t
+      go (yes e) =
+          let passes = sym (early-is q t) ∙ e in
+          let o = passed-seen q (view (q .spi) t) passes .1 in
+          step-taken q t e o ∙ ap (λ (c : Change). applied (q .spi) c t) (sym (does-taken q (view (q .spi) t) passes o))
+      go (no n) = step-refused q t n ∙ sym (rw (← early-is q t, ne-eqb (early t q) 0 n) (applied-stays (q .spi) t))
+
+  answer-by : (q : Request) (t : Tables) → answer policy q t ≡ answerBy q (early t q) (meant (t .ike) (q .spi))
+  unfolding answer handled handledResponse
+  answer-by q t = go (eqb (early t q) 0) refl
+    where
+      go : (b : Bool) → eqb (early t q) 0 ≡ b → answer policy q t ≡ answerBy q (early t q) (meant (t .ike) (q .spi))
       go true e = rw e
       go false e = rw e
 
-  -- a refusal does not look at the record
-  pub refused-alike : (q : Request) (n : ℕ) (e f : IkeRecord) → (n ≡ 0 → ⊥) → answerAt q n e ≡ answerAt q n f
-  refused-alike q n e f z = rw (ne-eqb n 0 z)
+  answer-is : (q : Request) (t : Tables) → answer policy q t ≡ says q (view (q .spi) t)
+  answer-is q t = answer-by q t ∙ go (ℕ-discrete (early t q) 0) ∙ ap (λ (n : ℕ). answerBy q n e) (early-is q t)
+    where
+      e : IkeRecord
+      e = Option·getD (view (q .spi) t .entry) noIke
 
--- where the checks passed, the record is there
-pub there : (t : Tables) (q : Request) → early t q ≡ 0 → place t q < length (t .ike)
-there t q e = record-there (t .ike) (q .spi) (passed _ _ _ _ e .there) .0
+      go : Dec (early t q ≡ 0) → answerBy q (early t q) (meant (t .ike) (q .spi)) ≡ answerBy q (early t q) e
+      go (yes z) =
+          let o = passed-seen q (view (q .spi) t) (sym (early-is q t) ∙ z) .1 in
+          ap (answerBy q (early t q)) (found (q .spi) t o .is ∙ ap (λ (x : Option IkeRecord). Option·getD x noIke) (sym o))
+      go (no n) = rw (ne-eqb (early t q) 0 n)
+
+  pub by-spi : BySpi (λ (q : Request). q .spi) (step policy) (answer policy)
+  by-spi = record { does = does; says = says; proper = proper; step-is = step-is; answer-is = answer-is }

@@ -1,51 +1,36 @@
--- Demand 3, proved: the general laws of `order` at the handler's step.
-use Prim.Native.Nat.{ℕ, _+_}
-use mathlib.Core.Path.{_≡_, refl, sym, ap, _∙_}
-use mathlib.Core.Logic.{_⊎_, inl, inr, ⊎-elim}
+-- Demand 3, proved: the laws of calls that go by their SPI, at the handler's requests.
+use Prim.Native.Nat.{ℕ}
+use mathlib.Core.Path.{_≡_, refl, sym, ap, subst, _∙_}
+use mathlib.Core.Logic.{_⊎_, inl, inr}
 use mathlib.Core.List.{List, [], _∷_}
-use mathlib.Core.Bool.{Bool, true, false, cond, _&&_}
+use mathlib.Core.Bool.{Bool, true}
 use native.Mathlib.Decide.{ℕ-discrete}
-use borrow.Author.Tests.{eq-eqb, ne-eqb}
-use lib.Dec.{leb}
-use Rattle.order.specs.Order.{All, Pairwise, after, Update, Held, latest}
-use Rattle.order.proofs.Orders.{order-pairs}
-use Rattle.order.proofs.Answers.{keeps-state, keeps-answers}
-use Rattle.order.proofs.Latest.{latest-is-greatest}
+use lib.ListN.{length}
+use Rattle.order.specs.Order.{All, Pairwise, Held}
+use Rattle.order.proofs.Orders.{order-pairs, all-map}
 use Rattle.address.specs.declared.pair.Pair.{Pair}
 use Rattle.policy.specs.declared.rules.Policy.{Policy}
 use Rattle.tables.specs.Reached.{Tables}
+use Rattle.tables.specs.View.{inUse, View, view}
 use Rattle.tables.specs.declared.ike.IkeRecord.{IkeRecord}
-use Rattle.responder.specs.Handle.{Request, request, meant}
-use Rattle.reordering.specs.Requests.{step, answer, Apart, seenIn, sound, updatesFor, pairHeld}
+use Rattle.responder.specs.Handle.{Request}
+use Rattle.reordering.specs.Requests.{step, Apart, sound, pairHeld}
 use Rattle.reordering.specs.Reordering.{AnswersKept, TablesKept, AnyOrder}
-use Rattle.reordering.proofs.Alike.{Alike, alike-self, early-alike, step-alike}
-use Rattle.reordering.proofs.Apart.{apart, entry-stays}
-use Rattle.reordering.proofs.Sound.{idOf, advanced, sound-parts}
-use Rattle.reordering.proofs.Freed.{swap-sound, entry-sound}
+use Rattle.reordering.proofs.Events as events
+use Rattle.reordering.proofs.Steps.{Terms, terms, earlyBy, early-is, passed-seen, by-spi}
+use Rattle.reordering.proofs.Sound.{idOf, sound-parts}
+use Rattle.reordering.proofs.Freed.{seeing, Taken, view-sound, swap-sound}
+use Rattle.reordering.proofs.Held.{pair-held}
 
 -- what every element has, every two have
-pairs-have : {R : Type 0} (P : R → Type 0) (Q : R → R → Type 0) (xs : List R) → All P xs → Pairwise Q xs → Pairwise (λ (x y : R). P x × P y × Q x y) xs
+pairs-have : {R : Type 0} (P : R → Type 0) (Q : R → R → Type 0) (xs : List R) → All P xs → Pairwise Q xs
+    → Pairwise (λ (x y : R). P x × P y × Q x y) xs
 pairs-have P Q [] a p = tt
 pairs-have {R} P Q (x ∷ xs) a p = (beside xs (a .1) (p .0), pairs-have P Q xs (a .1) (p .1))
   where
     beside : (ys : List R) → All P ys → All (Q x) ys → All (λ (y : R). P x × P y × Q x y) ys
     beside [] b q = tt
     beside (y ∷ ys) b q = ((a .0, b .0, q .0), beside ys (b .1) (q .1))
-
-abbrev heldBy : IkeRecord → Held Pair
-heldBy e = record { mark = e .«update_mark»; value = e .pair }
-
--- one update that may be there, on what is held
-settle-one : (up : Bool) (id : ℕ) (p : Pair) (h : Held Pair) (us : List (Update Pair))
-    → after latest h (cond up (record { id = id; value = p } ∷ us) us)
-    ≡ after latest (record { mark = cond (up && leb (h .mark) id) (id + 1) (h .mark); value = cond (up && leb (h .mark) id) p (h .value) }) us
-unfolding latest
-settle-one false id p h us = refl
-settle-one true id p h us = ap (λ (x : Held Pair). after latest x us) (go (leb (h .mark) id))
-  where
-    go : (b : Bool) → _≡_ {A = Held Pair} (cond b (record { mark = id + 1; value = p }) h) (record { mark = cond b (id + 1) (h .mark); value = cond b p (h .value) })
-    go true = refl
-    go false = refl
 
 module _ (policy : Policy) (t : Tables) where
   -- two requests of one SPI, sound on t, with different IDs
@@ -55,71 +40,67 @@ module _ (policy : Policy) (t : Tables) where
     second : sound policy t r ≡ true
     distinct : idOf q ≡ idOf r → ⊥
 
-  May : Request → Request → Type 0
-  May q r = Apart t q r ⊎ Both q r
+  -- the terms of k are those of the starting tables
+  abbrev Same : ℕ → Tables → Type 0
+  Same k s = terms (view k s) ≡ terms (view k t)
 
-  swap : (s : Tables) → Alike t s → (q r : Request) → May q r → step policy r (step policy q s) ≡ step policy q (step policy r s)
-  unfolding May
-  swap s a q r = ⊎-elim (λ x. apart policy t s a q r x .0) sounds
-    where
-      sounds : Both q r → step policy r (step policy q s) ≡ step policy q (step policy r s)
-      sounds b =
-          let x = sound-parts policy t q (b .first) in
-          let y = sound-parts policy t r (b .second) in
-          swap-sound policy s (q .spi) q r refl (sym (b .same)) (early-alike t s a q ∙ x .0) (early-alike t s a r ∙ y .0) (x .1) (y .1) (b .distinct)
+  taken : (k : ℕ) (q : Request) → q .spi ≡ k → sound policy t q ≡ true → Taken policy k (terms (view k t)) q
+  taken k q e w =
+      let parts = sound-parts policy t q w in
+      record { spi = e; passes = ap (λ (i : ℕ). earlyBy q (terms (view i t))) (sym e) ∙ sym (early-is q t) ∙ parts .0; fine = parts .1 }
 
-  -- the pair and mark of an SPI after a request, and the update that it carries
-  held-step : (k : ℕ) (s : Tables) → Alike t s → (q : Request) (qs : List Request) → (q .spi ≡ k → sound policy t q ≡ true)
-      → after latest (pairHeld k s) (updatesFor k (q ∷ qs)) ≡ after latest (pairHeld k (step policy q s)) (updatesFor k qs)
-  unfolding updatesFor
-  held-step k s a q qs f = go (ℕ-discrete (q .spi) k)
-    where
-      go : Dec (q .spi ≡ k) → after latest (pairHeld k s) (updatesFor k (q ∷ qs)) ≡ after latest (pairHeld k (step policy q s)) (updatesFor k qs)
-      go (no n) =
-          let other = entry-stays policy s q (request k (q .asks) 0) n in
-          rw (ne-eqb (q .spi) k n) (ap (λ (e : IkeRecord). after latest (heldBy e) (updatesFor k qs)) (sym other))
-      go (yes e) =
-          let x = sound-parts policy t q (f e) in
-          let new = ap (meant (step policy q s .ike)) (sym e) ∙ entry-sound policy s q (early-alike t s a q ∙ x .0) (x .1) ∙ ap (λ (i : ℕ). advanced q (meant (s .ike) i)) e in
-          rw (eq-eqb (q .spi) k e)
-          (settle-one (seenIn q .update) (idOf q) (q .asks .pair) (pairHeld k s) (updatesFor k qs)
-          ∙ ap (λ (r : IkeRecord). after latest (heldBy r) (updatesFor k qs)) (sym new))
+  -- A request for k that is sound on t sees a record on s, and is sound there too.
+  module _ (k : ℕ) (s : Tables) where
+    record Seen : Type 0 where
+      entry : IkeRecord
+      whole : view k s ≡ seeing entry (length (s .ipsec))
+      fits : (q : Request) → q .spi ≡ k → sound policy t q ≡ true → Taken policy k (terms (seeing entry (length (s .ipsec)))) q
 
-  held-all : (freed : ℕ → Bool) (k : ℕ) → freed k ≡ true → (s : Tables) → Alike t s → (qs : List Request)
-      → All (λ (q : Request). freed (q .spi) ≡ true → sound policy t q ≡ true) qs
-      → pairHeld k (after (step policy) s qs) ≡ after latest (pairHeld k s) (updatesFor k qs)
-  unfolding updatesFor
-  held-all freed k e s a [] f = refl
-  held-all freed k e s a (q ∷ qs) f =
-      held-all freed k e (step policy q s) (step-alike policy t q s a) qs (f .1)
-      ∙ sym (held-step k s a q qs (λ p. f .0 (ap freed p ∙ e)))
+    seen : Same k s → (q : Request) → q .spi ≡ k → sound policy t q ≡ true → Seen
+    seen same q p w =
+        let x = passed-seen q (view k s) (ap (earlyBy q) same ∙ taken k q p w .passes) in
+        let whole : view k s ≡ seeing (x .0) (length (s .ipsec)) = λ i. record { entry = x .1 i; lent = length (s .ipsec) } in
+        record {
+          entry = x .0;
+          whole = whole;
+          fits = λ r o v. subst (λ (u : Terms). Taken policy k u r) (sym same ∙ ap terms whole) (taken k r o v);
+        }
 
-  answers-kept : (qs rs : List Request) → AnswersKept policy t qs rs
-  answers-kept qs rs o = keeps-answers (step policy) (Apart t) (Alike t) (step-alike policy t) (answer policy) (apart policy t) t (alike-self t) o
+  keep : (q : Request) → sound policy t q ≡ true → (s : Tables) → Same (q .spi) s → Same (q .spi) (step policy q s)
+  keep q w s same =
+      let x = seen (q .spi) s same q refl w in
+      ap terms (view-sound policy (q .spi) s (x .whole) q (x .fits q refl w)) ∙ ap terms (sym (x .whole)) ∙ same
+
+  swap : (q r : Request) → Both q r → (s : Tables) → Same (q .spi) s
+      → step policy r (step policy q s) ≡ step policy q (step policy r s)
+  swap q r b s same =
+      let x = seen (q .spi) s same q refl (b .first) in
+      swap-sound policy (q .spi) s (x .whole) q r (x .fits q refl (b .first)) (x .fits r (sym (b .same)) (b .second)) (b .distinct)
 
   tables-kept : (qs rs : List Request) → TablesKept policy t qs rs
-  unfolding May
   tables-kept qs rs freed sounds distinct o =
       let P : Request → Type 0 = λ (q : Request). freed (q .spi) ≡ true → sound policy t q ≡ true in
       let Q : Request → Request → Type 0 = λ (q r : Request). freed (q .spi) ≡ true → q .spi ≡ r .spi → idOf q ≡ idOf r → ⊥ in
       let may = order-pairs (λ (q r : Request). P q × P r × Q q r) o (pairs-have P Q qs sounds distinct) weaken in
-      let same = keeps-state (step policy) May (Alike t) (step-alike policy t) swap t (alike-self t) may in (
+      let same = events.tables-kept (by-spi policy) t terms freed P Both (λ q f e. keep q (f e)) swap sounds may in (
         same,
-        λ k e.
+        λ k u e.
             ap (λ (x : Tables). pairHeld k x .value) (sym same)
-            ∙ ap (λ (h : Held Pair). h .value) (held-all freed k e t (alike-self t) qs sounds ∙ latest-is-greatest (updatesFor k qs) (pairHeld k t)),
+            ∙ ap (λ (h : Held Pair). h .value) (pair-held policy k t u qs (all-map (λ q f x. taken k q x (f (ap freed x ∙ e))) qs sounds)),
       )
     where
       weaken : (q r : Request) → Apart t q r ⊎ (freed (q .spi) ≡ true)
-          → (freed (q .spi) ≡ true → sound policy t q ≡ true) × (freed (r .spi) ≡ true → sound policy t r ≡ true) × (freed (q .spi) ≡ true → q .spi ≡ r .spi → idOf q ≡ idOf r → ⊥)
-          → Apart t q r ⊎ Both q r
+          → (freed (q .spi) ≡ true → sound policy t q ≡ true)
+          × (freed (r .spi) ≡ true → sound policy t r ≡ true)
+          × (freed (q .spi) ≡ true → q .spi ≡ r .spi → idOf q ≡ idOf r → ⊥)
+          → Apart t q r ⊎ ((freed (q .spi) ≡ true) × Both q r)
       weaken q r (inl x) h = inl x
       weaken q r (inr e) h = go (ℕ-discrete (q .spi) (r .spi))
         where
-          go : Dec (q .spi ≡ r .spi) → Apart t q r ⊎ Both q r
-          go (yes p) = inr (record { same = p; first = h .0 e; second = h .1 (ap freed (sym p) ∙ e); distinct = h .2 e p })
+          go : Dec (q .spi ≡ r .spi) → Apart t q r ⊎ ((freed (q .spi) ≡ true) × Both q r)
+          go (yes p) = inr (e, record { same = p; first = h .0 e; second = h .1 (ap freed (sym p) ∙ e); distinct = h .2 e p })
           go (no n) = inl (inl n)
 
 -- Demand 3.
 pub any-order : AnyOrder
-any-order policy t qs rs = (answers-kept policy t qs rs, tables-kept policy t qs rs)
+any-order policy t qs rs = (events.answers-kept (by-spi policy) t, tables-kept policy t qs rs)

@@ -7,6 +7,7 @@ use mathlib.Core.Bool.{Bool, true}
 use Rattle.order.specs.Order.{All, Pairwise, Order, after, answered, FreeAnswered, greatest, settled}
 use Rattle.policy.specs.declared.rules.Policy.{Policy}
 use Rattle.tables.specs.Reached.{Tables}
+use Rattle.tables.specs.View.{inUse}
 use Rattle.responder.specs.Handle.{Request}
 use Rattle.reordering.specs.Requests.{step, answer, Apart, sound, updatesFor, pairHeld}
 
@@ -29,6 +30,7 @@ AnswersKept policy t qs rs =
 --   `freed` picks the IKE SAs that are freed, by their SPIs; any of those that may be.
 --   "all sound", on the starting tables t; "no two of them have the same message ID": of the requests for a freed SPI.
 --   "keeps the sequence of all other IKE SAs": two requests may change places if they are apart or the first one's SPI is freed.
+--   "each IKE SA so freed": a freed SPI that a record of the starting tables has.
 --   `settled (greatest ..)`: the greatest update if its ID exceeds the mark, else what was held.
 abbrev pub TablesKept : Policy → Tables → List Request → List Request → Type 0
 TablesKept policy t qs rs =
@@ -37,7 +39,7 @@ TablesKept policy t qs rs =
     → Pairwise (λ (q r : Request). freed (q .spi) ≡ true → q .spi ≡ r .spi → q .asks .id ≡ r .asks .id → ⊥) qs
     → Order (λ (q r : Request). Apart t q r ⊎ (freed (q .spi) ≡ true)) qs rs
     → (after (step policy) t qs ≡ after (step policy) t rs)
-    × ((k : ℕ) → freed k ≡ true
+    × ((k : ℕ) → inUse k t ≡ true → freed k ≡ true
     → pairHeld k (after (step policy) t rs) .value ≡ settled (greatest (updatesFor k qs)) (pairHeld k t) .value)
 
 -- Both halves, "from any tables and policy": those not reached from empty ones and an IPsec list of any length included.

@@ -11,8 +11,8 @@ use Rattle.values.specs.Values.{partOf, noNatsSeen}
 use Rattle.findings.specs.declared.seen.Seen.{Seen}
 use Rattle.policy.specs.declared.rules.Policy.{Policy}
 use Rattle.reader.specs.Chain.{reading}
-use Rattle.tables.specs.Calls.{hasIke}
 use Rattle.tables.specs.Reached.{Tables, tables}
+use Rattle.tables.specs.View.{inUse}
 use Rattle.deciding.specs.Decide.{isAccepted, verdict}
 use Rattle.responder.specs.Handle.{Request, meant, earlyNumber, handled, handledResponse}
 use Rattle.responder.specs.declared.core.Reply.{Reply}
@@ -32,10 +32,6 @@ unfoldable pub answer : Policy → Request → Tables → Answer
 answer policy q t =
     let r = handled policy (t .ike) (t .ipsec) q .reply in
     record { reply = r; cookie = partOf (q .asks .body) (r .cookie) (r .«cookie_len»); octets = handledResponse policy (t .ike) (t .ipsec) q }
-
--- An IKE SA of these tables has this SPI. 0 is no SPI, whatever place is free.
-abbrev pub inUse : ℕ → Tables → Bool
-inUse spi t = not (eqb spi 0) && hasIke spi (t .ike)
 
 -- Two requests that belong to no common IKE SA of the starting tables: they give different SPIs, or one that no record has.
 abbrev pub Apart : Tables → Request → Request → Type 0

@@ -5,3 +5,7 @@ pub mod Changed
 pub mod Reached
 pub mod Lookup
 pub mod Undone
+pub mod View
+pub mod Own
+pub mod BySpi
+pub mod Closing

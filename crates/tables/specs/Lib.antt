@@ -3,3 +3,4 @@ pub mod Calls
 pub mod Changes
 pub mod Reached
 pub mod Opened
+pub mod View
