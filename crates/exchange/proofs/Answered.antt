@@ -25,7 +25,7 @@ use Rattle.reader.specs.Chain.{reading}
 use Rattle.responding.specs.Respond.{nextFor, cookieNotify, doneResponse}
 use Rattle.responder.specs.Core.{firstOf, cookieIn, wantsNats, decisionOn, decidedOctets, coreAnswer, coreResponse}
 use Rattle.responder.specs.Handle.{Request as Received, meant, recordNumber, checkedNumber, earlyNumber, handled, handledResponse}
-use Rattle.responder.proofs.Refused.{decision-of}
+use Rattle.numbers.proofs.Decisions.{decision-of}
 use Rattle.responder.proofs.Checks.{passed, lent-fit}
 use Rattle.requests.specs.Request.{Request, request, ifAsked, natNotifies, cookieNotifies, requested, requestFits, requestOctets, cookieFits}
 use Rattle.requests.specs.declared.request.Written.{Written}
@@ -137,7 +137,7 @@ module _ (q : Request) (z : Sized q) (fits : requestFits q ≡ true) (policy : P
   module _ (m : Marks) where
     core-fine : Other (coreAnswer policy (r .asks) m .reply .number)
     unfolding coreAnswer
-    core-fine = rw (eq-eqb (reading (r .asks .first) (r .asks .body) .number) 0 (back .number)) (decision-of Other (omega arith) (omega arith) (omega arith) policy (r .asks) m)
+    core-fine = rw (eq-eqb (reading (r .asks .first) (r .asks .body) .number) 0 (back .number)) (decision-of Other (omega arith) (omega arith) (omega arith) policy r m)
 
     module _ (s : length (r .asks .nat-source) ≡ 20) (d : length (r .asks .nat-destination) ≡ 20) where
       core-accepted : coreAnswer policy (r .asks) m .reply .number ≡ 0

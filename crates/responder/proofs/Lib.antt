@@ -3,4 +3,3 @@ pub mod Lengths
 pub mod Ways
 pub mod Checks
 pub mod Looked
-pub mod Refused
