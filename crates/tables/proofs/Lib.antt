@@ -1,7 +1,4 @@
 -- Laws that belong to no one function.
-pub mod Consistent
 pub mod Cases
 pub mod Changed
-pub mod Reached
 pub mod Lookup
-pub mod Undone
