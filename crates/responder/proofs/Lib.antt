@@ -3,5 +3,4 @@ pub mod Lengths
 pub mod Ways
 pub mod Checks
 pub mod Looked
-pub mod Refused
 pub mod Counted

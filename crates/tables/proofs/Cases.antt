@@ -33,6 +33,7 @@ both-or-neither ike ipsec o = go (eqb number 0) refl
         inl (record {
           named = eqb-false (o .spi) 0 (not-true _ (child .0));
           child-named = eqb-false (o .child) 0 (not-true _ (both (not (eqb (o .child) 0)) _ (child .1) .0));
+          fits = both (not (eqb (o .child) 0)) _ (child .1) .1;
           new = ltb-false _ _ (p .1 .0);
           child-new = ltb-false _ _ (p .1 .1 .0);
           room = ltb-true _ _ (not-false _ (p .1 .1 .1 .0));

@@ -1,14 +1,11 @@
 -- What a lookup finds after an opening or a closing.
 use Prim.Native.Nat.{ℕ, _<_, _≤_}
-use mathlib.Core.Path.{_≡_, refl, sym, ap, _∙_}
+use mathlib.Core.Path.{_≡_, refl, sym, _∙_}
 use mathlib.Core.List.{List}
 use native.Mathlib.Omega.{arith}
-use native.Mathlib.Decide.{decLt, ℕ-discrete}
-use lib.ListN.{length, getD, set, length-set}
-use lib.Seq.{getD-set-same, getD-set-other}
+use lib.ListN.{length, set}
 use Rattle.octets.specs.Lists.{placeOf}
-use Rattle.octets.proofs.Places.{place-within, place-has, store-other, store-found}
-use Rattle.tables.specs.Reached.{Distinct}
+use Rattle.octets.proofs.Places.{place-has, store-other, store-found}
 
 -- Of either table: the key tells an IKE record from an IPsec record.
 module _ {A : Type 0} (key : A → ℕ) (d : A) (xs : List A) where
@@ -22,34 +19,7 @@ module _ {A : Type 0} (key : A → ℕ) (d : A) (xs : List A) where
       → placeOf key k (set xs (placeOf key 0 xs) y) ≡ placeOf key k xs
   others-opened y k room n m = store-other key k y xs (placeOf key 0 xs) d room (λ e. n (sym e ∙ place-has key 0 xs d room)) m
 
-  module _ (k : ℕ) (y : A) (there : placeOf key k xs < length xs) (closed : key y ≡ 0) where
-    -- closing changes no other lookup
-    pub others-closed : (l : ℕ) → (l ≡ 0 → ⊥) → (k ≡ l → ⊥) → placeOf key l (set xs (placeOf key k xs) y) ≡ placeOf key l xs
-    others-closed l n m =
-        store-other key l y xs (placeOf key k xs) d there (λ e. m (sym (place-has key k xs d there) ∙ e)) (λ e. n (sym e ∙ closed))
-
-    -- and where no key stands twice, what was closed is found no more
-    pub finds-closed : Distinct key d xs → (k ≡ 0 → ⊥) → placeOf key k (set xs (placeOf key k xs) y) ≡ length xs
-    finds-closed once n = go (decLt q (length xs))
-      where
-        p : ℕ
-        p = placeOf key k xs
-
-        q : ℕ
-        q = placeOf key k (set xs p y)
-
-        within : q ≤ length xs
-        within = rw (← length-set xs p y) (place-within key k (set xs p y))
-
-        here : q < length xs → key (getD (set xs p y) q d) ≡ k
-        here l = place-has key k (set xs p y) d (rw (length-set xs p y) l)
-
-        not-here : q < length xs → Dec (q ≡ p) → ⊥
-        not-here l (yes e) = n (sym (here l) ∙ ap key (rw e (getD-set-same xs p y d there)) ∙ closed)
-        not-here l (no e) =
-            let old = sym (ap key (getD-set-other xs p q y d e)) ∙ here l in
-            e (once q p l there (old ∙ sym (place-has key k xs d there)) (λ z. n (sym old ∙ z)))
-
-        go : Dec (q < length xs) → q ≡ length xs
-        go (yes l) = absurd (not-here l (ℕ-discrete q p))
-        go (no l) = omega (arith, within)
+  -- closing changes no other lookup
+  pub others-closed : (k : ℕ) (y : A) → placeOf key k xs < length xs → key y ≡ 0 → (l : ℕ) → (l ≡ 0 → ⊥) → (k ≡ l → ⊥) → placeOf key l (set xs (placeOf key k xs) y) ≡ placeOf key l xs
+  others-closed k y there closed l n m =
+      store-other key l y xs (placeOf key k xs) d there (λ e. m (sym (place-has key k xs d there) ∙ e)) (λ e. n (sym e ∙ closed))

@@ -1,22 +1,24 @@
--- What is claimed of an opening: both records or neither, from any tables, and that closing gives back the tables that calls reach.
+-- What is claimed of an opening: both records or neither, from any tables.
 use Prim.Native.Nat.{_<_, _≤_}
 use mathlib.Core.Path.{_≡_}
 use mathlib.Core.Logic.{_⊎_}
 use mathlib.Core.List.{List}
+use mathlib.Core.Bool.{true}
 use lib.ListN.{length, set}
 use Rattle.octets.specs.Lists.{placeOf}
+use Rattle.address.specs.Address.{pairFits}
 use Rattle.tables.specs.Records.{ikeSpi, ipsecSpi, ikeOf, childOf}
-use Rattle.tables.specs.Calls.{tablesAnswer, openBoth, closeIke}
-use Rattle.tables.specs.Reached.{Call, afterAll, empty}
+use Rattle.tables.specs.Calls.{tablesAnswer, openBoth}
 use Rattle.tables.specs.declared.calls.Opening.{Opening}
 use Rattle.tables.specs.declared.ike.IkeRecord.{IkeRecord}
 use Rattle.tables.specs.declared.ipsec.IpsecRecord.{IpsecRecord}
 
 module _ (ike : List IkeRecord) (ipsec : List IpsecRecord) (o : Opening) where
-  -- both SPIs are new, and each record stands at the lowest free place of its table
+  -- the pair fits, both SPIs are new, and each record stands at the lowest free place of its table
   pub record BothOpened : Type 0 where
     pub named : o .spi ≡ 0 → ⊥
     pub child-named : o .child ≡ 0 → ⊥
+    pub fits : pairFits (o .pair) ≡ true
     pub new : length ike ≤ placeOf ikeSpi (o .spi) ike
     pub child-new : length ipsec ≤ placeOf ipsecSpi (o .child) ipsec
     pub room : placeOf ikeSpi 0 ike < length ike
@@ -33,11 +35,3 @@ module _ (ike : List IkeRecord) (ipsec : List IpsecRecord) (o : Opening) where
 -- E1: "one call opens both or neither", whatever its number.
 abbrev pub BothOrNeither : Type 0
 BothOrNeither = (ike : List IkeRecord) (ipsec : List IpsecRecord) (o : Opening) → BothOpened ike ipsec o ⊎ NeitherOpened ike ipsec o
-
--- In tables that calls reach from empty ones, closing what was just opened leaves no trace of it.
-abbrev pub ClosingUndoes : Type 0
-ClosingUndoes =
-    (cs : List Call) (o : Opening)
-    → let t = afterAll empty cs in
-    let r = openBoth (t .ike) (t .ipsec) o in
-    r .number ≡ 0 → closeIke (r .ike) (r .ipsec) (o .spi) ≡ tablesAnswer 0 (t .ike) (t .ipsec)

@@ -11,15 +11,18 @@ use lib.Seq.{set-set, set-getD, ext-getD}
 use Rattle.octets.specs.Lists.{placeOf}
 use Rattle.octets.proofs.Small.{chosen}
 use Rattle.octets.proofs.Places.{place-has}
 use Rattle.tables.specs.Records.{ikeSpi, ipsecSpi, ikeOf, childOf, noIke, noIpsec, released}
 use Rattle.tables.specs.Calls.{tablesAnswer, closeIke}
-use Rattle.tables.specs.Reached.{Tables, Cleared, WellFormed, afterAll, empty}
-use Rattle.tables.specs.Opened.{BothOpened, ClosingUndoes}
+use Rattle.tables.specs.Reached.{Tables}
+use Rattle.tables.specs.Opened.{BothOpened}
 use Rattle.tables.specs.declared.calls.Opening.{Opening}
 use Rattle.tables.specs.declared.ipsec.IpsecRecord.{IpsecRecord}
 use Rattle.tables.proofs.Lookup.{finds-opened}
 use Rattle.tables.proofs.Cases.{both-or-neither}
-use Rattle.tables.proofs.Reached.{reached}
+use Rattle.reached.specs.WellFormed.{Cleared, WellFormed}
+use Rattle.reached.specs.Reached.{afterAll, empty}
+use Rattle.reached.specs.Undone.{ClosingUndoes}
+use Rattle.reached.proofs.Reached.{reached}
 
 map-set : {A : Type 0} (f : A → A) (xs : List A) (i : ℕ) (x : A) → map f (set xs i x) ≡ set (map f xs) i (f x)
 map-set f [] i x = refl
@@ -76,6 +79,6 @@ module _ (t : Tables) (w : WellFormed t) (o : Opening) (b : BothOpened (t .ike) 
       )
 
 pub closing-undoes : ClosingUndoes
-closing-undoes cs o done =
+closing-undoes cs typed o done =
     let t = afterAll empty cs in
-    ⊎-elim (λ b. rw (b .is) (undone t (reached cs) o b)) (λ n. absurd (n .refused done)) (both-or-neither (t .ike) (t .ipsec) o)
+    ⊎-elim (λ b. rw (b .is) (undone t (reached cs typed) o b)) (λ n. absurd (n .refused done)) (both-or-neither (t .ike) (t .ipsec) o)

@@ -1,0 +1,60 @@
+-- What the core comes to on a record, by what is decided on the record's marks.
+use Prim.Native.Nat.{ℕ, min}
+use mathlib.Core.Path.{_≡_, refl}
+use mathlib.Core.List.{List}
+use mathlib.Core.Bool.{Bool, true, false, cond}
+use borrow.Author.Tests.{eq-eqb, ne-eqb}
+use lib.ListN.{length}
+use Rattle.findings.specs.Values.{addressesIn}
+use Rattle.policy.specs.declared.rules.Policy.{Policy}
+use Rattle.reader.specs.Chain.{reading}
+use Rattle.tables.specs.Records.{marksIn, rewritten, remarked, relisted}
+use Rattle.tables.specs.declared.ike.IkeRecord.{IkeRecord}
+use Rattle.tables.specs.declared.ike.Marks.{Marks}
+use Rattle.responder.specs.Core.{decidedResponse, chainError, decisionOn, coreAnswer, coreResponse, coreResult, changedBy}
+use Rattle.responder.specs.Handle.{Request}
+use Rattle.numbers.specs.Numbers.{seenIn}
+use Rattle.numbers.proofs.Decisions.{Comes}
+
+-- the number that reading the chain gives
+abbrev pub chainNumber : Request → ℕ
+chainNumber q = reading (q .asks .first) (q .asks .body) .number
+
+-- the record after a decision: whether it moves (u), whether its list is replaced (l), and its marks and tally (m)
+abbrev pub entryBy : Request → IkeRecord → Bool → Bool → Marks → IkeRecord
+entryBy q e u l m =
+    let list = seenIn q .list in
+    rewritten (cond u (q .asks .pair) (e .pair)) (m .«update_mark») (m .«list_mark») (cond l (min (list .count) 16) (e .count))
+    (cond l (addressesIn (q .asks .body) list) (e .addresses)) (m .unknown) e
+
+-- number, octets with the length told, the record after it, and whether what it owns follows
+pub record CoreComes (policy : Policy) (q : Request) (e : IkeRecord) (n : ℕ) (response : List ℕ) (after : IkeRecord) (u : Bool) : Type 0 where
+  pub number : coreResult policy (q .asks) e .reply .number ≡ n
+  pub octets : coreResponse policy (q .asks) (marksIn e) ≡ response
+  pub long : coreResult policy (q .asks) e .reply .length ≡ length response
+  pub entry : coreResult policy (q .asks) e .entry ≡ after
+  pub moves : coreResult policy (q .asks) e .moves ≡ u
+
+module _ (policy : Policy) (q : Request) (e : IkeRecord) where
+  pub core-refused : (chainNumber q ≡ 0 → ⊥) → CoreComes policy q e (chainNumber q) (chainError (reading (q .asks .first) (q .asks .body))) e false
+  unfolding coreAnswer coreResponse changedBy
+  core-refused n = let g = ne-eqb (chainNumber q) 0 n in record { number = rw g; octets = rw g; long = rw g; entry = rw g; moves = rw g }
+
+  pub core-decided : chainNumber q ≡ 0 → {n : ℕ} {u l : Bool} {m : Marks} → Comes n u l m (decisionOn policy (q .asks) (marksIn e))
+      → CoreComes policy q e n (decidedResponse n (q .asks) (seenIn q)) (entryBy q e u l m) u
+  unfolding coreAnswer coreResponse changedBy
+  core-decided w {n} {u} {l} {m} c =
+      let g = eq-eqb (chainNumber q) 0 w in
+      record {
+        number = rw g (c .number);
+        octets = rw (g, c .number);
+        long = rw (g, c .number);
+        entry = rw (g, c .moves, c .relists, c .marks) (go l);
+        moves = rw g (c .moves);
+      }
+    where
+      go : (b : Bool)
+          → let new = remarked m u (q .asks .pair) e in
+          cond b (relisted (min (seenIn q .list .count) 16) (addressesIn (q .asks .body) (seenIn q .list)) new) new ≡ entryBy q e u b m
+      go true = refl
+      go false = refl

@@ -1,0 +1,7 @@
+-- Laws that belong to no one function.
+pub mod Checks
+pub mod Decisions
+pub mod Cores
+pub mod Ways
+pub mod Numbers
+pub mod Marks

@@ -1,0 +1,109 @@
+-- What a request can come to: refused by a check 1 to 5, by its chain, or decided on the record that it means.
+use Prim.Native.Nat.{ℕ, _+_, _≤_}
+use mathlib.Core.Path.{_≡_, refl, ap, _∙_}
+use mathlib.Core.Logic.{_⊎_, inl, inr}
+use mathlib.Core.List.{List, [], map}
+use mathlib.Core.Bool.{Bool, true, false, cond}
+use native.Mathlib.Omega.{arith}
+use native.Mathlib.Decide.{ℕ-discrete}
+use borrow.Author.Tests.{eq-eqb, ne-eqb}
+use lib.ListN.{length, set}
+use lib.Seq.{set-getD}
+use Rattle.octets.specs.Lists.{placeOf}
+use Rattle.octets.proofs.Small.{chosen}
+use Rattle.policy.specs.declared.rules.Policy.{Policy}
+use Rattle.reader.specs.Chain.{reading}
+use Rattle.tables.specs.Records.{ikeSpi, noIke, marksIn, follows}
+use Rattle.tables.specs.Reached.{Tables, tables}
+use Rattle.tables.specs.declared.ike.IkeRecord.{IkeRecord}
+use Rattle.tables.specs.declared.ike.Marks.{Marks}
+use Rattle.responder.specs.Core.{decidedResponse, chainError, decisionOn}
+use Rattle.responder.specs.Handle.{Request, meant, earlyNumber, handled, handledResponse}
+use Rattle.numbers.specs.Numbers.{seenIn, requested, applies, replaces}
+use Rattle.numbers.proofs.Decisions.{marksBy, Comes, Decides, done, refused, decides}
+use Rattle.numbers.proofs.Cores.{chainNumber, entryBy, CoreComes, core-refused, core-decided}
+
+-- the number of the first five checks; the place and the record meant
+abbrev pub early : Tables → Request → ℕ
+early t q = earlyNumber (t .ike) (t .ipsec) q
+
+abbrev pub place : Tables → Request → ℕ
+place t q = placeOf ikeSpi (q .spi) (t .ike)
+
+abbrev pub entry : Tables → Request → IkeRecord
+entry t q = meant (t .ike) (q .spi)
+
+-- the tables with the record meant so, and, if it moves, what it owns moved with it
+abbrev pub changedTo : Tables → Request → IkeRecord → Bool → Tables
+changedTo t q e u = tables (set (t .ike) (place t q) e) (cond u (map (follows (q .spi) (q .asks .pair)) (t .ipsec)) (t .ipsec))
+
+module _ (policy : Policy) (t : Tables) (q : Request) where
+  -- number, octets with the length told, and tables
+  pub record ComesTo (n : ℕ) (response : List ℕ) (s : Tables) : Type 0 where
+    pub number : handled policy (t .ike) (t .ipsec) q .reply .number ≡ n
+    pub octets : handledResponse policy (t .ike) (t .ipsec) q ≡ response
+    pub long : handled policy (t .ike) (t .ipsec) q .reply .length ≡ length response
+    pub after : requested policy q t ≡ s
+
+  pub refused-early : (early t q ≡ 0 → ⊥) → ComesTo (early t q) [] t
+  unfolding requested handled handledResponse
+  refused-early n = let f = ne-eqb (early t q) 0 n in record { number = rw f; octets = rw f; long = rw f; after = rw f }
+
+  module _ (passes : early t q ≡ 0) where
+    by-core : {n : ℕ} {response : List ℕ} {e : IkeRecord} {u : Bool} → CoreComes policy q (entry t q) n response e u → ComesTo n response (changedTo t q e u)
+    unfolding requested handled handledResponse
+    by-core c =
+        let f = eq-eqb (early t q) 0 passes in
+        record { number = rw f (c .number); octets = rw f (c .octets); long = rw f (c .long); after = rw (f, c .entry, c .moves) }
+
+    pub refused-chain : (chainNumber q ≡ 0 → ⊥) → ComesTo (chainNumber q) (chainError (reading (q .asks .first) (q .asks .body))) t
+    refused-chain n =
+        let c = by-core (core-refused policy q (entry t q) n) in
+        let same = ap (λ (ike : List IkeRecord). tables ike (t .ipsec)) (set-getD (t .ike) (place t q) noIke) in
+        record { number = c .number; octets = c .octets; long = c .long; after = c .after ∙ same }
+
+    pub decided-here : chainNumber q ≡ 0 → {n : ℕ} {u l : Bool} {m : Marks} → Comes n u l m (decisionOn policy (q .asks) (marksIn (entry t q)))
+        → ComesTo n (decidedResponse n (q .asks) (seenIn q)) (changedTo t q (entryBy q (entry t q) u l m) u)
+    decided-here w c = by-core (core-decided policy q (entry t q) w c)
+
+  -- A change of the record meant: it moves only with an update that counts, and its marks stay or become the ID.
+  pub record Changes (u l : Bool) (m : Marks) : Type 0 where
+    pub passes : early t q ≡ 0
+    pub is : requested policy q t ≡ changedTo t q (entryBy q (entry t q) u l m) u
+    pub moves : u ≡ true → applies q (entry t q) ≡ true
+    pub update-mark : (m .«update_mark» ≡ entry t q .«update_mark») ⊎ ((applies q (entry t q) ≡ true) × (m .«update_mark» ≡ q .asks .id + 1))
+    pub list-mark : (m .«list_mark» ≡ entry t q .«list_mark») ⊎ (m .«list_mark» ≡ q .asks .id + 1)
+    pub tally : m .unknown ≤ 4294967295
+
+  -- What a request does to the tables.
+  pub data Way : Type 0 where
+    stays : requested policy q t ≡ t → Way
+    changes : (u l : Bool) (m : Marks) → Changes u l m → Way
+
+  module _ (passes : early t q ≡ 0) (w : chainNumber q ≡ 0) where
+    by-marks : {n : ℕ} {u l : Bool} (a b : Bool) → (u ≡ true → applies q (entry t q) ≡ true) → (a ≡ true → applies q (entry t q) ≡ true)
+        → Comes n u l (marksBy q a b (marksIn (entry t q))) (decisionOn policy (q .asks) (marksIn (entry t q))) → Way
+    by-marks {n} {u} {l} a b moves raises c =
+        changes u l (marksBy q a b (marksIn (entry t q)))
+        (record {
+          passes = passes;
+          is = decided-here passes w c .after;
+          moves = moves;
+          update-mark =
+              chosen (λ (x : ℕ). (x ≡ entry t q .«update_mark») ⊎ ((applies q (entry t q) ≡ true) × (x ≡ q .asks .id + 1))) a
+              (λ f. inr (raises f, refl)) (λ f. inl refl);
+          list-mark = chosen (λ (x : ℕ). (x ≡ entry t q .«list_mark») ⊎ (x ≡ q .asks .id + 1)) b (λ f. inr refl) (λ f. inl refl);
+          tally = omega arith;
+        })
+
+    whole-way : Decides policy q (marksIn (entry t q)) (decisionOn policy (q .asks) (marksIn (entry t q))) → Way
+    whole-way (done c) = by-marks (applies q (entry t q)) (replaces q (entry t q)) (λ f. f) (λ f. f) c
+    whole-way (refused n which r) = by-marks true false (λ f. r .counts) (λ f. r .counts) (r .comes)
+
+  pub way : Way
+  way = go (ℕ-discrete (early t q) 0) (ℕ-discrete (chainNumber q) 0)
+    where
+      go : Dec (early t q ≡ 0) → Dec (chainNumber q ≡ 0) → Way
+      go (no n) d = stays (refused-early n .after)
+      go (yes e) (no n) = stays (refused-chain e n .after)
+      go (yes e) (yes w) = whole-way e w (decides policy q (marksIn (entry t q)))

@@ -1,0 +1,54 @@
+-- Tables reached from empty ones by the calls that write tables.
+use Prim.Native.Nat.{ℕ, _<_}
+use mathlib.Core.List.{List, [], _∷_}
+use lib.ListN.{replicate}
+use Rattle.order.specs.Order.{All}
+use Rattle.policy.specs.declared.rules.Policy.{Policy}
+use Rattle.tables.specs.Records.{noIke, noIpsec}
+use Rattle.tables.specs.Calls.{openBoth, openIpsec, closeIke, closeIpsec}
+use Rattle.tables.specs.Reached.{Tables, tables}
+use Rattle.tables.specs.declared.calls.Opening.{Opening}
+use Rattle.responder.specs.Handle.{Request}
+use Rattle.numbers.specs.Numbers.{requested}
+use Rattle.reached.specs.WellFormed.{WellFormed}
+
+abbrev pub empty : Tables
+empty = tables (replicate 32 noIke) (replicate 128 noIpsec)
+
+-- Each call that writes tables, with its arguments; a request comes with the policy of its time.
+pub data Call : Type 0 where
+  opensBoth : Opening → Call
+  opensIpsec : ℕ → ℕ → Call
+  closesIke : ℕ → Call
+  closesIpsec : ℕ → Call
+  requests : Policy → Request → Call
+
+-- the tables after a call, whatever number it gives
+unfoldable pub after : Tables → Call → Tables
+after t (opensBoth o) =
+    let r = openBoth (t .ike) (t .ipsec) o in
+    tables (r .ike) (r .ipsec)
+after t (opensIpsec spi owner) = tables (t .ike) (openIpsec (t .ike) (t .ipsec) spi owner .ipsec)
+after t (closesIke spi) = tables (closeIke (t .ike) (t .ipsec) spi .ike) (closeIke (t .ike) (t .ipsec) spi .ipsec)
+after t (closesIpsec spi) = tables (t .ike) (closeIpsec (t .ipsec) spi .ipsec)
+after t (requests policy q) = requested policy q t
+
+unfoldable pub afterAll : Tables → List Call → Tables
+unfolding after
+afterAll t [] = t
+afterAll t (c ∷ cs) = afterAll (after t c) cs
+
+-- What the types of the exported arguments fix: a message ID has 32 bits.
+abbrev pub Typed : Call → Type 0
+Typed (opensBoth o) = Unit {0}
+Typed (opensIpsec spi owner) = Unit {0}
+Typed (closesIke spi) = Unit {0}
+Typed (closesIpsec spi) = Unit {0}
+Typed (requests policy q) = q .asks .id < 4294967296
+
+-- Whatever calls are made on well-formed tables, and so on empty ones.
+abbrev pub StaysWellFormed : Type 0
+StaysWellFormed = (t : Tables) → WellFormed t → (cs : List Call) → All Typed cs → WellFormed (afterAll t cs)
+
+abbrev pub Reached : Type 0
+Reached = (cs : List Call) → All Typed cs → WellFormed (afterAll empty cs)

@@ -1,0 +1,62 @@
+-- Well-formed tables: no SPI twice, nothing left in a free place, every IPsec record with an owner, and each record in use in its bounds.
+use Prim.Native.Nat.{ℕ, _<_, _≤_}
+use mathlib.Core.Path.{_≡_}
+use mathlib.Core.List.{List}
+use mathlib.Core.Bool.{Bool, true, not}
+use lib.Dec.{eqb}
+use lib.ListN.{length, getD}
+use Rattle.octets.specs.Lists.{placeOf}
+use Rattle.address.specs.Address.{widthOf, noAddress, pairFits}
+use Rattle.tables.specs.Records.{ikeSpi, ipsecSpi, noIke, noIpsec}
+use Rattle.tables.specs.Reached.{Tables}
+use Rattle.tables.specs.declared.ike.IkeRecord.{IkeRecord}
+use Rattle.tables.specs.declared.ipsec.IpsecRecord.{IpsecRecord}
+
+module _ {A : Type 0} (key : A → ℕ) (d : A) where
+  -- no key but 0 stands in two places
+  abbrev pub Distinct : List A → Type 0
+  Distinct xs =
+      (i j : ℕ) → i < length xs → j < length xs → key (getD xs i d) ≡ key (getD xs j d) → (key (getD xs i d) ≡ 0 → ⊥) → i ≡ j
+
+  -- nothing is left in a place with key 0
+  abbrev pub Cleared : List A → Type 0
+  Cleared xs = (i : ℕ) → i < length xs → key (getD xs i d) ≡ 0 → getD xs i d ≡ d
+
+  -- P holds of every element in use
+  abbrev pub EachInUse : (A → Type 0) → List A → Type 0
+  EachInUse P xs = (i : ℕ) → i < length xs → (key (getD xs i d) ≡ 0 → ⊥) → P (getD xs i d)
+
+  pub record Consistent (P : A → Type 0) (size : ℕ) (xs : List A) : Type 0 where
+    pub long : length xs ≡ size
+    pub once : Distinct xs
+    pub clear : Cleared xs
+    pub bounded : EachInUse P xs
+
+-- 4 or 6, which alone have a width
+abbrev pub isFamily : ℕ → Bool
+isFamily family = not (eqb (widthOf family) 0)
+
+-- What 01 says of an IKE record in use: its pair was once accepted as an argument, so its family is 4 or 6; "an update mark and a list mark
+-- (each none or a message ID of 32 bits ...)", kept as 0 or the ID and one; "up to 16 additional addresses"; "an unknown tally that stays at
+-- 4,294,967,295 once there".
+pub record IkeBounds (r : IkeRecord) : Type 0 where
+  pub pair : pairFits (r .pair) ≡ true
+  pub update-mark : r .«update_mark» ≤ 4294967296
+  pub list-mark : r .«list_mark» ≤ 4294967296
+  pub count : r .count ≤ 16
+  pub families : (i : ℕ) → i < r .count → isFamily (getD (r .addresses) i noAddress .family) ≡ true
+  pub tally : r .unknown ≤ 4294967295
+
+pub record IpsecBounds (r : IpsecRecord) : Type 0 where
+  pub pair : pairFits (r .pair) ≡ true
+
+-- every IPsec record in use has an owner among the IKE records
+abbrev pub Owned : List IkeRecord → List IpsecRecord → Type 0
+Owned ike ipsec =
+    (j : ℕ) → j < length ipsec → (getD ipsec j noIpsec .spi ≡ 0 → ⊥)
+    → (getD ipsec j noIpsec .owner ≡ 0 → ⊥) × (placeOf ikeSpi (getD ipsec j noIpsec .owner) ike < length ike)
+
+pub record WellFormed (t : Tables) : Type 0 where
+  pub ikes : Consistent ikeSpi noIke IkeBounds 32 (t .ike)
+  pub ipsecs : Consistent ipsecSpi noIpsec IpsecBounds 128 (t .ipsec)
+  pub owned : Owned (t .ike) (t .ipsec)
