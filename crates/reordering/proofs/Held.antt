@@ -1,5 +1,5 @@
 -- The record of an IKE SA whose requests are all sound, after a list of requests: its pair is that of the update with the greatest ID.
-use Prim.Native.Nat.{ℕ, _+_}
+use Prim.Native.Nat.{ℕ}
 use mathlib.Core.Path.{_≡_, refl, sym, ap, _∙_}
 use mathlib.Core.List.{List, [], _∷_}
 use mathlib.Core.Bool.{Bool, true, false, cond, _&&_}
@@ -20,7 +20,7 @@ use Rattle.tables.proofs.BySpi.{unseen-by}
 use Rattle.responder.specs.Handle.{Request, meant}
 use Rattle.reordering.specs.Requests.{step, seenIn, updatesFor, pairHeld}
 use Rattle.reordering.proofs.Steps.{Terms, terms, by-spi}
-use Rattle.reordering.proofs.Sound.{idOf, updates, advanced}
+use Rattle.reordering.proofs.Sound.{idOf, advanced}
 use Rattle.reordering.proofs.Freed.{seeing, Taken, view-sound}
 
 -- the pair and mark that a record holds
@@ -36,8 +36,8 @@ nextAll k [] e = e
 nextAll k (q ∷ qs) e = nextAll k qs (next k q e)
 
 module _ (policy : Policy) (k : ℕ) where
-  view-next : (s : Tables) {e : IkeRecord} {n : ℕ} → view k s ≡ seeing e n → (q : Request) → (q .spi ≡ k → Taken policy k (terms (seeing e n)) q)
-      → view k (step policy q s) ≡ seeing (next k q e) n
+  view-next : (s : Tables) {e : IkeRecord} {n : ℕ} → view k s ≡ seeing e n → (q : Request)
+      → (q .spi ≡ k → Taken policy k (terms (seeing e n)) q) → view k (step policy q s) ≡ seeing (next k q e) n
   view-next s {e} {n} seen q w = go (ℕ-discrete (q .spi) k)
     where
       go : Dec (q .spi ≡ k) → view k (step policy q s) ≡ seeing (next k q e) n

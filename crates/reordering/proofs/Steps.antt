@@ -64,11 +64,19 @@ passed-seen q v e = go (v .entry) (passed _ _ _ _ e .there)
     go none z = absurd (omega arith)
     go (some r) z = (r, refl)
 
+-- a record stored, and its IPsec records moved or not, as the handler says it
+moved : (k : ℕ) (t : Tables) (r : IkeRecord) (p : Pair) (b : Bool)
+    → tables (set (t .ike) (placeOf ikeSpi k (t .ike)) r) (cond b (map (follows k p) (t .ipsec)) (t .ipsec))
+    ≡ applied k (becomes r (cond b (some p) none)) t
+unfolding applied
+moved k t r p true = refl
+moved k t r p false = rw (map-id (t .ipsec))
+
 module _ (policy : Policy) where
   abbrev pub core : Request → IkeRecord → CoreResult
   core q e = coreResult policy (q .asks) e
 
-  -- where the checks passed
+  -- what it does where checks 1 to 5 pass, and what it does at all
   abbrev pub altered : Request → Option IkeRecord → Change
   altered q none = stays
   altered q (some r) = becomes (core q r .entry) (cond (core q r .moves) (some (q .asks .pair)) none)
@@ -99,14 +107,6 @@ module _ (policy : Policy) where
       go (some r) true =
           chosen (λ (x : IkeRecord). x .spi ≡ r .spi) (coreAnswer policy (q .asks) (marksIn r) .relists) (λ e. refl) (λ e. refl)
       go (some r) false = tt
-
-  -- where checks 1 to 5 passed
-  moved : (k : ℕ) (t : Tables) (r : IkeRecord) (p : Pair) (b : Bool)
-      → tables (set (t .ike) (placeOf ikeSpi k (t .ike)) r) (cond b (map (follows k p) (t .ipsec)) (t .ipsec))
-      ≡ applied k (becomes r (cond b (some p) none)) t
-  unfolding applied
-  moved k t r p true = refl
-  moved k t r p false = rw (map-id (t .ipsec))
 
   pub does-taken : (q : Request) (v : View) {r : IkeRecord} → earlyBy q (terms v) ≡ 0 → v .entry ≡ some r → does q v ≡ altered q (some r)
   does-taken q v e o = rw (eq-eqb (earlyBy q (terms v)) 0 e, o)

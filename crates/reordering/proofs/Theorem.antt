@@ -3,7 +3,7 @@ use Prim.Native.Nat.{ℕ}
 use mathlib.Core.Path.{_≡_, refl, sym, ap, subst, _∙_}
 use mathlib.Core.Logic.{_⊎_, inl, inr}
 use mathlib.Core.List.{List, [], _∷_}
-use mathlib.Core.Bool.{Bool, true}
+use mathlib.Core.Bool.{true}
 use native.Mathlib.Decide.{ℕ-discrete}
 use lib.ListN.{length}
 use Rattle.order.specs.Order.{All, Pairwise, Held}
@@ -11,11 +11,11 @@ use Rattle.order.proofs.Orders.{order-pairs, all-map}
 use Rattle.address.specs.declared.pair.Pair.{Pair}
 use Rattle.policy.specs.declared.rules.Policy.{Policy}
 use Rattle.tables.specs.Reached.{Tables}
-use Rattle.tables.specs.View.{inUse, View, view}
+use Rattle.tables.specs.View.{view}
 use Rattle.tables.specs.declared.ike.IkeRecord.{IkeRecord}
 use Rattle.responder.specs.Handle.{Request}
 use Rattle.reordering.specs.Requests.{step, Apart, sound, pairHeld}
-use Rattle.reordering.specs.Reordering.{AnswersKept, TablesKept, AnyOrder}
+use Rattle.reordering.specs.Reordering.{TablesKept, AnyOrder}
 use Rattle.reordering.proofs.Events as events
 use Rattle.reordering.proofs.Steps.{Terms, terms, earlyBy, early-is, passed-seen, by-spi}
 use Rattle.reordering.proofs.Sound.{idOf, sound-parts}

@@ -1,6 +1,6 @@
 -- Calls that go by their SPI: those of two SPIs do not see each other, and one of an SPI that no record has is seen by none.
 use Prim.Native.Nat.{ℕ}
-use mathlib.Core.Path.{_≡_, refl, sym, ap, _∙_}
+use mathlib.Core.Path.{_≡_, sym, ap, _∙_}
 use mathlib.Core.Logic.{_⊎_, ⊎-elim}
 use mathlib.Core.Bool.{false}
 use mathlib.Core.Option.{Option, none}

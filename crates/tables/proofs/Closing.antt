@@ -23,12 +23,6 @@ abbrev number : Option IkeRecord → ℕ
 number none = 4
 number (some r) = 0
 
-abbrev step : ℕ → Tables → Tables
-step spi t = after t (closesIke spi)
-
-abbrev answer : ℕ → Tables → ℕ
-answer spi t = closeIke (t .ike) (t .ipsec) spi .number
-
 module _ (spi : ℕ) where
   abbrev bad : ℕ → Bool
   bad lent = not (eqb lent 128) || eqb spi 0
@@ -69,11 +63,11 @@ module _ (spi : ℕ) where
         go false e false f = rw (e, f, neither (not (listFits (t .ipsec))) (eqb spi 0) e .1, applied-stays spi t)
         go false e true f = rw (e, f, neither (not (listFits (t .ipsec))) (eqb spi 0) e .1, applied-closes)
 
-    step-is : step spi t ≡ end
+    step-is : after t (closesIke spi) ≡ end
     unfolding after
     step-is = ap (λ (x : TablesAnswer). tables (x .ike) (x .ipsec)) is
 
-pub closing-by-spi : BySpi (λ (spi : ℕ). spi) step answer
+pub closing-by-spi : BySpi (λ (k : ℕ). k) (λ k t. after t (closesIke k)) (λ k t. closeIke (t .ike) (t .ipsec) k .number)
 closing-by-spi =
     record {
       does = does;
