@@ -17,7 +17,7 @@ use Rattle.reader.specs.declared.read.Outcome.{Outcome}
 use Rattle.reader.specs.declared.read.Outcome.the-variants.{Whole, Broken}
 use Rattle.reader.specs.declared.read.Scan.{Scan}
 use Rattle.tables.specs.Calls.{hasIke, listFits}
-use Rattle.tables.specs.Reached.{Tables}
+use Rattle.tables.specs.Tables.{Tables}
 use Rattle.responder.specs.Handle.{Request, argumentsFit, meant, recordNumber, checkedNumber, earlyNumber}
 
 fault-number : (f : Fault) → (numberOf f ≡ 6) ⊎ (numberOf f ≡ 7)

@@ -5,12 +5,14 @@ use mathlib.Core.List.{List}
 use mathlib.Core.Bool.{Bool, true, false, cond}
 use borrow.Author.Tests.{eq-eqb, ne-eqb}
 use lib.ListN.{length}
-use Rattle.findings.specs.Values.{addressesIn}
+use Rattle.values.specs.Values.{addressesIn}
 use Rattle.policy.specs.declared.rules.Policy.{Policy}
 use Rattle.reader.specs.Chain.{reading}
 use Rattle.tables.specs.Records.{marksIn, rewritten, remarked, relisted}
 use Rattle.tables.specs.declared.ike.IkeRecord.{IkeRecord}
 use Rattle.tables.specs.declared.ike.Marks.{Marks}
+use Rattle.deciding.specs.Decide.{verdictNumber}
+use Rattle.deciding.specs.declared.decide.Verdict.{Verdict}
 use Rattle.responder.specs.Core.{decidedResponse, chainError, decisionOn, coreAnswer, coreResponse, coreResult, changedBy}
 use Rattle.responder.specs.Handle.{Request}
 use Rattle.numbers.specs.Numbers.{seenIn}
@@ -40,15 +42,15 @@ module _ (policy : Policy) (q : Request) (e : IkeRecord) where
   unfolding coreAnswer coreResponse changedBy
   core-refused n = let g = ne-eqb (chainNumber q) 0 n in record { number = rw g; octets = rw g; long = rw g; entry = rw g; moves = rw g }
 
-  pub core-decided : chainNumber q ≡ 0 → {n : ℕ} {u l : Bool} {m : Marks} → Comes n u l m (decisionOn policy (q .asks) (marksIn e))
-      → CoreComes policy q e n (decidedResponse n (q .asks) (seenIn q)) (entryBy q e u l m) u
+  pub core-decided : chainNumber q ≡ 0 → {v : Verdict} {u l : Bool} {m : Marks} → Comes v u l m (decisionOn policy (q .asks) (marksIn e))
+      → CoreComes policy q e (verdictNumber v) (decidedResponse v (q .asks) (seenIn q)) (entryBy q e u l m) u
   unfolding coreAnswer coreResponse changedBy
-  core-decided w {n} {u} {l} {m} c =
+  core-decided w {v} {u} {l} {m} c =
       let g = eq-eqb (chainNumber q) 0 w in
       record {
-        number = rw g (c .number);
-        octets = rw (g, c .number);
-        long = rw (g, c .number);
+        number = rw (g, c .verdict-is);
+        octets = rw (g, c .verdict-is);
+        long = rw (g, c .verdict-is);
         entry = rw (g, c .moves, c .relists, c .marks) (go l);
         moves = rw g (c .moves);
       }

@@ -1,15 +1,19 @@
 -- What steps 1 to 3 come to on a record's marks: done, or refused with 8 or 9 for an update whose ID exceeds the mark.
-use Prim.Native.Nat.{ℕ, _+_}
+use Prim.Native.Nat.{_+_}
 use mathlib.Core.Path.{_≡_, refl}
-use mathlib.Core.Logic.{_⊎_, inl, inr, ⊎-elim}
+use mathlib.Core.Logic.{_⊎_, inl, inr}
 use mathlib.Core.Bool.{Bool, true, false, cond, _&&_}
-use lib.Dec.{eqb, leb}
-use Rattle.findings.specs.Values.{noNatsSeen}
+use lib.Dec.{leb}
+use Rattle.values.specs.Values.{noNatsSeen}
 use Rattle.policy.specs.Policy.{acceptable}
 use Rattle.policy.specs.declared.rules.Policy.{Policy}
 use Rattle.tables.specs.declared.ike.Marks.{Marks}
-use Rattle.deciding.specs.Decide.{tallied, unaltered, verdict, listMarked, decision, leftOff, hasList, listDecided, updateDecided, decided}
+use Rattle.deciding.specs.Decide.{isDone, tallied, unaltered, verdict, listMarked, decision, leftOff, hasList, listDecided, updateDecided, decided}
 use Rattle.deciding.specs.declared.decide.Decision.{Decision}
+use Rattle.deciding.specs.declared.decide.Effect.{Effect}
+use Rattle.deciding.specs.declared.decide.Effect.the-variants.{None, Done, Stale}
+use Rattle.deciding.specs.declared.decide.Verdict.{Verdict}
+use Rattle.deciding.specs.declared.decide.Verdict.the-variants.{Accepted, Altered, Unacceptable}
 use Rattle.responder.specs.Core.{decisionOn}
 use Rattle.responder.specs.Handle.{Request}
 use Rattle.numbers.specs.Numbers.{seenIn, unknownIn}
@@ -31,33 +35,34 @@ marksBy q u l m =
       unknown = tallied (m .unknown) (unknownIn q);
     }
 
--- a decision's number, whether the record moves, whether its list is replaced, and its marks
-pub record Comes (n : ℕ) (u l : Bool) (m : Marks) (d : Decision) : Type 0 where
-  pub number : d .number ≡ n
-  pub moves : eqb (d .update) 1 ≡ u
-  pub relists : eqb (d .list) 1 ≡ l
+-- a decision's verdict, whether the record moves, whether its list is replaced, and its marks
+pub record Comes (v : Verdict) (u l : Bool) (m : Marks) (d : Decision) : Type 0 where
+  pub verdict-is : d .verdict ≡ v
+  pub moves : isDone (d .update) ≡ u
+  pub relists : isDone (d .list) ≡ l
   pub marks : d .marks ≡ m
 
 -- what 8 and 9 need: an update that counts, on which this is the verdict
-pub record Refuses (policy : Policy) (q : Request) (m : Marks) (n : ℕ) (d : Decision) : Type 0 where
+pub record Refuses (policy : Policy) (q : Request) (m : Marks) (v : Verdict) (d : Decision) : Type 0 where
   pub counts : up q m ≡ true
-  pub verdict-is : verdict policy (noNatsSeen (q .asks .body) (seenIn q)) (q .asks .pair) ≡ n
-  pub comes : Comes n false false (marksBy q true false m) d
+  pub verdict-is : verdict policy (noNatsSeen (q .asks .body) (seenIn q)) (q .asks .pair) ≡ v
+  pub comes : Comes v false false (marksBy q true false m) d
 
 pub data Decides (policy : Policy) (q : Request) (m : Marks) (d : Decision) : Type 0 where
-  done : Comes 0 (up q m) (new q m) (marksBy q (up q m) (new q m) m) d → Decides policy q m d
-  refused : (n : ℕ) → (n ≡ 8) ⊎ (n ≡ 9) → Refuses policy q m n d → Decides policy q m d
+  done : Comes Accepted (up q m) (new q m) (marksBy q (up q m) (new q m) m) d → Decides policy q m d
+  refused : (v : Verdict) → (v ≡ Altered) ⊎ (v ≡ Unacceptable) → Refuses policy q m v d → Decides policy q m d
 
 -- step 3, after an update that came to `u`, which counts by `b`
-abbrev listed : Request → Bool → Bool → ℕ → Marks → Decision
+abbrev listed : Request → Bool → Bool → Effect → Marks → Decision
 listed q x y u m =
-    cond x (cond y (decision 0 u 1 (leftOff (seenIn q .list .count)) (listMarked (q .asks .id) m)) (decision 0 u 2 0 m)) (decision 0 u 0 0 m)
+    cond x (cond y (decision Accepted u Done (leftOff (seenIn q .list .count)) (listMarked (q .asks .id) m)) (decision Accepted u Stale 0 m))
+    (decision Accepted u None 0 m)
 
-list-comes : (q : Request) (x y : Bool) (u : ℕ) (b : Bool) (m : Marks) → eqb u 1 ≡ b
-    → Comes 0 b (x && y) (marksBy q b (x && y) m) (listed q x y u (marksBy q b false m))
-list-comes q true true u b m e = record { number = refl; moves = e; relists = refl; marks = refl }
-list-comes q true false u b m e = record { number = refl; moves = e; relists = refl; marks = refl }
-list-comes q false y u b m e = record { number = refl; moves = e; relists = refl; marks = refl }
+list-comes : (q : Request) (x y : Bool) (u : Effect) (b : Bool) (m : Marks) → isDone u ≡ b
+    → Comes Accepted b (x && y) (marksBy q b (x && y) m) (listed q x y u (marksBy q b false m))
+list-comes q true true u b m e = record { verdict-is = refl; moves = e; relists = refl; marks = refl }
+list-comes q true false u b m e = record { verdict-is = refl; moves = e; relists = refl; marks = refl }
+list-comes q false y u b m e = record { verdict-is = refl; moves = e; relists = refl; marks = refl }
 
 pub decides : (policy : Policy) (q : Request) (m : Marks) → Decides policy q m (decisionOn policy (q .asks) m)
 unfolding decided updateDecided listDecided verdict
@@ -71,24 +76,16 @@ decides policy q m =
     y : Bool
     y = leb (m .«list_mark») (q .asks .id)
 
-    refuses : (n : ℕ) → seenIn q .update ≡ true → leb (m .«update_mark») (q .asks .id) ≡ true
-        → verdict policy (noNatsSeen (q .asks .body) (seenIn q)) (q .asks .pair) ≡ n
-        → Refuses policy q m n (decision n 0 0 0 (marksBy q true false m))
-    refuses n f g v = record { counts = rw (f, g); verdict-is = v; comes = record { number = refl; moves = refl; relists = refl; marks = refl } }
+    refuses : (v : Verdict) → seenIn q .update ≡ true → leb (m .«update_mark») (q .asks .id) ≡ true
+        → verdict policy (noNatsSeen (q .asks .body) (seenIn q)) (q .asks .pair) ≡ v
+        → Refuses policy q m v (decision v None None 0 (marksBy q true false m))
+    refuses v f g e = record { counts = rw (f, g); verdict-is = e; comes = record { verdict-is = refl; moves = refl; relists = refl; marks = refl } }
 
     go : (a : Bool) → seenIn q .update ≡ a → (b : Bool) → leb (m .«update_mark») (q .asks .id) ≡ b
         → (c : Bool) → unaltered (noNatsSeen (q .asks .body) (seenIn q)) (q .asks .pair) ≡ c → (e : Bool) → acceptable policy (q .asks .pair) ≡ e
         → Decides policy q m (decisionOn policy (q .asks) m)
-    go true f true g true h true k = rw (f, g, h, k) (done (rw (f, g) (list-comes q x y 1 true m refl)))
-    go true f true g true h false k = rw (f, g, h, k) (refused 9 (inr refl) (refuses 9 f g (rw (h, k))))
-    go true f true g false h e k = rw (f, g, h) (refused 8 (inl refl) (refuses 8 f g (rw h)))
-    go true f false g c h e k = rw (f, g) (done (rw (f, g) (list-comes q x y 2 false m refl)))
-    go false f b g c h e k = rw f (done (rw f (list-comes q x y 0 false m refl)))
-
--- what holds of 0, 8 and 9 holds of the number that a decision gives
-pub decision-of : (P : ℕ → Type 0) → P 0 → P 8 → P 9 → (policy : Policy) (q : Request) (m : Marks) → P (decisionOn policy (q .asks) m .number)
-decision-of P zero eight nine policy q m = go (decides policy q m)
-  where
-    go : Decides policy q m (decisionOn policy (q .asks) m) → P (decisionOn policy (q .asks) m .number)
-    go (done c) = rw (c .number) zero
-    go (refused n which r) = rw (r .comes .number) (⊎-elim (λ e. rw e eight) (λ e. rw e nine) which)
+    go true f true g true h true k = rw (f, g, h, k) (done (rw (f, g) (list-comes q x y Done true m refl)))
+    go true f true g true h false k = rw (f, g, h, k) (refused Unacceptable (inr refl) (refuses Unacceptable f g (rw (h, k))))
+    go true f true g false h e k = rw (f, g, h) (refused Altered (inl refl) (refuses Altered f g (rw h)))
+    go true f false g c h e k = rw (f, g) (done (rw (f, g) (list-comes q x y Stale false m refl)))
+    go false f b g c h e k = rw f (done (rw f (list-comes q x y None false m refl)))

@@ -13,7 +13,7 @@ use Rattle.octets.proofs.Small.{both}
 use Rattle.order.specs.Order.{after}
 use Rattle.policy.specs.declared.rules.Policy.{Policy}
 use Rattle.tables.specs.Records.{noIke}
-use Rattle.tables.specs.Reached.{Tables}
+use Rattle.tables.specs.Tables.{Tables}
 use Rattle.tables.specs.declared.ike.IkeRecord.{IkeRecord}
 use Rattle.tables.specs.declared.ike.Marks.{Marks}
 use Rattle.responder.specs.Handle.{Request}

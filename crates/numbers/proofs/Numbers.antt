@@ -9,10 +9,10 @@ use borrow.Author.Tests.{eq-eqb, ne-eqb}
 use lib.ListN.{length, getD}
 use Rattle.policy.specs.declared.rules.Policy.{Policy}
 use Rattle.tables.specs.Records.{marksIn}
-use Rattle.tables.specs.Reached.{Tables}
+use Rattle.tables.specs.Tables.{Tables}
 use Rattle.writing.specs.Notify.{notifyOctets}
 use Rattle.responding.specs.Respond.{cookieNotify, errorResponse}
-use Rattle.responder.specs.Core.{decidedOctets, chainError, decisionOn}
+use Rattle.responder.specs.Core.{chainError, decisionOn}
 use Rattle.responder.specs.Handle.{Request}
 use Rattle.responder.proofs.Checks.{passed}
 use Rattle.numbers.specs.Numbers.{same, none, Row, row, rows, Some, Gives, AsTheTable}
@@ -63,11 +63,11 @@ module _ (policy : Policy) (t : Tables) (q : Request) where
       (broken-number (q .asks .first) (q .asks .body) (passed _ _ _ _ e .short) n)
 
   whole-row : early t q ≡ 0 → chainNumber q ≡ 0 → Decides policy q (marksIn (entry t q)) (decisionOn policy (q .asks) (marksIn (entry t q))) → Found
-  unfolding decidedOctets errorResponse
+  unfolding errorResponse
   whole-row e w (done c) = at 0 (omega arith) (decided-here policy t q e w c) refl refl refl
-  whole-row e w (refused n which r) =
+  whole-row e w (refused v which r) =
       let c = decided-here policy t q e w (r .comes) in
-      ⊎-elim (λ f. at 8 (omega arith) c f (rw f) refl) (λ f. at 9 (omega arith) c f (rw f) refl) which
+      ⊎-elim (λ f. at 8 (omega arith) c (rw f) (rw f) refl) (λ f. at 9 (omega arith) c (rw f) (rw f) refl) which
 
   found : Found
   found = go (ℕ-discrete (early t q) 0) (ℕ-discrete (chainNumber q) 0)

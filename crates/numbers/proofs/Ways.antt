@@ -14,11 +14,13 @@ use Rattle.octets.proofs.Small.{chosen}
 use Rattle.policy.specs.declared.rules.Policy.{Policy}
 use Rattle.reader.specs.Chain.{reading}
 use Rattle.tables.specs.Records.{ikeSpi, noIke, marksIn, follows}
-use Rattle.tables.specs.Reached.{Tables, tables}
+use Rattle.tables.specs.Tables.{Tables, tables}
 use Rattle.tables.specs.declared.ike.IkeRecord.{IkeRecord}
 use Rattle.tables.specs.declared.ike.Marks.{Marks}
 use Rattle.responder.specs.Core.{decidedResponse, chainError, decisionOn}
 use Rattle.responder.specs.Handle.{Request, meant, earlyNumber, handled, handledResponse}
+use Rattle.deciding.specs.Decide.{verdictNumber}
+use Rattle.deciding.specs.declared.decide.Verdict.{Verdict}
 use Rattle.numbers.specs.Numbers.{seenIn, requested, applies, replaces}
 use Rattle.numbers.proofs.Decisions.{marksBy, Comes, Decides, done, refused, decides}
 use Rattle.numbers.proofs.Cores.{chainNumber, entryBy, CoreComes, core-refused, core-decided}
@@ -62,8 +64,8 @@ module _ (policy : Policy) (t : Tables) (q : Request) where
         let same = ap (λ (ike : List IkeRecord). tables ike (t .ipsec)) (set-getD (t .ike) (place t q) noIke) in
         record { number = c .number; octets = c .octets; long = c .long; after = c .after ∙ same }
 
-    pub decided-here : chainNumber q ≡ 0 → {n : ℕ} {u l : Bool} {m : Marks} → Comes n u l m (decisionOn policy (q .asks) (marksIn (entry t q)))
-        → ComesTo n (decidedResponse n (q .asks) (seenIn q)) (changedTo t q (entryBy q (entry t q) u l m) u)
+    pub decided-here : chainNumber q ≡ 0 → {v : Verdict} {u l : Bool} {m : Marks} → Comes v u l m (decisionOn policy (q .asks) (marksIn (entry t q)))
+        → ComesTo (verdictNumber v) (decidedResponse v (q .asks) (seenIn q)) (changedTo t q (entryBy q (entry t q) u l m) u)
     decided-here w c = by-core (core-decided policy q (entry t q) w c)
 
   -- A change of the record meant: it moves only with an update that counts, and its marks stay or become the ID.
@@ -81,9 +83,9 @@ module _ (policy : Policy) (t : Tables) (q : Request) where
     changes : (u l : Bool) (m : Marks) → Changes u l m → Way
 
   module _ (passes : early t q ≡ 0) (w : chainNumber q ≡ 0) where
-    by-marks : {n : ℕ} {u l : Bool} (a b : Bool) → (u ≡ true → applies q (entry t q) ≡ true) → (a ≡ true → applies q (entry t q) ≡ true)
-        → Comes n u l (marksBy q a b (marksIn (entry t q))) (decisionOn policy (q .asks) (marksIn (entry t q))) → Way
-    by-marks {n} {u} {l} a b moves raises c =
+    by-marks : {v : Verdict} {u l : Bool} (a b : Bool) → (u ≡ true → applies q (entry t q) ≡ true) → (a ≡ true → applies q (entry t q) ≡ true)
+        → Comes v u l (marksBy q a b (marksIn (entry t q))) (decisionOn policy (q .asks) (marksIn (entry t q))) → Way
+    by-marks {v} {u} {l} a b moves raises c =
         changes u l (marksBy q a b (marksIn (entry t q)))
         (record {
           passes = passes;
@@ -98,7 +100,7 @@ module _ (policy : Policy) (t : Tables) (q : Request) where
 
     whole-way : Decides policy q (marksIn (entry t q)) (decisionOn policy (q .asks) (marksIn (entry t q))) → Way
     whole-way (done c) = by-marks (applies q (entry t q)) (replaces q (entry t q)) (λ f. f) (λ f. f) c
-    whole-way (refused n which r) = by-marks true false (λ f. r .counts) (λ f. r .counts) (r .comes)
+    whole-way (refused v which r) = by-marks true false (λ f. r .counts) (λ f. r .counts) (r .comes)
 
   pub way : Way
   way = go (ℕ-discrete (early t q) 0) (ℕ-discrete (chainNumber q) 0)

@@ -9,7 +9,7 @@ use Rattle.octets.specs.Lists.{placeOf}
 use Rattle.order.specs.Order.{after}
 use Rattle.policy.specs.declared.rules.Policy.{Policy}
 use Rattle.tables.specs.Records.{ikeSpi, noIke}
-use Rattle.tables.specs.Reached.{Tables}
+use Rattle.tables.specs.Tables.{Tables}
 use Rattle.tables.specs.declared.ike.IkeRecord.{IkeRecord}
 use Rattle.responder.specs.Handle.{Request}
 use Rattle.numbers.specs.Numbers.{seenIn, requested, Some}

@@ -7,12 +7,12 @@ use mathlib.Core.Bool.{Bool, cond, _&&_}
 use lib.Dec.{leb}
 use lib.ListN.{length, set}
 use Rattle.octets.specs.Lists.{placeOf}
-use Rattle.findings.specs.Values.{addressesIn}
+use Rattle.values.specs.Values.{addressesIn}
 use Rattle.findings.specs.declared.seen.Seen.{Seen}
 use Rattle.policy.specs.declared.rules.Policy.{Policy}
 use Rattle.reader.specs.Chain.{reading}
 use Rattle.tables.specs.Records.{ikeSpi, rewritten, follows}
-use Rattle.tables.specs.Reached.{Tables, tables}
+use Rattle.tables.specs.Tables.{Tables, tables}
 use Rattle.tables.specs.declared.ike.IkeRecord.{IkeRecord}
 use Rattle.writing.specs.Notify.{notifyOctets}
 use Rattle.deciding.specs.Decide.{tallied, hasList}

@@ -11,7 +11,7 @@ use Rattle.octets.specs.Lists.{placeOf}
 use Rattle.octets.proofs.Small.{chosen}
 use Rattle.octets.proofs.Places.{place-has}
 use Rattle.tables.specs.Records.{ikeSpi, ipsecSpi, noIke, noIpsec, released}
-use Rattle.tables.specs.Reached.{Tables}
+use Rattle.tables.specs.Tables.{Tables}
 use Rattle.tables.specs.declared.ipsec.IpsecRecord.{IpsecRecord}
 use Rattle.tables.proofs.Cases.{IkeClosed, IpsecClosed, close-ike-cases, close-ipsec-cases}
 use Rattle.reached.specs.WellFormed.{WellFormed}

@@ -15,7 +15,7 @@ use Rattle.address.specs.declared.address.Address.{Address}
 use Rattle.payload.specs.declared.notify.NotifyKind.the-variants.{AdditionalIp4, AdditionalIp6}
 use Rattle.payload.specs.declared.payload.Content.{Content}
 use Rattle.payload.specs.declared.payload.Content.the-variants.{Skipped, Unknown as UnknownPayload, Notify}
-use Rattle.findings.specs.Values.{addressAt, additionalOf, addressesIn}
+use Rattle.values.specs.Values.{addressAt, additionalOf, addressesIn}
 use Rattle.findings.specs.Seen.{is, listed, noted, contentNoted}
 use Rattle.findings.specs.declared.seen.Places.{Places}
 use Rattle.findings.specs.declared.seen.Seen.{Seen}

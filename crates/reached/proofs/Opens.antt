@@ -9,7 +9,7 @@ use Rattle.octets.specs.Lists.{placeOf}
 use Rattle.octets.proofs.Places.{place-has}
 use Rattle.address.specs.Address.{pairFits}
 use Rattle.tables.specs.Records.{ikeSpi, ipsecSpi, ikeOf, childOf, noIke, newIpsec, noIpsec}
-use Rattle.tables.specs.Reached.{Tables}
+use Rattle.tables.specs.Tables.{Tables}
 use Rattle.tables.specs.Opened.{BothOpened}
 use Rattle.tables.specs.declared.calls.Opening.{Opening}
 use Rattle.tables.proofs.Lookup.{finds-opened}

@@ -3,7 +3,7 @@ use mathlib.Core.Path.{refl, ap}
 use mathlib.Core.List.{[], _∷_}
 use lib.ListN.{getD-replicate}
 use Rattle.tables.specs.Records.{ikeSpi, ipsecSpi, noIke, noIpsec}
-use Rattle.tables.specs.Reached.{Tables}
+use Rattle.tables.specs.Tables.{Tables}
 use Rattle.reached.specs.WellFormed.{IkeBounds, IpsecBounds, WellFormed}
 use Rattle.reached.specs.Reached.{empty, Call, opensBoth, opensIpsec, closesIke, closesIpsec, requests, after, afterAll, Typed, StaysWellFormed, Reached}
 use Rattle.reached.proofs.Consistent.{all-free}

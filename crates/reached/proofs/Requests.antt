@@ -13,11 +13,11 @@ use Rattle.octets.proofs.Places.{place-has}
 use Rattle.address.specs.Address.{noAddress, pairFits}
 use Rattle.address.specs.declared.address.Address.{Address}
 use Rattle.address.specs.declared.pair.Pair.{Pair}
-use Rattle.findings.specs.Values.{addressesIn}
+use Rattle.values.specs.Values.{addressesIn}
 use Rattle.policy.specs.declared.rules.Policy.{Policy}
 use Rattle.tables.specs.Records.{ikeSpi, noIke, newIpsec, follows}
 use Rattle.tables.specs.Calls.{listFits}
-use Rattle.tables.specs.Reached.{Tables, tables}
+use Rattle.tables.specs.Tables.{Tables, tables}
 use Rattle.tables.specs.declared.ike.Marks.{Marks}
 use Rattle.tables.specs.declared.ipsec.IpsecRecord.{IpsecRecord}
 use Rattle.responder.specs.Handle.{Request, argumentsFit}

@@ -13,7 +13,7 @@ use Rattle.octets.proofs.Small.{chosen}
 use Rattle.octets.proofs.Places.{place-has}
 use Rattle.tables.specs.Records.{ikeSpi, ipsecSpi, ikeOf, childOf, noIke, noIpsec, released}
 use Rattle.tables.specs.Calls.{tablesAnswer, closeIke}
-use Rattle.tables.specs.Reached.{Tables}
+use Rattle.tables.specs.Tables.{Tables}
 use Rattle.tables.specs.Opened.{BothOpened}
 use Rattle.tables.specs.declared.calls.Opening.{Opening}
 use Rattle.tables.specs.declared.ipsec.IpsecRecord.{IpsecRecord}

@@ -6,7 +6,7 @@ use Rattle.order.specs.Order.{All}
 use Rattle.policy.specs.declared.rules.Policy.{Policy}
 use Rattle.tables.specs.Records.{noIke, noIpsec}
 use Rattle.tables.specs.Calls.{openBoth, openIpsec, closeIke, closeIpsec}
-use Rattle.tables.specs.Reached.{Tables, tables}
+use Rattle.tables.specs.Tables.{Tables, tables}
 use Rattle.tables.specs.declared.calls.Opening.{Opening}
 use Rattle.responder.specs.Handle.{Request}
 use Rattle.numbers.specs.Numbers.{requested}

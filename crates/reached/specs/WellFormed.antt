@@ -8,7 +8,7 @@ use lib.ListN.{length, getD}
 use Rattle.octets.specs.Lists.{placeOf}
 use Rattle.address.specs.Address.{widthOf, noAddress, pairFits}
 use Rattle.tables.specs.Records.{ikeSpi, ipsecSpi, noIke, noIpsec}
-use Rattle.tables.specs.Reached.{Tables}
+use Rattle.tables.specs.Tables.{Tables}
 use Rattle.tables.specs.declared.ike.IkeRecord.{IkeRecord}
 use Rattle.tables.specs.declared.ipsec.IpsecRecord.{IpsecRecord}
 

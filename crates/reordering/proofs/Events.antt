@@ -8,9 +8,9 @@ use native.Mathlib.Decide.{ℕ-discrete}
 use Rattle.order.specs.Order.{All, Order, after, answered, FreeAnswered}
 use Rattle.order.proofs.Orders.{all-of}
 use Rattle.order.proofs.Answers.{keeps-state, keeps-answers}
-use Rattle.tables.specs.Reached.{Tables}
+use Rattle.tables.specs.Tables.{Tables}
 use Rattle.tables.specs.View.{inUse, View, view, BySpi}
-use Rattle.tables.proofs.BySpi.{Since, unseen-by, step-since, apart}
+use Rattle.views.proofs.BySpi.{Since, unseen-by, step-since, apart}
 
 module _ {E A : Type 0} {spi : E → ℕ} {step : E → Tables → Tables} {answer : E → Tables → A} (b : BySpi spi step answer) (t : Tables) where
   -- of no common IKE SA of the starting tables

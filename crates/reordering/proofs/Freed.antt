@@ -7,10 +7,10 @@ use native.Mathlib.Omega.{arith}
 use Rattle.address.specs.declared.pair.Pair.{Pair}
 use Rattle.policy.specs.declared.rules.Policy.{Policy}
 use Rattle.tables.specs.Records.{rewritten}
-use Rattle.tables.specs.Reached.{Tables}
+use Rattle.tables.specs.Tables.{Tables}
 use Rattle.tables.specs.View.{View, view, becomes, applied}
 use Rattle.tables.specs.declared.ike.IkeRecord.{IkeRecord}
-use Rattle.tables.proofs.Own.{view-own, applied-twice}
+use Rattle.views.proofs.Own.{view-own, applied-twice}
 use Rattle.deciding.specs.Decide.{tallied, hasList}
 use Rattle.values.specs.Values.{addressesIn}
 use Rattle.responder.specs.Handle.{Request}

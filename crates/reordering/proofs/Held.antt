@@ -12,11 +12,11 @@ use Rattle.order.proofs.Latest.{latest-is-greatest}
 use Rattle.octets.proofs.Small.{chosen}
 use Rattle.address.specs.declared.pair.Pair.{Pair}
 use Rattle.policy.specs.declared.rules.Policy.{Policy}
-use Rattle.tables.specs.Reached.{Tables}
+use Rattle.tables.specs.Tables.{Tables}
 use Rattle.tables.specs.View.{inUse, View, view}
 use Rattle.tables.specs.declared.ike.IkeRecord.{IkeRecord}
-use Rattle.tables.proofs.View.{found}
-use Rattle.tables.proofs.BySpi.{unseen-by}
+use Rattle.views.proofs.View.{found}
+use Rattle.views.proofs.BySpi.{unseen-by}
 use Rattle.responder.specs.Handle.{Request, meant}
 use Rattle.reordering.specs.Requests.{step, seenIn, updatesFor, pairHeld}
 use Rattle.reordering.proofs.Steps.{Terms, terms, by-spi}

@@ -13,7 +13,7 @@ use Rattle.findings.specs.declared.seen.Seen.{Seen}
 use Rattle.policy.specs.declared.rules.Policy.{Policy}
 use Rattle.reader.specs.Chain.{reading}
 use Rattle.tables.specs.Records.{marksIn, rewritten, remarked, relisted}
-use Rattle.tables.specs.Reached.{Tables}
+use Rattle.tables.specs.Tables.{Tables}
 use Rattle.tables.specs.declared.ike.IkeRecord.{IkeRecord}
 use Rattle.tables.specs.declared.ike.Marks.{Marks}
 use Rattle.deciding.specs.Decide.{isDone, isAccepted, tallied, verdict, counted, marked, listMarked, decision, leftOff, hasList, listDecided, updateDecided, decided}

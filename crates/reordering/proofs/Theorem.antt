@@ -10,7 +10,7 @@ use Rattle.order.specs.Order.{All, Pairwise, Held}
 use Rattle.order.proofs.Orders.{order-pairs, all-map}
 use Rattle.address.specs.declared.pair.Pair.{Pair}
 use Rattle.policy.specs.declared.rules.Policy.{Policy}
-use Rattle.tables.specs.Reached.{Tables}
+use Rattle.tables.specs.Tables.{Tables}
 use Rattle.tables.specs.View.{view}
 use Rattle.tables.specs.declared.ike.IkeRecord.{IkeRecord}
 use Rattle.responder.specs.Handle.{Request}

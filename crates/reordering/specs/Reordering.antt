@@ -6,7 +6,7 @@ use mathlib.Core.List.{List}
 use mathlib.Core.Bool.{Bool, true}
 use Rattle.order.specs.Order.{All, Pairwise, Order, after, answered, FreeAnswered, greatest, settled}
 use Rattle.policy.specs.declared.rules.Policy.{Policy}
-use Rattle.tables.specs.Reached.{Tables}
+use Rattle.tables.specs.Tables.{Tables}
 use Rattle.tables.specs.View.{inUse}
 use Rattle.responder.specs.Handle.{Request}
 use Rattle.reordering.specs.Requests.{step, answer, Apart, sound, updatesFor, pairHeld}

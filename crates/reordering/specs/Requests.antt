@@ -11,7 +11,7 @@ use Rattle.values.specs.Values.{partOf, noNatsSeen}
 use Rattle.findings.specs.declared.seen.Seen.{Seen}
 use Rattle.policy.specs.declared.rules.Policy.{Policy}
 use Rattle.reader.specs.Chain.{reading}
-use Rattle.tables.specs.Reached.{Tables, tables}
+use Rattle.tables.specs.Tables.{Tables, tables}
 use Rattle.tables.specs.View.{inUse}
 use Rattle.deciding.specs.Decide.{isAccepted, verdict}
 use Rattle.responder.specs.Handle.{Request, meant, earlyNumber, handled, handledResponse}

@@ -1,6 +1,6 @@
 pub mod Records
 pub mod Calls
 pub mod Changes
-pub mod Reached
+pub mod Tables
 pub mod Opened
 pub mod View

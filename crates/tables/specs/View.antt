@@ -10,7 +10,7 @@ use Rattle.octets.specs.Lists.{placeOf}
 use Rattle.address.specs.declared.pair.Pair.{Pair}
 use Rattle.tables.specs.Records.{ikeSpi, noIke, follows, released}
 use Rattle.tables.specs.Calls.{hasIke}
-use Rattle.tables.specs.Reached.{Tables, tables}
+use Rattle.tables.specs.Tables.{Tables, tables}
 use Rattle.tables.specs.declared.ike.IkeRecord.{IkeRecord}
 use Rattle.tables.specs.declared.ipsec.IpsecRecord.{IpsecRecord}
 

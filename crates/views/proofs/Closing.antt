@@ -8,12 +8,12 @@ use lib.Dec.{eqb}
 use lib.ListN.{length, set}
 use Rattle.octets.specs.Lists.{placeOf}
 use Rattle.octets.proofs.Small.{neither}
 use Rattle.tables.specs.Records.{ikeSpi, noIke, released}
 use Rattle.tables.specs.Calls.{TablesAnswer, tablesAnswer, hasIke, listFits, closeIke}
-use Rattle.tables.specs.Reached.{Tables, tables, closesIke, after}
+use Rattle.tables.specs.Tables.{Tables, tables}
 use Rattle.tables.specs.View.{View, view, Change, stays, closes, applied, Proper, BySpi}
 use Rattle.tables.specs.declared.ike.IkeRecord.{IkeRecord}
-use Rattle.tables.proofs.View.{applied-stays}
+use Rattle.views.proofs.View.{applied-stays}
 
 abbrev closing : Option IkeRecord → Change
 closing none = stays
@@ -22,6 +22,10 @@ closing (some r) = closes
 abbrev number : Option IkeRecord → ℕ
 number none = 4
 number (some r) = 0
+
+-- the tables after a closing, whatever its number
+abbrev closed : ℕ → Tables → Tables
+closed spi t = let a = closeIke (t .ike) (t .ipsec) spi in tables (a .ike) (a .ipsec)
 
 module _ (spi : ℕ) where
   abbrev bad : ℕ → Bool
@@ -63,11 +67,10 @@ module _ (spi : ℕ) where
         go false e false f = rw (e, f, neither (not (listFits (t .ipsec))) (eqb spi 0) e .1, applied-stays spi t)
         go false e true f = rw (e, f, neither (not (listFits (t .ipsec))) (eqb spi 0) e .1, applied-closes)
 
-    step-is : after t (closesIke spi) ≡ end
-    unfolding after
+    step-is : closed spi t ≡ end
     step-is = ap (λ (x : TablesAnswer). tables (x .ike) (x .ipsec)) is
 
-pub closing-by-spi : BySpi (λ (k : ℕ). k) (λ k t. after t (closesIke k)) (λ k t. closeIke (t .ike) (t .ipsec) k .number)
+pub closing-by-spi : BySpi (λ (k : ℕ). k) closed (λ k t. closeIke (t .ike) (t .ipsec) k .number)
 closing-by-spi =
     record {
       does = does;
