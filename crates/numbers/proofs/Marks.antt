@@ -21,7 +21,7 @@ use Rattle.tables.specs.declared.ike.Marks.{Marks}
 use Rattle.responder.specs.Handle.{Request}
 use Rattle.responder.proofs.Checks.{passed, record-there}
 use Rattle.numbers.specs.Numbers.{seenIn, requested, applies, Some}
-use Rattle.numbers.specs.Marks.{at, Moves, MarkKept, MarksKept, NeverLate, NoneLate}
+use Rattle.numbers.specs.Marks.{at, Moves, MarkKept, MarksKept, Sent, taken, NeverLate, NoneLate}
 use Rattle.numbers.proofs.Cores.{entryBy}
 use Rattle.numbers.proofs.Ways.{place, entry, Changes, Way, stays, changes, way}
 
@@ -69,28 +69,30 @@ pub marks-kept : MarksKept
 marks-kept = kept
 
 -- one request before others: the last that moved the record had an ID above a mark that was no lower than at the start
-module _ (policy : Policy) (t : Tables) (q : Request) (qs : List Request) (i : ℕ) (rest : NeverLate policy (requested policy q t) qs i) where
-  abbrev s : Tables
-  s = requested policy q t
-
+module _ (t : Tables) (x : Sent) (xs : List Sent) (i : ℕ) (rest : NeverLate (taken x t) xs i) where
   abbrev end : IkeRecord
-  end = at i (after (requested policy) s qs)
+  end = at i (after taken (taken x t) xs)
 
-  still-newer : (xs : List Request) → Some (Moves (at i s) end) xs → Some (Moves (at i t) end) xs
+  first : MarkKept (x .policy) t (x .request) i
+  first = kept (x .policy) t (x .request) i
+
+  abbrev Moved : IkeRecord → Sent → Type 0
+  Moved before y = Moves before end (y .request)
+
+  still-newer : (ys : List Sent) → Some (Moved (at i (taken x t))) ys → Some (Moved (at i t)) ys
   still-newer [] f = f
-  still-newer (x ∷ xs) f =
-      let k = kept policy t q i in
-      ⊎-elim (λ m. inl (record { spi = sym (k .spi) ∙ m .spi; update = m .update; newer = omega (arith, k .rises, m .newer); pair = m .pair }))
-      (λ m. inr (still-newer xs m)) f
+  still-newer (y ∷ ys) f =
+      ⊎-elim (λ m. inl (record { spi = sym (first .spi) ∙ m .spi; update = m .update; newer = omega (arith, first .rises, m .newer); pair = m .pair }))
+      (λ m. inr (still-newer ys m)) f
 
-  unmoved : end .pair ≡ at i s .pair → (end .pair ≡ at i t .pair) ⊎ Some (Moves (at i t) end) (q ∷ qs)
+  unmoved : end .pair ≡ at i (taken x t) .pair → (end .pair ≡ at i t .pair) ⊎ Some (Moved (at i t)) (x ∷ xs)
   unmoved e =
       ⊎-elim (λ f. inl (e ∙ f))
-      (λ m. inr (inl (record { spi = m .1 .spi; update = m .1 .update; newer = m .1 .newer; pair = e ∙ m .1 .pair }))) (kept policy t q i .moved)
+      (λ m. inr (inl (record { spi = m .1 .spi; update = m .1 .update; newer = m .1 .newer; pair = e ∙ m .1 .pair }))) (first .moved)
 
-  one-more : NeverLate policy t (q ∷ qs) i
-  one-more = record { rises = omega (arith, kept policy t q i .rises, rest .rises); moved = ⊎-elim unmoved (λ f. inr (inr (still-newer qs f))) (rest .moved) }
+  one-more : NeverLate t (x ∷ xs) i
+  one-more = record { rises = omega (arith, first .rises, rest .rises); moved = ⊎-elim unmoved (λ f. inr (inr (still-newer xs f))) (rest .moved) }
 
 pub none-late : NoneLate
-none-late policy t [] i = record { rises = omega arith; moved = inl refl }
-none-late policy t (q ∷ qs) i = one-more policy t q qs i (none-late policy (requested policy q t) qs i)
+none-late t [] i = record { rises = omega arith; moved = inl refl }
+none-late t (x ∷ xs) i = one-more t x xs i (none-late (taken x t) xs i)

@@ -34,11 +34,19 @@ pub record MarkKept (policy : Policy) (t : Tables) (q : Request) (i : ℕ) : Typ
 abbrev pub MarksKept : Type 0
 MarksKept = (policy : Policy) (t : Tables) (q : Request) (i : ℕ) → MarkKept policy t q i
 
+-- A request with the policy of its time.
+pub record Sent : Type 0 where
+  pub policy : Policy
+  pub request : Request
+
+abbrev pub taken : Sent → Tables → Tables
+taken x t = requested (x .policy) (x .request) t
+
 -- Any list of requests: the mark never falls, and a pair that is another at the end is that of a request whose ID exceeds the mark that
 -- the record began with. So, from the tables that an update left, no late one overwrites it.
-pub record NeverLate (policy : Policy) (t : Tables) (qs : List Request) (i : ℕ) : Type 0 where
-  pub rises : at i t .«update_mark» ≤ at i (after (requested policy) t qs) .«update_mark»
-  pub moved : (at i (after (requested policy) t qs) .pair ≡ at i t .pair) ⊎ Some (Moves (at i t) (at i (after (requested policy) t qs))) qs
+pub record NeverLate (t : Tables) (xs : List Sent) (i : ℕ) : Type 0 where
+  pub rises : at i t .«update_mark» ≤ at i (after taken t xs) .«update_mark»
+  pub moved : (at i (after taken t xs) .pair ≡ at i t .pair) ⊎ Some (λ (x : Sent). Moves (at i t) (at i (after taken t xs)) (x .request)) xs
 
 abbrev pub NoneLate : Type 0
-NoneLate = (policy : Policy) (t : Tables) (qs : List Request) (i : ℕ) → NeverLate policy t qs i
+NoneLate = (t : Tables) (xs : List Sent) (i : ℕ) → NeverLate t xs i
