@@ -6,14 +6,13 @@ use mathlib.Core.Bool.{Bool, true, false, cond, _&&_, not}
 use native.Mathlib.Omega.{arith}
 use native.Mathlib.Decide.{ℕ-discrete}
 use borrow.Author.Tests.{eq-eqb, ne-eqb}
-use lib.Dec.{eqb, ltb}
+use lib.Dec.{eqb}
 use lib.ListN.{length, getD, replicate, length-append}
-use Rattle.octets.specs.Flags.{isYes}
 use Rattle.octets.specs.Lists.{sameAt}
-use Rattle.octets.proofs.Small.{both, chosen}
+use Rattle.octets.proofs.Small.{both}
 use Rattle.address.specs.Address.{noPair}
 use Rattle.policy.specs.declared.rules.Policy.{Policy}
-use Rattle.tables.specs.Calls.{hasIke, listFits}
+use Rattle.tables.specs.Calls.{listFits}
 use Rattle.tables.specs.Records.{marksIn}
 use Rattle.tables.specs.declared.ike.IkeRecord.{IkeRecord}
 use Rattle.tables.specs.declared.ike.Marks.{Marks}
@@ -24,8 +23,9 @@ use Rattle.writing.proofs.Chained.{chained-one}
 use Rattle.reader.specs.Chain.{reading}
 use Rattle.responding.specs.Respond.{nextFor, cookieNotify, doneResponse}
 use Rattle.responder.specs.Core.{firstOf, cookieIn, wantsNats, decisionOn, coreAnswer, coreResponse}
-use Rattle.responder.specs.Handle.{Request as Received, meant, recordNumber, checkedNumber, earlyNumber, handled, handledResponse}
+use Rattle.responder.specs.Handle.{Request as Received, meant, earlyNumber, handled, handledResponse}
 use Rattle.deciding.proofs.Numbers.{verdict-of, number-accepted}
+use Rattle.numbers.proofs.Checks.{early-of}
 use Rattle.responder.proofs.Checks.{passed, lent-fit}
 use Rattle.asking.specs.Request.{Request, request, ifAsked, natNotifies, cookieNotifies, requested, requestFits, requestOctets, cookieFits}
 use Rattle.requests.specs.declared.request.Written.{Written}
@@ -39,15 +39,6 @@ use Rattle.exchange.proofs.FirstTrip.{given-back, fits-written, number-
 -- The numbers that the first five checks and the decision give are others than 6 and 7.
 abbrev Other : ℕ → Type 0
 Other n = (n ≡ 6 → ⊥) × (n ≡ 7 → ⊥)
-
-early-other : (fit : Bool) (room octets : ℕ) (ike : List IkeRecord) (spi : ℕ) → Other (checkedNumber fit room octets (recordNumber ike spi))
-unfolding checkedNumber recordNumber
-early-other fit room octets ike spi =
-    chosen Other fit
-    (λ e. chosen Other (ltb room 128) (λ e. omega arith)
-    (λ e. chosen Other (ltb 4096 octets) (λ e. omega arith)
-    (λ e. chosen Other (hasIke spi ike) (λ e. chosen Other (isYes (meant ike spi .agreed .mobike)) (λ e. omega arith) (λ e. omega arith)) (λ e. omega arith))))
-    (λ e. omega arith)
 
 -- a chain's first type is 0 exactly if it has no octets
 type-of : (xs : List Notification) → firstOf (length (chained xs 0)) ≡ firstType xs 0
@@ -172,7 +163,7 @@ module _ (q : Request) (z : Sized q) (fits : requestFits q ≡ true) (policy : P
             rw (eq-eqb early 0 e)
             (record { not-malformed = o .0; not-critical = o .1; accepted = core-accepted (marksIn (meant ike (r .spi))) (l .0) (l .1) })
         go (no n) =
-            let o = early-other _ (r .room) (length (r .asks .body)) ike (r .spi) in
+            let o = early-of Other (omega arith) (omega arith) (omega arith) (omega arith) (omega arith) (omega arith) _ (r .room) (length (r .asks .body)) ike (r .spi) in
             rw (ne-eqb early 0 n) (record { not-malformed = o .0; not-critical = o .1; accepted = λ e. absurd (n e) })
 
 pub all-understood : AllUnderstood

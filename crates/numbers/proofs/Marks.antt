@@ -1,6 +1,6 @@
 -- Under requests a record's update mark never falls, and its pair moves only with an update whose ID exceeds the mark.
-use Prim.Native.Nat.{ℕ, _≤_}
-use mathlib.Core.Path.{_≡_, refl, ap, _∙_}
+use Prim.Native.Nat.{ℕ, _<_, _≤_}
+use mathlib.Core.Path.{_≡_, refl, sym, ap, _∙_}
 use mathlib.Core.Logic.{_⊎_, inl, inr, ⊎-elim}
 use mathlib.Core.List.{List, [], _∷_}
 use mathlib.Core.Bool.{Bool, true, false}
@@ -8,24 +8,26 @@ use native.Mathlib.Omega.{arith}
 use native.Mathlib.Decide.{ℕ-discrete}
 use borrow.Author.Tests.{leb-true}
 use lib.Dec.{leb}
+use lib.ListN.{length}
 use lib.Seq.{getD-set-same, getD-set-other}
 use Rattle.octets.proofs.Small.{both}
+use Rattle.octets.proofs.Places.{place-has}
 use Rattle.order.specs.Order.{after}
 use Rattle.policy.specs.declared.rules.Policy.{Policy}
-use Rattle.tables.specs.Records.{noIke}
+use Rattle.tables.specs.Records.{ikeSpi, noIke}
 use Rattle.tables.specs.Tables.{Tables}
 use Rattle.tables.specs.declared.ike.IkeRecord.{IkeRecord}
 use Rattle.tables.specs.declared.ike.Marks.{Marks}
 use Rattle.responder.specs.Handle.{Request}
 use Rattle.responder.proofs.Checks.{passed, record-there}
 use Rattle.numbers.specs.Numbers.{seenIn, requested, applies, Some}
-use Rattle.numbers.specs.Marks.{at, Moves, MarkKept, MarksKept, NeverLate, NoneLate}
+use Rattle.numbers.specs.Marks.{at, Moves, MarkKept, MarksKept, Sent, taken, NeverLate, NoneLate}
 use Rattle.numbers.proofs.Cores.{entryBy}
 use Rattle.numbers.proofs.Ways.{place, entry, Changes, Way, stays, changes, way}
 
 module _ (policy : Policy) (t : Tables) (q : Request) (i : ℕ) where
   unchanged : requested policy q t ≡ t → MarkKept policy t q i
-  unchanged e = record { rises = rw e (omega arith); moved = inl (ap (λ (s : Tables). at i s .pair) e) }
+  unchanged e = record { spi = rw e; rises = rw e (omega arith); moved = inl (rw e) }
 
   -- an update that counts carries an ID that exceeds the mark
   newer : applies q (entry t q) ≡ true → (seenIn q .update ≡ true) × (entry t q .«update_mark» ≤ q .asks .id)
@@ -35,24 +37,26 @@ module _ (policy : Policy) (t : Tables) (q : Request) (i : ℕ) where
     raised : entry t q .«update_mark» ≤ m .«update_mark»
     raised = ⊎-elim (λ e. omega arith) (λ e. omega (arith, newer (e .0) .1, e .1)) (c .update-mark)
 
+    here : place t q < length (t .ike)
+    here = record-there (t .ike) (q .spi) (passed _ _ _ _ (c .passes) .there) .0
+
     changed : MarkKept policy t q i
     changed = go (ℕ-discrete i (place t q))
       where
         by : (b : Bool) → (b ≡ true → applies q (entry t q) ≡ true) → i ≡ place t q
             → let e = entryBy q (entry t q) b l m in
             (e .pair ≡ entry t q .pair) ⊎ ((i ≡ place t q) × Moves (entry t q) e q)
-        by true c e = let n = newer (c refl) in inr (e, record { update = n .0; newer = n .1; pair = refl })
+        by true c e = let n = newer (c refl) in inr (e, record { spi = place-has ikeSpi (q .spi) (t .ike) noIke here; update = n .0; newer = n .1; pair = refl })
         by false c e = inl refl
 
         go : Dec (i ≡ place t q) → MarkKept policy t q i
         go (yes e) =
-            let here = record-there (t .ike) (q .spi) (passed _ _ _ _ (c .passes) .there) .0 in
             let now : at i (requested policy q t) ≡ entryBy q (entry t q) u l m = rw (c .is, e) (getD-set-same (t .ike) (place t q) (entryBy q (entry t q) u l m) noIke here) in
             let was : at i t ≡ entry t q = ap (λ (j : ℕ). at j t) e in
-            record { rises = rw (now, was) raised; moved = rw (now, was) (by u (c .moves) e) }
+            record { spi = rw (now, was); rises = rw (now, was) raised; moved = rw (now, was) (by u (c .moves) e) }
         go (no n) =
             let now : at i (requested policy q t) ≡ at i t = rw (c .is) (getD-set-other (t .ike) (place t q) i (entryBy q (entry t q) u l m) noIke n) in
-            record { rises = rw now (omega arith); moved = inl (ap (λ (r : IkeRecord). r .pair) now) }
+            record { spi = rw now; rises = rw now (omega arith); moved = inl (rw now) }
 
   kept : MarkKept policy t q i
   kept = go (way policy t q)
@@ -65,25 +69,30 @@ pub marks-kept : MarksKept
 marks-kept = kept
 
 -- one request before others: the last that moved the record had an ID above a mark that was no lower than at the start
-module _ (policy : Policy) (t : Tables) (q : Request) (qs : List Request) (i : ℕ) (rest : NeverLate policy (requested policy q t) qs i) where
-  abbrev s : Tables
-  s = requested policy q t
-
+module _ (t : Tables) (x : Sent) (xs : List Sent) (i : ℕ) (rest : NeverLate (taken x t) xs i) where
   abbrev end : IkeRecord
-  end = at i (after (requested policy) s qs)
+  end = at i (after taken (taken x t) xs)
 
-  still-newer : (xs : List Request) → Some (Moves (at i s) end) xs → Some (Moves (at i t) end) xs
+  first : MarkKept (x .policy) t (x .request) i
+  first = kept (x .policy) t (x .request) i
+
+  abbrev Moved : IkeRecord → Sent → Type 0
+  Moved before y = Moves before end (y .request)
+
+  still-newer : (ys : List Sent) → Some (Moved (at i (taken x t))) ys → Some (Moved (at i t)) ys
   still-newer [] f = f
-  still-newer (x ∷ xs) f =
-      ⊎-elim (λ m. inl (record { update = m .update; newer = omega (arith, kept policy t q i .rises, m .newer); pair = m .pair })) (λ m. inr (still-newer xs m)) f
+  still-newer (y ∷ ys) f =
+      ⊎-elim (λ m. inl (record { spi = sym (first .spi) ∙ m .spi; update = m .update; newer = omega (arith, first .rises, m .newer); pair = m .pair }))
+      (λ m. inr (still-newer ys m)) f
 
-  unmoved : end .pair ≡ at i s .pair → (end .pair ≡ at i t .pair) ⊎ Some (Moves (at i t) end) (q ∷ qs)
+  unmoved : end .pair ≡ at i (taken x t) .pair → (end .pair ≡ at i t .pair) ⊎ Some (Moved (at i t)) (x ∷ xs)
   unmoved e =
-      ⊎-elim (λ f. inl (e ∙ f)) (λ m. inr (inl (record { update = m .1 .update; newer = m .1 .newer; pair = e ∙ m .1 .pair }))) (kept policy t q i .moved)
+      ⊎-elim (λ f. inl (e ∙ f))
+      (λ m. inr (inl (record { spi = m .1 .spi; update = m .1 .update; newer = m .1 .newer; pair = e ∙ m .1 .pair }))) (first .moved)
 
-  one-more : NeverLate policy t (q ∷ qs) i
-  one-more = record { rises = omega (arith, kept policy t q i .rises, rest .rises); moved = ⊎-elim unmoved (λ f. inr (inr (still-newer qs f))) (rest .moved) }
+  one-more : NeverLate t (x ∷ xs) i
+  one-more = record { rises = omega (arith, first .rises, rest .rises); moved = ⊎-elim unmoved (λ f. inr (inr (still-newer xs f))) (rest .moved) }
 
 pub none-late : NoneLate
-none-late policy t [] i = record { rises = omega arith; moved = inl refl }
-none-late policy t (q ∷ qs) i = one-more policy t q qs i (none-late policy (requested policy q t) qs i)
+none-late t [] i = record { rises = omega arith; moved = inl refl }
+none-late t (x ∷ xs) i = one-more t x xs i (none-late (taken x t) xs i)

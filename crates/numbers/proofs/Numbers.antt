@@ -48,7 +48,7 @@ module _ (policy : Policy) (t : Tables) (q : Request) where
   early-row : (early t q ≡ 0 → ⊥) → Found
   early-row n =
       early-of (λ (k : ℕ). early t q ≡ k → Found) (λ e. absurd (n e)) (λ e. at 1 (omega arith) c e refl refl) (λ e. at 2 (omega arith) c e refl refl)
-      (λ e. at 3 (omega arith) c e refl refl) (λ e. at 4 (omega arith) c e refl refl) (λ e. at 5 (omega arith) c e refl refl) t q refl
+      (λ e. at 3 (omega arith) c e refl refl) (λ e. at 4 (omega arith) c e refl refl) (λ e. at 5 (omega arith) c e refl refl) _ _ _ _ _ refl
     where
       c : ComesTo policy t q (early t q) [] t
       c = refused-early policy t q n

@@ -36,9 +36,9 @@ module _ {A : Type 0} (key : A → ℕ) (d : A) where
 abbrev pub isFamily : ℕ → Bool
 isFamily family = not (eqb (widthOf family) 0)
 
--- What 01 says of an IKE record in use: its pair was once accepted as an argument, so its family is 4 or 6; "an update mark and a list mark
--- (each none or a message ID of 32 bits ...)", kept as 0 or the ID and one; "up to 16 additional addresses"; "an unknown tally that stays at
--- 4,294,967,295 once there".
+-- What 01 says of an IKE record in use: its pair passed check 1, so its family is 4 or 6; "an update mark and a list mark (each none or a
+-- message ID of 32 bits ...)", kept as 0 or the ID and one; "up to 16 additional addresses", each of family 4 or 6; "an unknown tally that
+-- stays at 4,294,967,295 once there".
 pub record IkeBounds (r : IkeRecord) : Type 0 where
   pub pair : pairFits (r .pair) ≡ true
   pub update-mark : r .«update_mark» ≤ 4294967296

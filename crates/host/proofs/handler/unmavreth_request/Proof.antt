@@ -3,7 +3,7 @@
 use Rattle.lent.proofs.Kit.{_≡_, refl, ap, ℕ, _<_, _^_, cond, [], _∷_, List, map, length, set, URA, named, w8, w32, w64, Val, SProp, ent, emp, via, id⊢, fst∗, flft, fres, Memory, Routine, Heap, Calls, Loops, WpFn, Atoms, Lfts, Shares}
 use Rattle.lent.proofs.Kit.{Fun, givenOf, tables, tablesOf, Given, Item, ‵, ⋆, _$_, _∵_, !, qed, by, move, drop, split, join, fsplit, fjoin, feqL, suffices, frame, done, look, init, forget, stop, hop, fld, from, load, of-opd, addr, assigns}
 use Rattle.lent.proofs.Kit.{and-then, no-more, land, returns, enter, alloc1, alloc0, params1, pass1, pass0, free0, whole, sub, look-in, agg, FmC, fmOf, RattleType, owns, flat, Is, Spells, valss, uint-makes, uint-vals, uint-tells, bool-makes, bool-vals, nothing-tells, u8, u32, u64}
-use Rattle.lent.proofs.Kit.{usize, bool, RefT, ptr-vals, mut-tells, shr-tells, slice-vals, mut-slice-tells, shr-slice-tells, Room, finally, Slot, plain, shrRefTo, shrSliceOf, typesAt, owned, nothing, Triple, Args, Vals, onEntry, cited, Stays, stay-dropped}
+use Rattle.lent.proofs.Kit.{says, usize, bool, RefT, ptr-vals, mut-tells, shr-tells, slice-vals, mut-slice-tells, shr-slice-tells, Room, finally, Slot, plain, shrRefTo, shrSliceOf, typesAt, owned, nothing, Triple, Args, Vals, onEntry, cited, Stays, stay-dropped}
 use Rattle.lent.proofs.Kit.{gave-ref, gave-slice, walkOf, goes-dropped, goes-gave-ref, goes-gave-slice, ends-at, yes}
 use denote.Signature.{AllWithin}
 use denote.Slice.{shr-slice-copy}
