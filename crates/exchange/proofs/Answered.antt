@@ -25,8 +25,7 @@ use Rattle.responding.specs.Respond.{nextFor, cookieNotify, doneResponse}
 use Rattle.responder.specs.Core.{firstOf, cookieIn, wantsNats, decisionOn, coreAnswer, coreResponse}
 use Rattle.responder.specs.Handle.{Request as Received, meant, earlyNumber, handled, handledResponse}
 use Rattle.deciding.proofs.Numbers.{verdict-of, number-accepted}
-use Rattle.numbers.proofs.Checks.{early-of}
-use Rattle.responder.proofs.Checks.{passed, lent-fit}
+use Rattle.responder.proofs.Checks.{passed, lent-fit, early-of}
 use Rattle.asking.specs.Request.{Request, request, ifAsked, natNotifies, cookieNotifies, requested, requestFits, requestOctets, cookieFits}
 use Rattle.requests.specs.declared.request.Written.{Written}
 use Rattle.initiator.specs.Response.{same, closes, outcomeOf, tallyOf, assessment}

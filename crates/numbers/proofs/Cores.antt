@@ -14,8 +14,7 @@ use Rattle.tables.specs.declared.ike.Marks.{Marks}
 use Rattle.deciding.specs.Decide.{verdictNumber}
 use Rattle.deciding.specs.declared.decide.Verdict.{Verdict}
 use Rattle.responder.specs.Core.{decidedResponse, chainError, decisionOn, coreAnswer, coreResponse, coreResult, changedBy}
-use Rattle.responder.specs.Handle.{Request}
-use Rattle.numbers.specs.Numbers.{seenIn}
+use Rattle.responder.specs.Handle.{Request, seenIn}
 use Rattle.numbers.proofs.Decisions.{Comes}
 
 -- the number that reading the chain gives

@@ -15,8 +15,8 @@ use Rattle.deciding.specs.declared.decide.Effect.the-variants.{None, Done, Stal
 use Rattle.deciding.specs.declared.decide.Verdict.{Verdict}
 use Rattle.deciding.specs.declared.decide.Verdict.the-variants.{Accepted, Altered, Unacceptable}
 use Rattle.responder.specs.Core.{decisionOn}
-use Rattle.responder.specs.Handle.{Request}
-use Rattle.numbers.specs.Numbers.{seenIn, unknownIn}
+use Rattle.responder.specs.Handle.{Request, seenIn}
+use Rattle.numbers.specs.Numbers.{unknownIn}
 
 -- whether the update counts, and whether the list does
 abbrev pub up : Request → Marks → Bool

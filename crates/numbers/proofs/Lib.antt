@@ -1,5 +1,4 @@
 -- Laws that belong to no one function.
-pub mod Checks
 pub mod Decisions
 pub mod Cores
 pub mod Ways

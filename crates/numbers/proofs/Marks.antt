@@ -18,15 +18,15 @@ use Rattle.tables.specs.Records.{ikeSpi, noIke}
 use Rattle.tables.specs.Tables.{Tables}
 use Rattle.tables.specs.declared.ike.IkeRecord.{IkeRecord}
 use Rattle.tables.specs.declared.ike.Marks.{Marks}
-use Rattle.responder.specs.Handle.{Request}
+use Rattle.responder.specs.Handle.{Request, seenIn, afterRequest}
 use Rattle.responder.proofs.Checks.{passed, record-there}
-use Rattle.numbers.specs.Numbers.{seenIn, requested, applies, Some}
+use Rattle.numbers.specs.Numbers.{applies, Some}
 use Rattle.numbers.specs.Marks.{at, Moves, MarkKept, MarksKept, Sent, taken, NeverLate, NoneLate}
 use Rattle.numbers.proofs.Cores.{entryBy}
 use Rattle.numbers.proofs.Ways.{place, entry, Changes, Way, stays, changes, way}
 
 module _ (policy : Policy) (t : Tables) (q : Request) (i : ℕ) where
-  unchanged : requested policy q t ≡ t → MarkKept policy t q i
+  unchanged : afterRequest policy q t ≡ t → MarkKept policy t q i
   unchanged e = record { spi = rw e; rises = rw e (omega arith); moved = inl (rw e) }
 
   -- an update that counts carries an ID that exceeds the mark
@@ -51,11 +51,11 @@ module _ (policy : Policy) (t : Tables) (q : Request) (i : ℕ) where
 
         go : Dec (i ≡ place t q) → MarkKept policy t q i
         go (yes e) =
-            let now : at i (requested policy q t) ≡ entryBy q (entry t q) u l m = rw (c .is, e) (getD-set-same (t .ike) (place t q) (entryBy q (entry t q) u l m) noIke here) in
+            let now : at i (afterRequest policy q t) ≡ entryBy q (entry t q) u l m = rw (c .is, e) (getD-set-same (t .ike) (place t q) (entryBy q (entry t q) u l m) noIke here) in
             let was : at i t ≡ entry t q = ap (λ (j : ℕ). at j t) e in
             record { spi = rw (now, was); rises = rw (now, was) raised; moved = rw (now, was) (by u (c .moves) e) }
         go (no n) =
-            let now : at i (requested policy q t) ≡ at i t = rw (c .is) (getD-set-other (t .ike) (place t q) i (entryBy q (entry t q) u l m) noIke n) in
+            let now : at i (afterRequest policy q t) ≡ at i t = rw (c .is) (getD-set-other (t .ike) (place t q) i (entryBy q (entry t q) u l m) noIke n) in
             record { spi = rw now; rises = rw now (omega arith); moved = inl (rw now) }
 
   kept : MarkKept policy t q i

@@ -14,9 +14,9 @@ use Rattle.writing.specs.Notify.{notifyOctets}
 use Rattle.responding.specs.Respond.{cookieNotify, errorResponse}
 use Rattle.responder.specs.Core.{chainError, decisionOn}
 use Rattle.responder.specs.Handle.{Request}
-use Rattle.responder.proofs.Checks.{passed}
+use Rattle.reader.proofs.Refused.{broken-number}
+use Rattle.responder.proofs.Checks.{passed, early-of}
 use Rattle.numbers.specs.Numbers.{same, none, Row, row, rows, Some, Gives, AsTheTable}
-use Rattle.numbers.proofs.Checks.{broken-number, early-of}
 use Rattle.numbers.proofs.Decisions.{Decides, done, refused, decides}
 use Rattle.numbers.proofs.Cores.{chainNumber}
 use Rattle.numbers.proofs.Ways.{early, entry, ComesTo, refused-early, refused-chain, decided-here}

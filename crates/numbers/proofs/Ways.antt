@@ -18,10 +18,10 @@ use Rattle.tables.specs.Tables.{Tables, tables}
 use Rattle.tables.specs.declared.ike.IkeRecord.{IkeRecord}
 use Rattle.tables.specs.declared.ike.Marks.{Marks}
 use Rattle.responder.specs.Core.{decidedResponse, chainError, decisionOn}
-use Rattle.responder.specs.Handle.{Request, meant, earlyNumber, handled, handledResponse}
+use Rattle.responder.specs.Handle.{Request, meant, earlyNumber, handled, handledResponse, seenIn, afterRequest}
 use Rattle.deciding.specs.Decide.{verdictNumber}
 use Rattle.deciding.specs.declared.decide.Verdict.{Verdict}
-use Rattle.numbers.specs.Numbers.{seenIn, requested, applies, replaces}
+use Rattle.numbers.specs.Numbers.{applies, replaces}
 use Rattle.numbers.proofs.Decisions.{marksBy, Comes, Decides, done, refused, decides}
 use Rattle.numbers.proofs.Cores.{chainNumber, entryBy, CoreComes, core-refused, core-decided}
 
@@ -45,15 +45,15 @@ module _ (policy : Policy) (t : Tables) (q : Request) where
     pub number : handled policy (t .ike) (t .ipsec) q .reply .number ≡ n
     pub octets : handledResponse policy (t .ike) (t .ipsec) q ≡ response
     pub long : handled policy (t .ike) (t .ipsec) q .reply .length ≡ length response
-    pub after : requested policy q t ≡ s
+    pub after : afterRequest policy q t ≡ s
 
   pub refused-early : (early t q ≡ 0 → ⊥) → ComesTo (early t q) [] t
-  unfolding requested handled handledResponse
+  unfolding afterRequest handled handledResponse
   refused-early n = let f = ne-eqb (early t q) 0 n in record { number = rw f; octets = rw f; long = rw f; after = rw f }
 
   module _ (passes : early t q ≡ 0) where
     by-core : {n : ℕ} {response : List ℕ} {e : IkeRecord} {u : Bool} → CoreComes policy q (entry t q) n response e u → ComesTo n response (changedTo t q e u)
-    unfolding requested handled handledResponse
+    unfolding afterRequest handled handledResponse
     by-core c =
         let f = eq-eqb (early t q) 0 passes in
         record { number = rw f (c .number); octets = rw f (c .octets); long = rw f (c .long); after = rw (f, c .entry, c .moves) }
@@ -71,7 +71,7 @@ module _ (policy : Policy) (t : Tables) (q : Request) where
   -- A change of the record meant: it moves only with an update that counts, and its marks stay or become the ID.
   pub record Changes (u l : Bool) (m : Marks) : Type 0 where
     pub passes : early t q ≡ 0
-    pub is : requested policy q t ≡ changedTo t q (entryBy q (entry t q) u l m) u
+    pub is : afterRequest policy q t ≡ changedTo t q (entryBy q (entry t q) u l m) u
     pub moves : u ≡ true → applies q (entry t q) ≡ true
     pub update-mark : (m .«update_mark» ≡ entry t q .«update_mark») ⊎ ((applies q (entry t q) ≡ true) × (m .«update_mark» ≡ q .asks .id + 1))
     pub list-mark : (m .«list_mark» ≡ entry t q .«list_mark») ⊎ (m .«list_mark» ≡ q .asks .id + 1)
@@ -79,7 +79,7 @@ module _ (policy : Policy) (t : Tables) (q : Request) where
 
   -- What a request does to the tables.
   pub data Way : Type 0 where
-    stays : requested policy q t ≡ t → Way
+    stays : afterRequest policy q t ≡ t → Way
     changes : (u l : Bool) (m : Marks) → Changes u l m → Way
 
   module _ (passes : early t q ≡ 0) (w : chainNumber q ≡ 0) where

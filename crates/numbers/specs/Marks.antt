@@ -11,8 +11,8 @@ use Rattle.policy.specs.declared.rules.Policy.{Policy}
 use Rattle.tables.specs.Records.{ikeSpi, noIke}
 use Rattle.tables.specs.Tables.{Tables}
 use Rattle.tables.specs.declared.ike.IkeRecord.{IkeRecord}
-use Rattle.responder.specs.Handle.{Request}
-use Rattle.numbers.specs.Numbers.{seenIn, requested, Some}
+use Rattle.responder.specs.Handle.{Request, seenIn, afterRequest}
+use Rattle.numbers.specs.Numbers.{Some}
 
 abbrev pub at : ℕ → Tables → IkeRecord
 at i t = getD (t .ike) i noIke
@@ -27,9 +27,9 @@ pub record Moves (before after : IkeRecord) (q : Request) : Type 0 where
 
 -- One request, at every place: the mark rises or stays; the pair stays, or this is the place meant and the request moves it.
 pub record MarkKept (policy : Policy) (t : Tables) (q : Request) (i : ℕ) : Type 0 where
-  pub spi : at i (requested policy q t) .spi ≡ at i t .spi
-  pub rises : at i t .«update_mark» ≤ at i (requested policy q t) .«update_mark»
-  pub moved : (at i (requested policy q t) .pair ≡ at i t .pair) ⊎ ((i ≡ placeOf ikeSpi (q .spi) (t .ike)) × Moves (at i t) (at i (requested policy q t)) q)
+  pub spi : at i (afterRequest policy q t) .spi ≡ at i t .spi
+  pub rises : at i t .«update_mark» ≤ at i (afterRequest policy q t) .«update_mark»
+  pub moved : (at i (afterRequest policy q t) .pair ≡ at i t .pair) ⊎ ((i ≡ placeOf ikeSpi (q .spi) (t .ike)) × Moves (at i t) (at i (afterRequest policy q t)) q)
 
 abbrev pub MarksKept : Type 0
 MarksKept = (policy : Policy) (t : Tables) (q : Request) (i : ℕ) → MarkKept policy t q i
@@ -40,7 +40,7 @@ pub record Sent : Type 0 where
   pub request : Request
 
 abbrev pub taken : Sent → Tables → Tables
-taken x t = requested (x .policy) (x .request) t
+taken x t = afterRequest (x .policy) (x .request) t
 
 -- Any list of requests: the mark never falls, and a pair that is another at the end is that of a request whose ID exceeds the mark that
 -- the record began with. So, from the tables that an update left, no late one overwrites it.

@@ -18,16 +18,7 @@ use Rattle.writing.specs.Notify.{notifyOctets}
 use Rattle.deciding.specs.Decide.{tallied, hasList}
 use Rattle.responding.specs.Respond.{nextFor, cookieNotify, doneResponse}
 use Rattle.responder.specs.Core.{cookieIn, wantsNats}
-use Rattle.responder.specs.Handle.{Request, meant, handled, handledResponse}
-
--- the tables after a request
-unfoldable pub requested : Policy → Request → Tables → Tables
-requested policy q t =
-    let h = handled policy (t .ike) (t .ipsec) q in
-    tables (h .ike) (h .ipsec)
-
-abbrev pub seenIn : Request → Seen
-seenIn q = reading (q .asks .first) (q .asks .body) .seen
+use Rattle.responder.specs.Handle.{Request, meant, handled, handledResponse, seenIn, afterRequest}
 
 -- "if the ID doesn't exceed the update mark, the update is stale": a mark is kept as the least ID that exceeds it.
 abbrev pub applies : Request → IkeRecord → Bool
@@ -60,7 +51,7 @@ tallyAndMark q t =
     (t .ipsec)
 
 -- "as steps 1 to 3": an update that applies sets the mark and moves the record and what it owns; a list that replaces, list and list mark
-abbrev stepped : Request → IkeRecord → IkeRecord
+abbrev pub stepped : Request → IkeRecord → IkeRecord
 stepped q r =
     let up = applies q r in
     let new = replaces q r in
@@ -129,7 +120,7 @@ pub record Gives (policy : Policy) (t : Tables) (q : Request) (r : Row) : Type 0
   pub number : handled policy (t .ike) (t .ipsec) q .reply .number ≡ r .number
   pub octets : handledResponse policy (t .ike) (t .ipsec) q ≡ r .response q
   pub long : handled policy (t .ike) (t .ipsec) q .reply .length ≡ length (r .response q)
-  pub after : requested policy q t ≡ r .tables q t
+  pub after : afterRequest policy q t ≡ r .tables q t
 
 -- Demand 1: "Each refusal has a number in document 01. It changes no table and writes nothing but what that table names." Of every
 -- request, from any tables and policy; no two rows have one number.

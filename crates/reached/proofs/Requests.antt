@@ -20,9 +20,8 @@ use Rattle.tables.specs.Calls.{listFits}
 use Rattle.tables.specs.Tables.{Tables, tables}
 use Rattle.tables.specs.declared.ike.Marks.{Marks}
 use Rattle.tables.specs.declared.ipsec.IpsecRecord.{IpsecRecord}
-use Rattle.responder.specs.Handle.{Request, argumentsFit}
+use Rattle.responder.specs.Handle.{Request, argumentsFit, afterRequest, seenIn}
 use Rattle.responder.proofs.Checks.{passed, record-there}
-use Rattle.numbers.specs.Numbers.{requested, seenIn}
 use Rattle.numbers.proofs.Cores.{entryBy}
 use Rattle.numbers.proofs.Ways.{place, entry, early, Changes, Way, stays, changes, way}
 use Rattle.reached.specs.WellFormed.{isFamily, IkeBounds, IpsecBounds, WellFormed}
@@ -81,7 +80,7 @@ module _ (policy : Policy) (q : Request) (typed : q .asks .id < 4294967296) (t :
         listed h true = families-known (q .asks .first) (q .asks .body)
         listed h false = h
 
-    changed : WellFormed (requested policy q t)
+    changed : WellFormed (afterRequest policy q t)
     changed = rw (c .is) (go u)
       where
         one : WellFormed (tables (set (t .ike) (place t q) (entryBy q (entry t q) u l m)) (t .ipsec))
@@ -96,7 +95,7 @@ module _ (policy : Policy) (q : Request) (typed : q .asks .id < 4294967296) (t :
             (λ r. follows-keeps (λ (x : IpsecRecord). x .owner) (q .spi) (q .asks .pair) r refl) refl
             (λ r. follows-bounds (q .spi) (q .asks .pair) r (pair-fits (c .passes)))
 
-  kept : Way policy t q → WellFormed (requested policy q t)
+  kept : Way policy t q → WellFormed (afterRequest policy q t)
   kept (stays e) = rw e w
   kept (changes u l m c) = changed u l m c
 

@@ -8,8 +8,7 @@ use Rattle.tables.specs.Records.{noIke, noIpsec}
 use Rattle.tables.specs.Calls.{openBoth, openIpsec, closeIke, closeIpsec}
 use Rattle.tables.specs.Tables.{Tables, tables}
 use Rattle.tables.specs.declared.calls.Opening.{Opening}
-use Rattle.responder.specs.Handle.{Request}
-use Rattle.numbers.specs.Numbers.{requested}
+use Rattle.responder.specs.Handle.{Request, afterRequest}
 use Rattle.reached.specs.WellFormed.{WellFormed}
 
 abbrev pub empty : Tables
@@ -31,7 +30,7 @@ after t (opensBoth o) =
 after t (opensIpsec spi owner) = tables (t .ike) (openIpsec (t .ike) (t .ipsec) spi owner .ipsec)
 after t (closesIke spi) = tables (closeIke (t .ike) (t .ipsec) spi .ike) (closeIke (t .ike) (t .ipsec) spi .ipsec)
 after t (closesIpsec spi) = tables (t .ike) (closeIpsec (t .ipsec) spi .ipsec)
-after t (requests policy q) = requested policy q t
+after t (requests policy q) = afterRequest policy q t
 
 unfoldable pub afterAll : Tables → List Call → Tables
 unfolding after

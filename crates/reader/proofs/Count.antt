@@ -1,20 +1,15 @@
 -- The payload count that a reading tells is the length of the chain that was read.
-use Prim.Native.Nat.{ℕ, suc, _+_, _≤_}
+use Prim.Native.Nat.{ℕ, suc, _+_}
 use mathlib.Core.Path.{_≡_, sym, ap, _∙_}
 use mathlib.Core.List.{List}
 use mathlib.Core.Bool.{Bool, true, false, cond}
 use native.Mathlib.Omega.{arith}
-use lib.Dec.{ltb}
-use lib.ListN.{length}
-use Rattle.octets.proofs.Small.{chosen}
 use Rattle.findings.specs.Seen.{nothingSeen, contentNoted, conflicts}
-use Rattle.reader.specs.Chain.{Chain, ends, faulty, payload, count, chainAt, stopped, scanned, numberOf, answer, answered, reading, ReadAs}
-use Rattle.payload.specs.declared.payload.Fault.{Fault}
-use Rattle.payload.specs.declared.payload.Fault.the-variants.{ChainLength, NotifyShape, DataSize, Conflict, Leftover, Critical}
+use Rattle.reader.specs.Chain.{Chain, ends, faulty, payload, count, chainAt, stopped, scanned, reading, ReadAs}
+use Rattle.payload.specs.declared.payload.Fault.the-variants.{Conflict}
 use Rattle.findings.specs.declared.seen.Seen.{Seen}
 use Rattle.findings.proofs.Counts.{one}
 use Rattle.reader.specs.declared.read.Scan.{Scan}
-use Rattle.reader.specs.declared.read.Outcome.{Outcome}
 use Rattle.reader.specs.declared.read.Outcome.the-variants.{Whole, Broken}
 use Rattle.reader.specs.declared.read.Reading.{Reading}
 use Rattle.reader.proofs.Whole.{read-whole}
@@ -42,23 +37,3 @@ counts first body e =
 -- what is read as defined is counted as promised
 pub promised : (first : ℕ) (body : List ℕ) (r : Reading) → r ≡ reading first body → ReadAs first body r
 promised first body r e = record { is = e; counts = rw e (counts first body) }
-
--- a reading's number is at most 7
-pub number-small : (first : ℕ) (body : List ℕ) → reading first body .number ≤ 7
-unfolding reading
-number-small first body = chosen (λ (r : Reading). r .number ≤ 7) (ltb 4096 (length body)) (λ e. omega arith) (λ e. go (scanned nothingSeen (chainAt body first 0)))
-  where
-    go : (x : Scan) → answered x .number ≤ 7
-    go x = told (x .outcome)
-      where
-        fault : (f : Fault) → numberOf f ≤ 7
-        fault ChainLength = omega arith
-        fault NotifyShape = omega arith
-        fault DataSize = omega arith
-        fault Conflict = omega arith
-        fault Leftover = omega arith
-        fault (Critical t) = omega arith
-
-        told : (o : Outcome) → answer o (x .seen) .number ≤ 7
-        told Whole = omega arith
-        told (Broken f at) = fault f

@@ -7,3 +7,4 @@ pub mod Count
 pub mod Kept
 pub mod Cookie
 pub mod Errors
+pub mod Refused

@@ -13,14 +13,14 @@ use Rattle.tables.specs.declared.ike.IkeRecord.{IkeRecord}
 use Rattle.views.proofs.Own.{view-own, applied-twice}
 use Rattle.deciding.specs.Decide.{tallied, hasList}
 use Rattle.values.specs.Values.{addressesIn}
-use Rattle.responder.specs.Handle.{Request}
-use Rattle.reordering.specs.Requests.{step, seenIn}
+use Rattle.responder.specs.Handle.{Request, seenIn, afterRequest}
+use Rattle.numbers.specs.Numbers.{applies, stepped}
 use Rattle.reordering.proofs.Steps.{Terms, terms, earlyBy, does, does-taken, step-is}
 use Rattle.reordering.proofs.Winner.{winner, agree}
-use Rattle.reordering.proofs.Sound.{idOf, updates, advanced, Sound, core-sound}
+use Rattle.reordering.proofs.Sound.{idOf, Sound, core-sound}
 
 -- the two records after both
-advanced-agree : (q r : Request) → (idOf q ≡ idOf r → ⊥) → (e : IkeRecord) → advanced r (advanced q e) ≡ advanced q (advanced r e)
+advanced-agree : (q r : Request) → (idOf q ≡ idOf r → ⊥) → (e : IkeRecord) → stepped r (stepped q e) ≡ stepped q (stepped r e)
 advanced-agree q r d e =
     let u = winner (idOf q) (idOf r) (e .«update_mark») d (seenIn q .update) (seenIn r .update) in
     let l = winner (idOf q) (idOf r) (e .«list_mark») d (hasList (seenIn q)) (hasList (seenIn r)) in
@@ -38,16 +38,16 @@ advanced-agree q r d e =
 
 -- the pair that the IPsec records take, if any, and that they take after both
 abbrev moving : Request → IkeRecord → Option Pair
-moving q e = cond (updates q e) (some (q .asks .pair)) none
+moving q e = cond (applies q e) (some (q .asks .pair)) none
 
 moving-agree : (q r : Request) → (idOf q ≡ idOf r → ⊥) → (e : IkeRecord)
-    → orElse (moving r (advanced q e)) (moving q e) ≡ orElse (moving q (advanced r e)) (moving r e)
+    → orElse (moving r (stepped q e)) (moving q e) ≡ orElse (moving q (stepped r e)) (moving r e)
 unfolding orElse
 moving-agree q r d e =
     let u = winner (idOf q) (idOf r) (e .«update_mark») d (seenIn q .update) (seenIn r .update) in
-    either (updates r (advanced q e)) (r .asks .pair) (moving q e)
+    either (applies r (stepped q e)) (r .asks .pair) (moving q e)
     ∙ agree u (some (q .asks .pair)) (some (r .asks .pair)) none
-    ∙ sym (either (updates q (advanced r e)) (q .asks .pair) (moving r e))
+    ∙ sym (either (applies q (stepped r e)) (q .asks .pair) (moving r e))
   where
     either : (b : Bool) (p : Pair) (o : Option Pair) → orElse (cond b (some p) none) o ≡ cond b (some p) o
     either true p o = refl
@@ -65,31 +65,31 @@ module _ (policy : Policy) where
     pub fine : Sound policy q
 
   module _ (k : ℕ) (s : Tables) {e : IkeRecord} {n : ℕ} (seen : view k s ≡ seeing e n) (q : Request) (w : Taken k (terms (seeing e n)) q) where
-    step-sound : step policy q s ≡ applied k (becomes (advanced q e) (moving q e)) s
+    step-sound : afterRequest policy q s ≡ applied k (becomes (stepped q e) (moving q e)) s
     step-sound =
         step-is policy q s
         ∙ ap (λ (i : ℕ). applied i (does policy q (view i s)) s) (w .spi)
         ∙ ap (λ (v : View). applied k (does policy q v) s) seen
         ∙ (rw (does-taken policy q (seeing e n) (w .passes) refl, core-sound policy q (w .fine) e .0, core-sound policy q (w .fine) e .1))
 
-    pub view-sound : view k (step policy q s) ≡ seeing (advanced q e) n
+    pub view-sound : view k (afterRequest policy q s) ≡ seeing (stepped q e) n
     view-sound =
         ap (view k) step-sound
-        ∙ view-own k s (ap (λ (v : View). v .entry) seen) (advanced q e) refl (moving q e)
-        ∙ ap (λ (v : View). seeing (advanced q e) (v .lent)) seen
+        ∙ view-own k s (ap (λ (v : View). v .entry) seen) (stepped q e) refl (moving q e)
+        ∙ ap (λ (v : View). seeing (stepped q e) (v .lent)) seen
 
   module _ (k : ℕ) (s : Tables) {e : IkeRecord} {n : ℕ} (seen : view k s ≡ seeing e n) where
     abbrev Fits : Request → Type 0
     Fits q = Taken k (terms (seeing e n)) q
 
     two-sound : (q r : Request) → Fits q → Fits r
-        → step policy r (step policy q s)
-        ≡ applied k (becomes (advanced r (advanced q e)) (orElse (moving r (advanced q e)) (moving q e))) s
+        → afterRequest policy r (afterRequest policy q s)
+        ≡ applied k (becomes (stepped r (stepped q e)) (orElse (moving r (stepped q e)) (moving q e))) s
     two-sound q r v w =
-        step-sound k (step policy q s) (view-sound k s seen q v) r w
-        ∙ ap (applied k (becomes (advanced r (advanced q e)) (moving r (advanced q e)))) (step-sound k s seen q v)
-        ∙ applied-twice k s (ap (λ (v : View). v .entry) seen) (advanced q e) refl (moving q e) _ _
+        step-sound k (afterRequest policy q s) (view-sound k s seen q v) r w
+        ∙ ap (applied k (becomes (stepped r (stepped q e)) (moving r (stepped q e)))) (step-sound k s seen q v)
+        ∙ applied-twice k s (ap (λ (v : View). v .entry) seen) (stepped q e) refl (moving q e) _ _
 
     pub swap-sound : (q r : Request) → Fits q → Fits r → (idOf q ≡ idOf r → ⊥)
-        → step policy r (step policy q s) ≡ step policy q (step policy r s)
+        → afterRequest policy r (afterRequest policy q s) ≡ afterRequest policy q (afterRequest policy r s)
     swap-sound q r v w d = two-sound q r v w ∙ (rw (advanced-agree q r d e, moving-agree q r d e) (sym (two-sound r q w v)))

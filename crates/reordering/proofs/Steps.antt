@@ -23,9 +23,9 @@ use Rattle.tables.specs.declared.ike.Agreed.{Agreed}
 use Rattle.tables.specs.declared.ike.IkeRecord.{IkeRecord}
 use Rattle.views.proofs.View.{found, applied-stays}
 use Rattle.responder.specs.Core.{CoreResult, refusalReply, coreAnswer, coreResult, coreResponse, changedBy}
-use Rattle.responder.specs.Handle.{Request, meant, argumentsFit, recordNumber, checkedNumber, earlyNumber, handled, handledResponse}
+use Rattle.responder.specs.Handle.{Request, meant, argumentsFit, recordNumber, checkedNumber, earlyNumber, handled, handledResponse, afterRequest}
 use Rattle.responder.proofs.Checks.{passed}
-use Rattle.reordering.specs.Requests.{step, Answer, answer}
+use Rattle.reordering.specs.Requests.{Answer, answer}
 
 abbrev pub early : Tables → Request → ℕ
 early t q = earlyNumber (t .ike) (t .ipsec) q
@@ -112,20 +112,20 @@ module _ (policy : Policy) where
   does-taken q v e o = rw (eq-eqb (earlyBy q (terms v)) 0 e, o)
 
   step-taken : (q : Request) (t : Tables) {r : IkeRecord} → early t q ≡ 0 → view (q .spi) t .entry ≡ some r
-      → step policy q t ≡ applied (q .spi) (altered q (some r)) t
-  unfolding step handled
+      → afterRequest policy q t ≡ applied (q .spi) (altered q (some r)) t
+  unfolding afterRequest handled
   step-taken q t {r} e o =
       rw (eq-eqb (early t q) 0 e, found (q .spi) t o .is)
       (moved (q .spi) t (core q r .entry) (q .asks .pair) (core q r .moves))
 
-  step-refused : (q : Request) (t : Tables) → (early t q ≡ 0 → ⊥) → step policy q t ≡ t
-  unfolding step handled
+  step-refused : (q : Request) (t : Tables) → (early t q ≡ 0 → ⊥) → afterRequest policy q t ≡ t
+  unfolding afterRequest handled
   step-refused q t n = rw (ne-eqb (early t q) 0 n)
 
-  pub step-is : (q : Request) (t : Tables) → step policy q t ≡ applied (q .spi) (does q (view (q .spi) t)) t
+  pub step-is : (q : Request) (t : Tables) → afterRequest policy q t ≡ applied (q .spi) (does q (view (q .spi) t)) t
   step-is q t = go (ℕ-discrete (early t q) 0)
     where
-      go : Dec (early t q ≡ 0) → step policy q t ≡ applied (q .spi) (does q (view (q .spi) t)) t
+      go : Dec (early t q ≡ 0) → afterRequest policy q t ≡ applied (q .spi) (does q (view (q .spi) t)) t
       go (yes e) =
           let passes = sym (early-is q t) ∙ e in
           let o = passed-seen q (view (q .spi) t) passes .1 in
@@ -152,5 +152,5 @@ module _ (policy : Policy) where
           ap (answerBy q (early t q)) (found (q .spi) t o .is ∙ ap (λ (x : Option IkeRecord). Option·getD x noIke) (sym o))
       go (no n) = rw (ne-eqb (early t q) 0 n)
 
-  pub by-spi : BySpi (λ (q : Request). q .spi) (step policy) (answer policy)
+  pub by-spi : BySpi (λ (q : Request). q .spi) (afterRequest policy) (answer policy)
   by-spi = record { does = does; says = says; proper = proper; step-is = step-is; answer-is = answer-is }

@@ -13,8 +13,8 @@ use Rattle.policy.specs.declared.rules.Policy.{Policy}
 use Rattle.tables.specs.Tables.{Tables}
 use Rattle.tables.specs.View.{view}
 use Rattle.tables.specs.declared.ike.IkeRecord.{IkeRecord}
-use Rattle.responder.specs.Handle.{Request}
-use Rattle.reordering.specs.Requests.{step, Apart, sound, pairHeld}
+use Rattle.responder.specs.Handle.{Request, afterRequest}
+use Rattle.reordering.specs.Requests.{Apart, sound, pairHeld}
 use Rattle.reordering.specs.Reordering.{TablesKept, AnyOrder}
 use Rattle.reordering.proofs.Events as events
 use Rattle.reordering.proofs.Steps.{Terms, terms, earlyBy, early-is, passed-seen, by-spi}
@@ -66,13 +66,13 @@ module _ (policy : Policy) (t : Tables) where
           fits = λ r o v. subst (λ (u : Terms). Taken policy k u r) (sym same ∙ ap terms whole) (taken k r o v);
         }
 
-  keep : (q : Request) → sound policy t q ≡ true → (s : Tables) → Same (q .spi) s → Same (q .spi) (step policy q s)
+  keep : (q : Request) → sound policy t q ≡ true → (s : Tables) → Same (q .spi) s → Same (q .spi) (afterRequest policy q s)
   keep q w s same =
       let x = seen (q .spi) s same q refl w in
       ap terms (view-sound policy (q .spi) s (x .whole) q (x .fits q refl w)) ∙ ap terms (sym (x .whole)) ∙ same
 
   swap : (q r : Request) → Both q r → (s : Tables) → Same (q .spi) s
-      → step policy r (step policy q s) ≡ step policy q (step policy r s)
+      → afterRequest policy r (afterRequest policy q s) ≡ afterRequest policy q (afterRequest policy r s)
   swap q r b s same =
       let x = seen (q .spi) s same q refl (b .first) in
       swap-sound policy (q .spi) s (x .whole) q r (x .fits q refl (b .first)) (x .fits r (sym (b .same)) (b .second)) (b .distinct)

@@ -8,12 +8,12 @@ use Rattle.order.specs.Order.{All, Pairwise, Order, after, answered, FreeAnswer
 use Rattle.policy.specs.declared.rules.Policy.{Policy}
 use Rattle.tables.specs.Tables.{Tables}
 use Rattle.tables.specs.View.{inUse}
-use Rattle.responder.specs.Handle.{Request}
-use Rattle.reordering.specs.Requests.{step, answer, Apart, sound, updatesFor, pairHeld}
+use Rattle.responder.specs.Handle.{Request, afterRequest}
+use Rattle.reordering.specs.Requests.{answer, Apart, sound, updatesFor, pairHeld}
 
 -- "For every other order of that list which keeps each IKE SA's own requests in sequence, each request gets the same answer and
 -- octets, and the tables end the same."
---   "that list", "each made on the tables that the one before it left": qs, by `after` and `answered` of the handler's `step`.
+--   "that list", "each made on the tables that the one before it left": qs, by `after` and `answered` of the handler's `afterRequest`.
 --   "every other order ... which keeps each IKE SA's own requests in sequence": `Order (Apart t) qs rs`: rs has the requests of qs,
 --     and a request stands in rs behind only such later ones of qs as are apart from it, of no common IKE SA of the tables t.
 --   "each request gets the same answer and octets": the requests with their answers stand in the same other order.
@@ -21,8 +21,8 @@ use Rattle.reordering.specs.Requests.{step, answer, Apart, sound, update
 abbrev pub AnswersKept : Policy → Tables → List Request → List Request → Type 0
 AnswersKept policy t qs rs =
     Order (Apart t) qs rs
-    → (Order (FreeAnswered (Apart t)) (answered (step policy) (answer policy) t qs) (answered (step policy) (answer policy) t rs))
-    × (after (step policy) t qs ≡ after (step policy) t rs)
+    → (Order (FreeAnswered (Apart t)) (answered (afterRequest policy) (answer policy) t qs) (answered (afterRequest policy) (answer policy) t rs))
+    × (after (afterRequest policy) t qs ≡ after (afterRequest policy) t rs)
 
 -- "Where an IKE SA's requests are all sound ... and no two of them have the same message ID, its own sequence may change too. For
 -- every order that keeps the sequence of all other IKE SAs, the tables still end the same. The address pair of each IKE SA so freed
@@ -38,9 +38,9 @@ TablesKept policy t qs rs =
     → All (λ (q : Request). freed (q .spi) ≡ true → sound policy t q ≡ true) qs
     → Pairwise (λ (q r : Request). freed (q .spi) ≡ true → q .spi ≡ r .spi → q .asks .id ≡ r .asks .id → ⊥) qs
     → Order (λ (q r : Request). Apart t q r ⊎ (freed (q .spi) ≡ true)) qs rs
-    → (after (step policy) t qs ≡ after (step policy) t rs)
+    → (after (afterRequest policy) t qs ≡ after (afterRequest policy) t rs)
     × ((k : ℕ) → inUse k t ≡ true → freed k ≡ true
-    → pairHeld k (after (step policy) t rs) .value ≡ settled (greatest (updatesFor k qs)) (pairHeld k t) .value)
+    → pairHeld k (after (afterRequest policy) t rs) .value ≡ settled (greatest (updatesFor k qs)) (pairHeld k t) .value)
 
 -- Both halves, "from any tables and policy": those not reached from empty ones and an IPsec list of any length included.
 abbrev pub AnyOrder : Type 0

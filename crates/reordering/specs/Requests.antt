@@ -14,12 +14,8 @@ use Rattle.reader.specs.Chain.{reading}
 use Rattle.tables.specs.Tables.{Tables, tables}
 use Rattle.tables.specs.View.{inUse}
 use Rattle.deciding.specs.Decide.{isAccepted, verdict}
-use Rattle.responder.specs.Handle.{Request, meant, earlyNumber, handled, handledResponse}
+use Rattle.responder.specs.Handle.{Request, meant, earlyNumber, handled, handledResponse, seenIn}
 use Rattle.responder.specs.declared.core.Reply.{Reply}
-
--- 01: "each made on the tables that the one before it left": the tables after one request.
-unfoldable pub step : Policy → Request → Tables → Tables
-step policy q t = tables (handled policy (t .ike) (t .ipsec) q .ike) (handled policy (t .ike) (t .ipsec) q .ipsec)
 
 -- 01: "The same answer is all that the call gives back but the tables, the cookie by its octets; the same octets, those of its
 -- response". That the rest of the output stays as it was is the handler's own promise, at every call.
@@ -36,9 +32,6 @@ answer policy q t =
 -- Two requests that belong to no common IKE SA of the starting tables: they give different SPIs, or one that no record has.
 abbrev pub Apart : Tables → Request → Request → Type 0
 Apart t q r = (q .spi ≡ r .spi → ⊥) ⊎ (inUse (q .spi) t ≡ false)
-
-abbrev pub seenIn : Request → Seen
-seenIn q = reading (q .asks .first) (q .asks .body) .seen
 
 -- 01's term: "A request is sound if checks 1 to 7 pass and, where it carries an update, those of 8 and 9 would pass too, whatever
 -- the mark."

@@ -9,7 +9,7 @@ use lib.Dec.{eqb, ltb}
 use lib.ListN.{length}
 use Rattle.octets.specs.Flags.{isYes}
 use Rattle.octets.specs.Lists.{placeOf}
-use Rattle.octets.proofs.Small.{both}
+use Rattle.octets.proofs.Small.{both, chosen}
 use Rattle.address.specs.Address.{pairFits}
 use Rattle.address.specs.declared.pair.Pair.{Pair}
 use Rattle.tables.specs.Records.{ikeSpi}
@@ -49,3 +49,14 @@ lent-fit spi pair source destination e =
     let rest = both (not (eqb spi 0)) (eqb (length source) 20 && (eqb (length destination) 20 && pairFits pair)) e .1 in
     let s = both (eqb (length source) 20) (eqb (length destination) 20 && pairFits pair) rest in
     (eqb-true (length source) 20 (s .0), eqb-true (length destination) 20 (both (eqb (length destination) 20) (pairFits pair) (s .1) .0))
+
+-- what holds of 0 to 5 holds of the first five checks' number
+pub early-of : (P : ℕ → Type 0) → P 0 → P 1 → P 2 → P 3 → P 4 → P 5
+    → (fit : Bool) (room octets : ℕ) (ike : List IkeRecord) (spi : ℕ) → P (checkedNumber fit room octets (recordNumber ike spi))
+unfolding checkedNumber recordNumber
+early-of P zero one two three four five fit room octets ike spi =
+    chosen P fit
+    (λ e. chosen P (ltb room 128) (λ e. two)
+    (λ e. chosen P (ltb 4096 octets) (λ e. three)
+    (λ e. chosen P (hasIke spi ike) (λ e. chosen P (isYes (meant ike spi .agreed .mobike)) (λ e. zero) (λ e. five)) (λ e. four))))
+    (λ e. one)

@@ -13,10 +13,12 @@ use Rattle.address.specs.declared.pair.Pair.{Pair}
 use Rattle.policy.specs.declared.rules.Policy.{Policy}
 use Rattle.tables.specs.Records.{ikeSpi, noIke, marksIn, follows}
 use Rattle.tables.specs.Calls.{hasIke, listFits}
+use Rattle.tables.specs.Tables.{Tables, tables}
 use Rattle.tables.specs.declared.ike.IkeRecord.{IkeRecord}
 use Rattle.tables.specs.declared.ike.Marks.{Marks}
 use Rattle.tables.specs.declared.ipsec.IpsecRecord.{IpsecRecord}
-use Rattle.reader.specs.Chain.{countTold}
+use Rattle.findings.specs.declared.seen.Seen.{Seen}
+use Rattle.reader.specs.Chain.{reading, countTold}
 use Rattle.responder.specs.Core.{Asked, refusalReply, unchangedAnswer, coreAnswer, coreResult, coreResponse}
 use Rattle.responder.specs.declared.core.CoreAnswer.{CoreAnswer}
 use Rattle.responder.specs.declared.core.Reply.{Reply}
@@ -84,6 +86,16 @@ module _ (policy : Policy) (ike : List IkeRecord) (ipsec : List IpsecRecord) (q 
     pub owned : ipsec-after ≡ handled policy ike ipsec q .ipsec
     pub output : out-after ≡ placed out 0 (handledResponse policy ike ipsec q)
     pub counts : r .payloads ≡ countTold (r .number) (q .asks .first) (q .asks .body)
+
+-- what was seen in a request's chain
+abbrev pub seenIn : Request → Seen
+seenIn q = reading (q .asks .first) (q .asks .body) .seen
+
+-- the tables after a request
+unfoldable pub afterRequest : Policy → Request → Tables → Tables
+afterRequest policy q t =
+    let h = handled policy (t .ike) (t .ipsec) q in
+    tables (h .ike) (h .ipsec)
 
 -- The same by what was looked up: how many IPsec records are lent, the lowest place with the SPI, and the marks of the record there.
 -- `proofs/Looked.antt` shows that with this and the tables' change around it a request is handled.
