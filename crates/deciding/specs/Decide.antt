@@ -8,7 +8,7 @@ use Rattle.findings.specs.declared.seen.Seen.{Seen}
 use Rattle.values.specs.declared.NoNats.{NoNats}
 use Rattle.policy.specs.Policy.{acceptable}
 use Rattle.policy.specs.declared.rules.Policy.{Policy}
-use Rattle.tables.specs.declared.ike.Marks.{Marks}
+use Rattle.records.specs.declared.ike.Marks.{Marks}
 use Rattle.deciding.specs.declared.decide.Decision.{Decision}
 use Rattle.deciding.specs.declared.decide.Effect.{Effect}
 use Rattle.deciding.specs.declared.decide.Effect.the-variants.{None, Done, Stale}

@@ -4,7 +4,7 @@ use address::pair::Pair;
 use findings::seen::Seen;
 use policy::rules::Policy;
 use policy::rules::is_acceptable;
-use tables::ike::Marks;
+use records::ike::Marks;
 use values::NoNats;
 ghost use mathlib.Core.Path.{_≡_};
 ghost use Prim.Native.Nat.{_<_};

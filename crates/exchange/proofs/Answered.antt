@@ -13,16 +13,16 @@ use Rattle.octets.proofs.Small.{both}
 use Rattle.address.specs.Address.{noPair}
 use Rattle.policy.specs.declared.rules.Policy.{Policy}
 use Rattle.tables.specs.Calls.{listFits}
-use Rattle.tables.specs.Records.{marksIn}
-use Rattle.tables.specs.declared.ike.IkeRecord.{IkeRecord}
-use Rattle.tables.specs.declared.ike.Marks.{Marks}
-use Rattle.tables.specs.declared.ipsec.IpsecRecord.{IpsecRecord}
+use Rattle.records.specs.Records.{marksIn}
+use Rattle.records.specs.declared.ike.IkeRecord.{IkeRecord}
+use Rattle.records.specs.declared.ike.Marks.{Marks}
+use Rattle.records.specs.declared.ipsec.IpsecRecord.{IpsecRecord}
 use Rattle.writing.specs.Notify.{Notification, notification, notifyOctets, firstType, chained}
 use Rattle.writing.proofs.Placed.{length-notify}
 use Rattle.writing.proofs.Chained.{chained-one}
 use Rattle.reader.specs.Chain.{reading}
 use Rattle.responding.specs.Respond.{nextFor, cookieNotify, doneResponse}
-use Rattle.responder.specs.Core.{firstOf, cookieIn, wantsNats, decisionOn, coreAnswer, coreResponse}
+use Rattle.answering.specs.Core.{firstOf, cookieIn, wantsNats, decisionOn, coreAnswer, coreResponse}
 use Rattle.responder.specs.Handle.{Request as Received, meant, earlyNumber, handled, handledResponse}
 use Rattle.deciding.proofs.Numbers.{verdict-of, number-accepted}
 use Rattle.responder.proofs.Checks.{passed, lent-fit, early-of}

@@ -4,10 +4,10 @@ use mathlib.Core.Path.{_≡_}
 use mathlib.Core.List.{List}
 use Rattle.values.specs.Values.{partOf}
 use Rattle.policy.specs.declared.rules.Policy.{Policy}
-use Rattle.tables.specs.declared.ike.IkeRecord.{IkeRecord}
-use Rattle.tables.specs.declared.ipsec.IpsecRecord.{IpsecRecord}
+use Rattle.records.specs.declared.ike.IkeRecord.{IkeRecord}
+use Rattle.records.specs.declared.ipsec.IpsecRecord.{IpsecRecord}
 use Rattle.responder.specs.Handle.{Request as Received, handled, handledResponse}
-use Rattle.responder.specs.declared.core.Reply.{Reply}
+use Rattle.answering.specs.declared.core.Reply.{Reply}
 use Rattle.asking.specs.Request.{Request}
 use Rattle.requests.specs.Written.{written, writtenOctets}
 use Rattle.initiator.specs.Response.{outcomeNumber, assessment}

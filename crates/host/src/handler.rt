@@ -1,20 +1,20 @@
 // The call that handles a request, on lent tables: the record that the SPI means is looked up, the request answered by its marks, and what
 // changes in it stored; what it owns follows.
 use address::pair::Pair;
-use lent::ike::ike_at;
-use lent::ike::ike_change;
-use lent::ike::ike_place;
-use lent::owned::follow_if;
-use lent::owned::ipsec_count;
-use lent::rules::policy_of;
+use answering::core::Reply;
+use lent_ike::ike::ike_at;
+use lent_ike::ike::ike_change;
+use lent_ike::ike::ike_place;
+use lent_ipsec::owned::follow_if;
+use lent_ipsec::owned::ipsec_count;
+use lent_policy::rules::policy_of;
 use policy::rules::Policy;
-use responder::core::Reply;
+use records::ike::IkeRecord;
+use records::ike::marks_of;
+use records::ipsec::IpsecRecord;
 use responder::handle::answer;
-use tables::ike::IkeRecord;
-use tables::ike::marks_of;
-use tables::ipsec::IpsecRecord;
 ghost use lib.ListN.{length};
-ghost use Rattle.responder.specs.Core.{asked};
+ghost use Rattle.answering.specs.Core.{asked};
 ghost use Rattle.responder.specs.Handle.{request, HandledAs};
 
 // Handles one INFORMATIONAL request of a peer that is the original initiator: the response goes to the start of `out`, and what is past it stays as it was.

@@ -3,8 +3,8 @@
 --     finds-ike, reads-ike, stores-ike       a `&mut [IkeRecord; 32]` to `ike_place`, to `ike_at`, and for good to `ike_store`.        changes-ike      the same to `ike_change`, beside a `&[u8]`
 --     reads-policy, reads-lent, stores-policy      a `&Policy` to `policy_of`, a `&mut Policy` to it, and for good to `policy_store`.        reads-rules      a `&[Rule; 16]` to `rules_of`
 -- Assumes `Given`, and that the table of calls is monotone under a frame.
-use Rattle.lent.proofs.Kit.{_≡_, refl, ℕ, _<_, _^_, List, [], _∷_, length, getD, set, URA, fullShare, Place, Body, erased, w32, w64, seq, call, vunit, vint, vptr, SProp, id⊢, Lft, Share, flft, fres, Memory, Routine, Heap, Env, Calls, Loops, Atoms, Fun, Given, Item, ‵, Post, runs, lands, Seq}
-use Rattle.lent.proofs.Kit.{Step, step, _$_, move, drop, split, join, fsplit, fjoin, u8, ShrSlice, owned, nothing, Opds, FmC, Is, uint-makes, uint-vals, uint-tells, nothing-tells, u32, u64, usize, RefT, MutRef, ShrRef, ptr-vals, MutSlice, Room, slice-vals, finally, only, Triple}
+use Rattle.walks.proofs.Kit.{_≡_, refl, ℕ, _<_, _^_, List, [], _∷_, length, getD, set, URA, fullShare, Place, Body, erased, w32, w64, seq, call, vunit, vint, vptr, SProp, id⊢, Lft, Share, flft, fres, Memory, Routine, Heap, Env, Calls, Loops, Atoms, Fun, Given, Item, ‵, Post, runs, lands, Seq}
+use Rattle.walks.proofs.Kit.{Step, step, _$_, move, drop, split, join, fsplit, fjoin, u8, ShrSlice, owned, nothing, Opds, FmC, Is, uint-makes, uint-vals, uint-tells, nothing-tells, u32, u64, usize, RefT, MutRef, ShrRef, ptr-vals, MutSlice, Room, slice-vals, finally, only, Triple}
 use mir.Syntax.{Opd as Operand}
 use denote.Struct.Laws as LL
 use Rattle.octets.specs.Lists.{placeOf}
@@ -15,42 +15,42 @@ use Rattle.policy.specs.declared.rules.Policy.{Policy}
 use Rattle.policy.specs.declared.rules.Rule.{Rule}
 use Rattle.policy.proofs.rules.Policy as Y
 use Rattle.policy.proofs.rules.Policy.Laws as Y′
-use Rattle.tables.specs.Records.{ikeSpi, ipsecSpi, noIke}
-use Rattle.tables.specs.declared.ike.IkeRecord.{IkeRecord}
-use Rattle.tables.specs.declared.ipsec.IpsecRecord.{IpsecRecord}
-use Rattle.tables.proofs.ike.IkeRecord as I
-use Rattle.tables.proofs.ike.IkeRecord.Laws as I′
-use Rattle.tables.proofs.ipsec.IpsecRecord as S
-use Rattle.tables.proofs.ipsec.IpsecRecord.Laws as S′
-use Rattle.responder.specs.Core.{changedBy}
-use Rattle.responder.specs.declared.core.CoreAnswer.{CoreAnswer}
-use Rattle.responder.proofs.core.CoreAnswer as D
-use Rattle.responder.proofs.core.CoreAnswer.Laws as D′
-use Rattle.lent.proofs.Calls.{_&_, Told, token, no-token, list-last, ref-last, gives, calls-for, calls-to}
-use Rattle.lent.proofs.Loans.{renamed, lent-list, list-over, lent-array, lent-ref, ref-over, copies-ref}
-use Rattle.lent.proofs.IkeTable as Ike
-use Rattle.lent.proofs.IpsecTable.{R, rec-vals}
-use Rattle.lent.proofs.PolicyTypes as Kept
-use Rattle.lent.proofs.ike.ike_at as at
-use Rattle.lent.proofs.ike.ike_at.Symbol as at-def
-use Rattle.lent.proofs.ike.ike_change as change
-use Rattle.lent.proofs.ike.ike_change.Symbol as change-def
-use Rattle.lent.proofs.ike.ike_place as home
-use Rattle.lent.proofs.ike.ike_place.Symbol as home-def
-use Rattle.lent.proofs.ike.ike_store as put
-use Rattle.lent.proofs.ike.ike_store.Symbol as put-def
-use Rattle.lent.proofs.owned.ipsec_count as count
-use Rattle.lent.proofs.owned.ipsec_count.Symbol as count-def
-use Rattle.lent.proofs.places.ipsec_place as place
-use Rattle.lent.proofs.places.ipsec_place.Symbol as place-def
-use Rattle.lent.proofs.places.ipsec_store as store
-use Rattle.lent.proofs.places.ipsec_store.Symbol as store-def
-use Rattle.lent.proofs.rules.policy_of as read
-use Rattle.lent.proofs.rules.policy_of.Symbol as read-def
-use Rattle.lent.proofs.rules.policy_store as keep
-use Rattle.lent.proofs.rules.policy_store.Symbol as keep-def
-use Rattle.lent.proofs.rules.rules_of as list
-use Rattle.lent.proofs.rules.rules_of.Symbol as list-def
+use Rattle.records.specs.Records.{ikeSpi, ipsecSpi, noIke}
+use Rattle.records.specs.declared.ike.IkeRecord.{IkeRecord}
+use Rattle.records.specs.declared.ipsec.IpsecRecord.{IpsecRecord}
+use Rattle.records.proofs.ike.IkeRecord as I
+use Rattle.records.proofs.ike.IkeRecord.Laws as I′
+use Rattle.records.proofs.ipsec.IpsecRecord as S
+use Rattle.records.proofs.ipsec.IpsecRecord.Laws as S′
+use Rattle.answering.specs.Core.{changedBy}
+use Rattle.answering.specs.declared.core.CoreAnswer.{CoreAnswer}
+use Rattle.answering.proofs.core.CoreAnswer as D
+use Rattle.answering.proofs.core.CoreAnswer.Laws as D′
+use Rattle.walks.proofs.Calls.{_&_, Told, token, no-token, list-last, ref-last, gives, calls-for, calls-to}
+use Rattle.walks.proofs.Loans.{renamed, lent-list, list-over, lent-array, lent-ref, ref-over, copies-ref}
+use Rattle.lent_ike.proofs.IkeTable as Ike
+use Rattle.lent_ipsec.proofs.IpsecTable.{R, rec-vals}
+use Rattle.lent_policy.proofs.PolicyTypes as Kept
+use Rattle.lent_ike.proofs.ike.ike_at as at
+use Rattle.lent_ike.proofs.ike.ike_at.Symbol as at-def
+use Rattle.lent_ike.proofs.ike.ike_change as change
+use Rattle.lent_ike.proofs.ike.ike_change.Symbol as change-def
+use Rattle.lent_ike.proofs.ike.ike_place as home
+use Rattle.lent_ike.proofs.ike.ike_place.Symbol as home-def
+use Rattle.lent_ike.proofs.ike.ike_store as put
+use Rattle.lent_ike.proofs.ike.ike_store.Symbol as put-def
+use Rattle.lent_ipsec.proofs.owned.ipsec_count as count
+use Rattle.lent_ipsec.proofs.owned.ipsec_count.Symbol as count-def
+use Rattle.lent_ipsec.proofs.places.ipsec_place as place
+use Rattle.lent_ipsec.proofs.places.ipsec_place.Symbol as place-def
+use Rattle.lent_ipsec.proofs.places.ipsec_store as store
+use Rattle.lent_ipsec.proofs.places.ipsec_store.Symbol as store-def
+use Rattle.lent_policy.proofs.rules.policy_of as read
+use Rattle.lent_policy.proofs.rules.policy_of.Symbol as read-def
+use Rattle.lent_policy.proofs.rules.policy_store as keep
+use Rattle.lent_policy.proofs.rules.policy_store.Symbol as keep-def
+use Rattle.lent_policy.proofs.rules.rules_of as list
+use Rattle.lent_policy.proofs.rules.rules_of.Symbol as list-def
 
 module _ {M : Type 1} {𝓤 : URA M} {H : Heap 𝓤} {A : Atoms 𝓤} {K : Type 0} {W : Given 𝓤 H A} {Γ : List (Item 𝓤)} {E : Env 𝓤 H} {C : Calls 𝓤 H} {Λ : Loops 𝓤 H} {p : Post 𝓤 H} {d : Place} {ops : List Operand} {rest : Body} (t : K) (fm : FmC 𝓤 H (W .laws) C) (at-mem : Memory → SProp 𝓤) (run : Routine → Fun 𝓤) where
   module _ {κ : Lft} {q : Share} (x : RefT (List IpsecRecord)) where

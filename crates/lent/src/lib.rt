@@ -1,5 +1,1 @@
-// The lent tables: thin functions over the records that a host lends, around covered functions on one record.
-pub mod ike;
-pub mod owned;
-pub mod places;
-pub mod rules;
+// The calls on lent tables that several walks make, each as one step; no code.

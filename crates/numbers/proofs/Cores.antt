@@ -8,12 +8,12 @@ use lib.ListN.{length}
 use Rattle.values.specs.Values.{addressesIn}
 use Rattle.policy.specs.declared.rules.Policy.{Policy}
 use Rattle.reader.specs.Chain.{reading}
-use Rattle.tables.specs.Records.{marksIn, rewritten, remarked, relisted}
-use Rattle.tables.specs.declared.ike.IkeRecord.{IkeRecord}
-use Rattle.tables.specs.declared.ike.Marks.{Marks}
+use Rattle.records.specs.Records.{marksIn, rewritten, remarked, relisted}
+use Rattle.records.specs.declared.ike.IkeRecord.{IkeRecord}
+use Rattle.records.specs.declared.ike.Marks.{Marks}
 use Rattle.deciding.specs.Decide.{verdictNumber}
 use Rattle.deciding.specs.declared.decide.Verdict.{Verdict}
-use Rattle.responder.specs.Core.{decidedResponse, chainError, decisionOn, coreAnswer, coreResponse, coreResult, changedBy}
+use Rattle.answering.specs.Core.{decidedResponse, chainError, decisionOn, coreAnswer, coreResponse, coreResult, changedBy}
 use Rattle.responder.specs.Handle.{Request, seenIn}
 use Rattle.numbers.proofs.Decisions.{Comes}
 

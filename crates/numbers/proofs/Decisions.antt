@@ -7,14 +7,14 @@ use lib.Dec.{leb}
 use Rattle.values.specs.Values.{noNatsSeen}
 use Rattle.policy.specs.Policy.{acceptable}
 use Rattle.policy.specs.declared.rules.Policy.{Policy}
-use Rattle.tables.specs.declared.ike.Marks.{Marks}
+use Rattle.records.specs.declared.ike.Marks.{Marks}
 use Rattle.deciding.specs.Decide.{isDone, tallied, unaltered, verdict, listMarked, decision, leftOff, hasList, listDecided, updateDecided, decided}
 use Rattle.deciding.specs.declared.decide.Decision.{Decision}
 use Rattle.deciding.specs.declared.decide.Effect.{Effect}
 use Rattle.deciding.specs.declared.decide.Effect.the-variants.{None, Done, Stale}
 use Rattle.deciding.specs.declared.decide.Verdict.{Verdict}
 use Rattle.deciding.specs.declared.decide.Verdict.the-variants.{Accepted, Altered, Unacceptable}
-use Rattle.responder.specs.Core.{decisionOn}
+use Rattle.answering.specs.Core.{decisionOn}
 use Rattle.responder.specs.Handle.{Request, seenIn}
 use Rattle.numbers.specs.Numbers.{unknownIn}
 

@@ -14,10 +14,10 @@ use Rattle.octets.proofs.Small.{both}
 use Rattle.octets.proofs.Places.{place-has}
 use Rattle.order.specs.Order.{after}
 use Rattle.policy.specs.declared.rules.Policy.{Policy}
-use Rattle.tables.specs.Records.{ikeSpi, noIke}
+use Rattle.records.specs.Records.{ikeSpi, noIke}
 use Rattle.tables.specs.Tables.{Tables}
-use Rattle.tables.specs.declared.ike.IkeRecord.{IkeRecord}
-use Rattle.tables.specs.declared.ike.Marks.{Marks}
+use Rattle.records.specs.declared.ike.IkeRecord.{IkeRecord}
+use Rattle.records.specs.declared.ike.Marks.{Marks}
 use Rattle.responder.specs.Handle.{Request, seenIn, afterRequest}
 use Rattle.responder.proofs.Checks.{passed, record-there}
 use Rattle.numbers.specs.Numbers.{applies, Some}

@@ -8,11 +8,11 @@ use native.Mathlib.Decide.{ℕ-discrete}
 use borrow.Author.Tests.{eq-eqb, ne-eqb}
 use lib.ListN.{length, getD}
 use Rattle.policy.specs.declared.rules.Policy.{Policy}
-use Rattle.tables.specs.Records.{marksIn}
+use Rattle.records.specs.Records.{marksIn}
 use Rattle.tables.specs.Tables.{Tables}
 use Rattle.writing.specs.Notify.{notifyOctets}
 use Rattle.responding.specs.Respond.{cookieNotify, errorResponse}
-use Rattle.responder.specs.Core.{chainError, decisionOn}
+use Rattle.answering.specs.Core.{chainError, decisionOn}
 use Rattle.responder.specs.Handle.{Request}
 use Rattle.reader.proofs.Refused.{broken-number}
 use Rattle.responder.proofs.Checks.{passed, early-of}

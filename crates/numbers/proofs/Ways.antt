@@ -13,11 +13,11 @@ use Rattle.octets.specs.Lists.{placeOf}
 use Rattle.octets.proofs.Small.{chosen}
 use Rattle.policy.specs.declared.rules.Policy.{Policy}
 use Rattle.reader.specs.Chain.{reading}
-use Rattle.tables.specs.Records.{ikeSpi, noIke, marksIn, follows}
+use Rattle.records.specs.Records.{ikeSpi, noIke, marksIn, follows}
 use Rattle.tables.specs.Tables.{Tables, tables}
-use Rattle.tables.specs.declared.ike.IkeRecord.{IkeRecord}
-use Rattle.tables.specs.declared.ike.Marks.{Marks}
-use Rattle.responder.specs.Core.{decidedResponse, chainError, decisionOn}
+use Rattle.records.specs.declared.ike.IkeRecord.{IkeRecord}
+use Rattle.records.specs.declared.ike.Marks.{Marks}
+use Rattle.answering.specs.Core.{decidedResponse, chainError, decisionOn}
 use Rattle.responder.specs.Handle.{Request, meant, earlyNumber, handled, handledResponse, seenIn, afterRequest}
 use Rattle.deciding.specs.Decide.{verdictNumber}
 use Rattle.deciding.specs.declared.decide.Verdict.{Verdict}

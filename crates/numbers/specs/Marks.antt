@@ -8,9 +8,9 @@ use lib.ListN.{getD}
 use Rattle.octets.specs.Lists.{placeOf}
 use Rattle.order.specs.Order.{after}
 use Rattle.policy.specs.declared.rules.Policy.{Policy}
-use Rattle.tables.specs.Records.{ikeSpi, noIke}
+use Rattle.records.specs.Records.{ikeSpi, noIke}
 use Rattle.tables.specs.Tables.{Tables}
-use Rattle.tables.specs.declared.ike.IkeRecord.{IkeRecord}
+use Rattle.records.specs.declared.ike.IkeRecord.{IkeRecord}
 use Rattle.responder.specs.Handle.{Request, seenIn, afterRequest}
 use Rattle.numbers.specs.Numbers.{Some}
 

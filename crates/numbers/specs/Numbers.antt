@@ -11,13 +11,13 @@ use Rattle.values.specs.Values.{addressesIn}
 use Rattle.findings.specs.declared.seen.Seen.{Seen}
 use Rattle.policy.specs.declared.rules.Policy.{Policy}
 use Rattle.reader.specs.Chain.{reading}
-use Rattle.tables.specs.Records.{ikeSpi, rewritten, follows}
+use Rattle.records.specs.Records.{ikeSpi, rewritten, follows}
 use Rattle.tables.specs.Tables.{Tables, tables}
-use Rattle.tables.specs.declared.ike.IkeRecord.{IkeRecord}
+use Rattle.records.specs.declared.ike.IkeRecord.{IkeRecord}
 use Rattle.writing.specs.Notify.{notifyOctets}
 use Rattle.deciding.specs.Decide.{tallied, hasList}
 use Rattle.responding.specs.Respond.{nextFor, cookieNotify, doneResponse}
-use Rattle.responder.specs.Core.{cookieIn, wantsNats}
+use Rattle.answering.specs.Core.{cookieIn, wantsNats}
 use Rattle.responder.specs.Handle.{Request, meant, handled, handledResponse, seenIn, afterRequest}
 
 -- "if the ID doesn't exceed the update mark, the update is stale": a mark is kept as the least ID that exceeds it.

@@ -10,9 +10,9 @@ use lib.ListN.{getD, length-map, List·getD-map}
 use Rattle.octets.specs.Lists.{placeOf}
 use Rattle.octets.proofs.Small.{chosen}
 use Rattle.octets.proofs.Places.{place-has}
-use Rattle.tables.specs.Records.{ikeSpi, ipsecSpi, noIke, noIpsec, released}
+use Rattle.records.specs.Records.{ikeSpi, ipsecSpi, noIke, noIpsec, released}
 use Rattle.tables.specs.Tables.{Tables}
-use Rattle.tables.specs.declared.ipsec.IpsecRecord.{IpsecRecord}
+use Rattle.records.specs.declared.ipsec.IpsecRecord.{IpsecRecord}
 use Rattle.tables.proofs.Cases.{IkeClosed, IpsecClosed, close-ike-cases, close-ipsec-cases}
 use Rattle.reached.specs.WellFormed.{WellFormed}
 use Rattle.reached.specs.Reached.{closesIke, closesIpsec, after}

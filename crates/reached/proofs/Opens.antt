@@ -8,7 +8,8 @@ use lib.ListN.{length, getD, set, length-set}
 use Rattle.octets.specs.Lists.{placeOf}
 use Rattle.octets.proofs.Places.{place-has}
 use Rattle.address.specs.Address.{pairFits}
-use Rattle.tables.specs.Records.{ikeSpi, ipsecSpi, ikeOf, childOf, noIke, newIpsec, noIpsec}
+use Rattle.records.specs.Records.{ikeSpi, ipsecSpi, noIke, newIpsec, noIpsec}
+use Rattle.tables.specs.Opening.{ikeOf, childOf}
 use Rattle.tables.specs.Tables.{Tables}
 use Rattle.tables.specs.Opened.{BothOpened}
 use Rattle.tables.specs.declared.calls.Opening.{Opening}

@@ -15,11 +15,11 @@ use Rattle.address.specs.declared.address.Address.{Address}
 use Rattle.address.specs.declared.pair.Pair.{Pair}
 use Rattle.values.specs.Values.{addressesIn}
 use Rattle.policy.specs.declared.rules.Policy.{Policy}
-use Rattle.tables.specs.Records.{ikeSpi, noIke, newIpsec, follows}
+use Rattle.records.specs.Records.{ikeSpi, noIke, newIpsec, follows}
 use Rattle.tables.specs.Calls.{listFits}
 use Rattle.tables.specs.Tables.{Tables, tables}
-use Rattle.tables.specs.declared.ike.Marks.{Marks}
-use Rattle.tables.specs.declared.ipsec.IpsecRecord.{IpsecRecord}
+use Rattle.records.specs.declared.ike.Marks.{Marks}
+use Rattle.records.specs.declared.ipsec.IpsecRecord.{IpsecRecord}
 use Rattle.responder.specs.Handle.{Request, argumentsFit, afterRequest, seenIn}
 use Rattle.responder.proofs.Checks.{passed, record-there}
 use Rattle.numbers.proofs.Cores.{entryBy}

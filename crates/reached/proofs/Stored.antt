@@ -8,10 +8,10 @@ use lib.ListN.{length, getD, set, length-set, length-map, List·getD-map}
 use lib.Seq.{getD-set-same, getD-set-other}
 use Rattle.octets.specs.Lists.{placeOf}
 use Rattle.octets.proofs.Places.{at-most, place-has, store-same}
-use Rattle.tables.specs.Records.{ikeSpi, ipsecSpi, noIke, noIpsec}
+use Rattle.records.specs.Records.{ikeSpi, ipsecSpi, noIke, noIpsec}
 use Rattle.tables.specs.Tables.{Tables, tables}
-use Rattle.tables.specs.declared.ike.IkeRecord.{IkeRecord}
-use Rattle.tables.specs.declared.ipsec.IpsecRecord.{IpsecRecord}
+use Rattle.records.specs.declared.ike.IkeRecord.{IkeRecord}
+use Rattle.records.specs.declared.ipsec.IpsecRecord.{IpsecRecord}
 use Rattle.reached.specs.WellFormed.{IkeBounds, IpsecBounds, Owned, WellFormed}
 use Rattle.reached.proofs.Consistent.{changed, each}
 

@@ -11,12 +11,13 @@ use lib.Seq.{set-set, set-getD, ext-getD}
 use Rattle.octets.specs.Lists.{placeOf}
 use Rattle.octets.proofs.Small.{chosen}
 use Rattle.octets.proofs.Places.{place-has}
-use Rattle.tables.specs.Records.{ikeSpi, ipsecSpi, ikeOf, childOf, noIke, noIpsec, released}
+use Rattle.records.specs.Records.{ikeSpi, ipsecSpi, noIke, noIpsec, released}
+use Rattle.tables.specs.Opening.{ikeOf, childOf}
 use Rattle.tables.specs.Calls.{tablesAnswer, closeIke}
 use Rattle.tables.specs.Tables.{Tables}
 use Rattle.tables.specs.Opened.{BothOpened}
 use Rattle.tables.specs.declared.calls.Opening.{Opening}
-use Rattle.tables.specs.declared.ipsec.IpsecRecord.{IpsecRecord}
+use Rattle.records.specs.declared.ipsec.IpsecRecord.{IpsecRecord}
 use Rattle.tables.proofs.Lookup.{finds-opened}
 use Rattle.tables.proofs.Cases.{both-or-neither}
 use Rattle.reached.specs.WellFormed.{Cleared, WellFormed}

@@ -4,7 +4,7 @@ use mathlib.Core.List.{List, [], _∷_}
 use lib.ListN.{replicate}
 use Rattle.order.specs.Order.{All}
 use Rattle.policy.specs.declared.rules.Policy.{Policy}
-use Rattle.tables.specs.Records.{noIke, noIpsec}
+use Rattle.records.specs.Records.{noIke, noIpsec}
 use Rattle.tables.specs.Calls.{openBoth, openIpsec, closeIke, closeIpsec}
 use Rattle.tables.specs.Tables.{Tables, tables}
 use Rattle.tables.specs.declared.calls.Opening.{Opening}

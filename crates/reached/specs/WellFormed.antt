@@ -7,10 +7,10 @@ use lib.Dec.{eqb}
 use lib.ListN.{length, getD}
 use Rattle.octets.specs.Lists.{placeOf}
 use Rattle.address.specs.Address.{widthOf, noAddress, pairFits}
-use Rattle.tables.specs.Records.{ikeSpi, ipsecSpi, noIke, noIpsec}
+use Rattle.records.specs.Records.{ikeSpi, ipsecSpi, noIke, noIpsec}
 use Rattle.tables.specs.Tables.{Tables}
-use Rattle.tables.specs.declared.ike.IkeRecord.{IkeRecord}
-use Rattle.tables.specs.declared.ipsec.IpsecRecord.{IpsecRecord}
+use Rattle.records.specs.declared.ike.IkeRecord.{IkeRecord}
+use Rattle.records.specs.declared.ipsec.IpsecRecord.{IpsecRecord}
 
 module _ {A : Type 0} (key : A → ℕ) (d : A) where
   -- no key but 0 stands in two places

@@ -6,10 +6,10 @@ use mathlib.Core.Option.{Option, none, some, orElse}
 use native.Mathlib.Omega.{arith}
 use Rattle.address.specs.declared.pair.Pair.{Pair}
 use Rattle.policy.specs.declared.rules.Policy.{Policy}
-use Rattle.tables.specs.Records.{rewritten}
+use Rattle.records.specs.Records.{rewritten}
 use Rattle.tables.specs.Tables.{Tables}
 use Rattle.tables.specs.View.{View, view, becomes, applied}
-use Rattle.tables.specs.declared.ike.IkeRecord.{IkeRecord}
+use Rattle.records.specs.declared.ike.IkeRecord.{IkeRecord}
 use Rattle.views.proofs.Own.{view-own, applied-twice}
 use Rattle.deciding.specs.Decide.{tallied, hasList}
 use Rattle.values.specs.Values.{addressesIn}

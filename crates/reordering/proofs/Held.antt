@@ -14,7 +14,7 @@ use Rattle.address.specs.declared.pair.Pair.{Pair}
 use Rattle.policy.specs.declared.rules.Policy.{Policy}
 use Rattle.tables.specs.Tables.{Tables}
 use Rattle.tables.specs.View.{inUse, View, view}
-use Rattle.tables.specs.declared.ike.IkeRecord.{IkeRecord}
+use Rattle.records.specs.declared.ike.IkeRecord.{IkeRecord}
 use Rattle.views.proofs.View.{found}
 use Rattle.views.proofs.BySpi.{unseen-by}
 use Rattle.responder.specs.Handle.{Request, meant, seenIn, afterRequest}

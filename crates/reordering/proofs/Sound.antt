@@ -9,11 +9,11 @@ use Rattle.octets.proofs.Small.{both}
 use Rattle.values.specs.Values.{noNatsSeen}
 use Rattle.policy.specs.declared.rules.Policy.{Policy}
 use Rattle.reader.specs.Chain.{reading}
-use Rattle.tables.specs.Records.{marksIn}
+use Rattle.records.specs.Records.{marksIn}
 use Rattle.tables.specs.Tables.{Tables}
-use Rattle.tables.specs.declared.ike.IkeRecord.{IkeRecord}
+use Rattle.records.specs.declared.ike.IkeRecord.{IkeRecord}
 use Rattle.deciding.specs.Decide.{isAccepted, verdict}
-use Rattle.responder.specs.Core.{decisionOn}
+use Rattle.answering.specs.Core.{decisionOn}
 use Rattle.responder.specs.Handle.{Request, seenIn}
 use Rattle.numbers.specs.Numbers.{applies, stepped}
 use Rattle.numbers.proofs.Decisions.{Decides, done, refused, decides}

@@ -15,14 +15,14 @@ use Rattle.octets.proofs.Small.{chosen}
 use Rattle.address.specs.declared.pair.Pair.{Pair}
 use Rattle.values.specs.Values.{partOf}
 use Rattle.policy.specs.declared.rules.Policy.{Policy}
-use Rattle.tables.specs.Records.{ikeSpi, noIke, marksIn, follows}
+use Rattle.records.specs.Records.{ikeSpi, noIke, marksIn, follows}
 use Rattle.tables.specs.Calls.{hasIke, listFits}
 use Rattle.tables.specs.Tables.{Tables, tables}
 use Rattle.tables.specs.View.{View, view, Change, stays, becomes, applied, Proper, BySpi}
-use Rattle.tables.specs.declared.ike.Agreed.{Agreed}
-use Rattle.tables.specs.declared.ike.IkeRecord.{IkeRecord}
+use Rattle.records.specs.declared.ike.Agreed.{Agreed}
+use Rattle.records.specs.declared.ike.IkeRecord.{IkeRecord}
 use Rattle.views.proofs.View.{found, applied-stays}
-use Rattle.responder.specs.Core.{CoreResult, refusalReply, coreAnswer, coreResult, coreResponse, changedBy}
+use Rattle.answering.specs.Core.{CoreResult, refusalReply, coreAnswer, coreResult, coreResponse, changedBy}
 use Rattle.responder.specs.Handle.{Request, meant, argumentsFit, recordNumber, checkedNumber, earlyNumber, handled, handledResponse, afterRequest}
 use Rattle.responder.proofs.Checks.{passed}
 use Rattle.reordering.specs.Requests.{Answer, answer}

@@ -12,7 +12,7 @@ use Rattle.address.specs.declared.pair.Pair.{Pair}
 use Rattle.policy.specs.declared.rules.Policy.{Policy}
 use Rattle.tables.specs.Tables.{Tables}
 use Rattle.tables.specs.View.{view}
-use Rattle.tables.specs.declared.ike.IkeRecord.{IkeRecord}
+use Rattle.records.specs.declared.ike.IkeRecord.{IkeRecord}
 use Rattle.responder.specs.Handle.{Request, afterRequest}
 use Rattle.reordering.specs.Requests.{Apart, sound, pairHeld}
 use Rattle.reordering.specs.Reordering.{TablesKept, AnyOrder}

@@ -12,9 +12,9 @@ use Rattle.octets.specs.Lists.{placeOf}
 use Rattle.octets.proofs.Small.{both, chosen}
 use Rattle.address.specs.Address.{pairFits}
 use Rattle.address.specs.declared.pair.Pair.{Pair}
-use Rattle.tables.specs.Records.{ikeSpi}
+use Rattle.records.specs.Records.{ikeSpi}
 use Rattle.tables.specs.Calls.{hasIke}
-use Rattle.tables.specs.declared.ike.IkeRecord.{IkeRecord}
+use Rattle.records.specs.declared.ike.IkeRecord.{IkeRecord}
 use Rattle.responder.specs.Handle.{argumentsFit, meant, recordNumber, checkedNumber}
 
 pub record Passed (fit : Bool) (room octets number : ℕ) : Type 0 where

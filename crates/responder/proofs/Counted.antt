@@ -12,12 +12,12 @@ use Rattle.policy.specs.declared.rules.Policy.{Policy}
 use Rattle.reader.specs.Chain.{reading, countTold}
 use Rattle.reader.proofs.Count.{promised}
 use Rattle.reader.proofs.Refused.{broken-number}
-use Rattle.tables.specs.Records.{marksIn}
+use Rattle.records.specs.Records.{marksIn}
 use Rattle.tables.specs.Calls.{listFits}
-use Rattle.tables.specs.declared.ike.IkeRecord.{IkeRecord}
-use Rattle.tables.specs.declared.ipsec.IpsecRecord.{IpsecRecord}
+use Rattle.records.specs.declared.ike.IkeRecord.{IkeRecord}
+use Rattle.records.specs.declared.ipsec.IpsecRecord.{IpsecRecord}
 use Rattle.deciding.proofs.Numbers.{verdict-of}
-use Rattle.responder.specs.Core.{decisionOn, coreAnswer}
+use Rattle.answering.specs.Core.{decisionOn, coreAnswer}
 use Rattle.responder.proofs.Checks.{passed, early-of}
 use Rattle.responder.specs.Handle.{Request, argumentsFit, meant, recordNumber, earlyNumber, handled}
 

@@ -9,12 +9,12 @@ use lib.ListN.{length, set}
 use lib.Seq.{set-getD}
 use Rattle.octets.specs.Lists.{placeOf}
 use Rattle.policy.specs.declared.rules.Policy.{Policy}
-use Rattle.tables.specs.Records.{ikeSpi, noIke, marksIn, follows}
-use Rattle.tables.specs.declared.ike.IkeRecord.{IkeRecord}
-use Rattle.tables.specs.declared.ipsec.IpsecRecord.{IpsecRecord}
+use Rattle.records.specs.Records.{ikeSpi, noIke, marksIn, follows}
+use Rattle.records.specs.declared.ike.IkeRecord.{IkeRecord}
+use Rattle.records.specs.declared.ipsec.IpsecRecord.{IpsecRecord}
 use Rattle.responder.specs.Handle.{Request, Handled, meant, recordNumber, earlyNumber, earlyNumberAt, handled, handledResponse, answered, answeredResponse}
-use Rattle.responder.specs.Core.{changedBy}
-use Rattle.responder.specs.declared.core.CoreAnswer.{CoreAnswer}
+use Rattle.answering.specs.Core.{changedBy}
+use Rattle.answering.specs.declared.core.CoreAnswer.{CoreAnswer}
 
 module _ (policy : Policy) (ike : List IkeRecord) (ipsec : List IpsecRecord) (q : Request) (long : length ike ≡ 32) where
   abbrev place : ℕ

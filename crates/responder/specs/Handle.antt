@@ -11,17 +11,17 @@ use Rattle.octets.specs.Lists.{placeOf}
 use Rattle.address.specs.Address.{pairFits}
 use Rattle.address.specs.declared.pair.Pair.{Pair}
 use Rattle.policy.specs.declared.rules.Policy.{Policy}
-use Rattle.tables.specs.Records.{ikeSpi, noIke, marksIn, follows}
+use Rattle.records.specs.Records.{ikeSpi, noIke, marksIn, follows}
 use Rattle.tables.specs.Calls.{hasIke, listFits}
 use Rattle.tables.specs.Tables.{Tables, tables}
-use Rattle.tables.specs.declared.ike.IkeRecord.{IkeRecord}
-use Rattle.tables.specs.declared.ike.Marks.{Marks}
-use Rattle.tables.specs.declared.ipsec.IpsecRecord.{IpsecRecord}
+use Rattle.records.specs.declared.ike.IkeRecord.{IkeRecord}
+use Rattle.records.specs.declared.ike.Marks.{Marks}
+use Rattle.records.specs.declared.ipsec.IpsecRecord.{IpsecRecord}
 use Rattle.findings.specs.declared.seen.Seen.{Seen}
 use Rattle.reader.specs.Chain.{reading, countTold}
-use Rattle.responder.specs.Core.{Asked, refusalReply, unchangedAnswer, coreAnswer, coreResult, coreResponse}
-use Rattle.responder.specs.declared.core.CoreAnswer.{CoreAnswer}
-use Rattle.responder.specs.declared.core.Reply.{Reply}
+use Rattle.answering.specs.Core.{Asked, refusalReply, unchangedAnswer, coreAnswer, coreResult, coreResponse}
+use Rattle.answering.specs.declared.core.CoreAnswer.{CoreAnswer}
+use Rattle.answering.specs.declared.core.Reply.{Reply}
 
 -- 01: "A request is given as SPI, ID, packet's pair, the two NAT values, first type, body." Its output's length belongs to it too.
 pub record Request : Type 0 where

@@ -1,19 +1,19 @@
 // One request by the marks of the record that its SPI means: checks 1 to 5, then the core. The tables around it are `lent`'s.
-use crate::core::CoreAnswer;
-use crate::core::refusal;
-use crate::core::respond_to;
-use crate::core::unchanged;
 use address::pair::Pair;
 use address::pair::pair_fits;
+use answering::core::CoreAnswer;
+use answering::core::refusal;
+use answering::core::respond_to;
+use answering::core::unchanged;
 use octets::flag::is_yes;
 use policy::rules::Policy;
-use tables::ike::Marks;
+use records::ike::Marks;
 ghost use mathlib.Core.Path.{_≡_};
 ghost use mathlib.Core.Bool.{_&&_};
 ghost use lib.Dec.{eqb};
 ghost use lib.ListN.{length};
 ghost use Rattle.writing.specs.Notify.{placed};
-ghost use Rattle.responder.specs.Core.{asked};
+ghost use Rattle.answering.specs.Core.{asked};
 ghost use Rattle.responder.specs.Handle.{request, argumentsFit, recordNumberAt, checkedNumber, answered, answeredResponse};
 
 // Check 1, of a list of `size` IPsec records and of the arguments.

@@ -1,3 +1,2 @@
 // The request handler of the original responder: one INFORMATIONAL request, decided on the record that its SPI means.
-pub mod core;
 pub mod handle;

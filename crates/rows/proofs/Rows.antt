@@ -11,7 +11,7 @@ use Rattle.policy.specs.Policy.{ruleMatches, acceptable}
 use Rattle.writing.specs.Notify.{notifyOctets}
 use Rattle.deciding.specs.Decide.{unaltered, verdict, listDecided, updateDecided, decided}
 use Rattle.responding.specs.Respond.{cookieNotify, errorResponse, doneResponse}
-use Rattle.responder.specs.Core.{chainError, coreResponse, coreAnswer, changedBy}
+use Rattle.answering.specs.Core.{chainError, coreResponse, coreAnswer, changedBy}
 use Rattle.responder.specs.Handle.{recordNumber, checkedNumber, handled, handledResponse}
 use Rattle.rows.specs.Rows.{rowHolds, rows}
 

@@ -9,10 +9,10 @@ use Rattle.address.specs.declared.pair.Pair.{Pair}
 use Rattle.policy.specs.Policy.{noRule}
 use Rattle.policy.specs.declared.rules.Rule.{Rule}
 use Rattle.policy.specs.declared.rules.Policy.{Policy}
-use Rattle.tables.specs.Records.{newIke, noIke, noIpsec, remarked}
-use Rattle.tables.specs.declared.ike.Agreed.{Agreed}
-use Rattle.tables.specs.declared.ike.IkeRecord.{IkeRecord}
-use Rattle.responder.specs.Core.{asked}
+use Rattle.records.specs.Records.{newIke, noIke, noIpsec, remarked}
+use Rattle.records.specs.declared.ike.Agreed.{Agreed}
+use Rattle.records.specs.declared.ike.IkeRecord.{IkeRecord}
+use Rattle.answering.specs.Core.{asked}
 use Rattle.responder.specs.Handle.{Request, request, handled, handledResponse}
 
 abbrev sameList : List ℕ → List ℕ → Bool

@@ -11,11 +11,11 @@ use Rattle.octets.specs.Lists.{placeOf}
 use Rattle.octets.specs.Checks.{firstFailed}
 use Rattle.octets.proofs.Checks.{all-passed}
 use Rattle.octets.proofs.Small.{both, neither}
-use Rattle.tables.specs.Records.{ikeSpi, ipsecSpi, noIke, newIpsec, noIpsec, released}
+use Rattle.records.specs.Records.{ikeSpi, ipsecSpi, noIke, newIpsec, noIpsec, released}
 use Rattle.tables.specs.Calls.{ipsecAnswer, tablesAnswer, hasIke, hasIpsec, listFits, openingChecks, openBoth, openIpsec, closeIke, closeIpsec}
 use Rattle.tables.specs.Opened.{BothOpened, NeitherOpened, BothOrNeither}
-use Rattle.tables.specs.declared.ike.IkeRecord.{IkeRecord}
-use Rattle.tables.specs.declared.ipsec.IpsecRecord.{IpsecRecord}
+use Rattle.records.specs.declared.ike.IkeRecord.{IkeRecord}
+use Rattle.records.specs.declared.ipsec.IpsecRecord.{IpsecRecord}
 
 pub both-or-neither : BothOrNeither
 unfolding openBoth

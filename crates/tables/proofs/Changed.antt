@@ -9,12 +9,13 @@ use lib.Dec.{eqb, ltb}
 use lib.ListN.{length, getD, set}
 use lib.Seq.{set-out}
 use Rattle.octets.specs.Lists.{placeOf}
-use Rattle.tables.specs.Records.{ikeSpi, ipsecSpi, ikeOf, childOf, noIke, newIpsec, noIpsec, released}
+use Rattle.records.specs.Records.{ikeSpi, ipsecSpi, noIke, newIpsec, noIpsec, released}
+use Rattle.tables.specs.Opening.{ikeOf, childOf}
 use Rattle.tables.specs.Calls.{ipsecAnswer, tablesAnswer, hasIpsec, openingFits, openBoth, openIpsec, closeIke, closeIpsec}
 use Rattle.tables.specs.Changes.{openingNumber, closingNumber, bothNumber, bothOpening, ipsecOpening, ikeClosing, ipsecClosing}
 use Rattle.tables.specs.declared.calls.Opening.{Opening}
-use Rattle.tables.specs.declared.ike.IkeRecord.{IkeRecord}
-use Rattle.tables.specs.declared.ipsec.IpsecRecord.{IpsecRecord}
+use Rattle.records.specs.declared.ike.IkeRecord.{IkeRecord}
+use Rattle.records.specs.declared.ipsec.IpsecRecord.{IpsecRecord}
 
 -- nothing is stored past the end
 unstored : {A : Type 0} (xs : List A) (n : ℕ) (x : A) → length xs ≡ n → set xs n x ≡ xs

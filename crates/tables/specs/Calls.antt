@@ -7,10 +7,11 @@ use lib.ListN.{length, getD, set}
 use Rattle.octets.specs.Checks.{Check, _gives_, firstFailed}
 use Rattle.octets.specs.Lists.{placeOf}
 use Rattle.address.specs.Address.{pairFits}
-use Rattle.tables.specs.Records.{ikeSpi, ipsecSpi, ikeOf, childOf, noIke, newIpsec, noIpsec, released}
+use Rattle.records.specs.Records.{ikeSpi, ipsecSpi, noIke, newIpsec, noIpsec, released}
+use Rattle.tables.specs.Opening.{ikeOf, childOf}
 use Rattle.tables.specs.declared.calls.Opening.{Opening}
-use Rattle.tables.specs.declared.ike.IkeRecord.{IkeRecord}
-use Rattle.tables.specs.declared.ipsec.IpsecRecord.{IpsecRecord}
+use Rattle.records.specs.declared.ike.IkeRecord.{IkeRecord}
+use Rattle.records.specs.declared.ipsec.IpsecRecord.{IpsecRecord}
 
 -- What a call comes to: its number, and the tables after it.
 pub record IpsecAnswer : Type 0 where

@@ -6,10 +6,11 @@ use mathlib.Core.Bool.{Bool, cond, _||_, not}
 use lib.Dec.{eqb, ltb}
 use Rattle.octets.specs.Checks.{_gives_, firstFailed}
 use Rattle.address.specs.declared.pair.Pair.{Pair}
-use Rattle.tables.specs.Records.{ikeOf, childOf, noIke, newIpsec, noIpsec}
+use Rattle.records.specs.Records.{noIke, newIpsec, noIpsec}
+use Rattle.tables.specs.Opening.{ikeOf, childOf}
 use Rattle.tables.specs.Calls.{openingFits}
-use Rattle.tables.specs.declared.ike.IkeRecord.{IkeRecord}
-use Rattle.tables.specs.declared.ipsec.IpsecRecord.{IpsecRecord}
+use Rattle.records.specs.declared.ike.IkeRecord.{IkeRecord}
+use Rattle.records.specs.declared.ipsec.IpsecRecord.{IpsecRecord}
 use Rattle.tables.specs.declared.calls.BothChange.{BothChange}
 use Rattle.tables.specs.declared.calls.Opening.{Opening}
 use Rattle.tables.specs.declared.calls.IkeChange.{IkeChange}

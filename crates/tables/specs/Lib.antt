@@ -1,4 +1,4 @@
-pub mod Records
+pub mod Opening
 pub mod Calls
 pub mod Changes
 pub mod Tables

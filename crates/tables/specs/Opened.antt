@@ -7,11 +7,12 @@ use mathlib.Core.Bool.{true}
 use lib.ListN.{length, set}
 use Rattle.octets.specs.Lists.{placeOf}
 use Rattle.address.specs.Address.{pairFits}
-use Rattle.tables.specs.Records.{ikeSpi, ipsecSpi, ikeOf, childOf}
+use Rattle.records.specs.Records.{ikeSpi, ipsecSpi}
+use Rattle.tables.specs.Opening.{ikeOf, childOf}
 use Rattle.tables.specs.Calls.{tablesAnswer, openBoth}
 use Rattle.tables.specs.declared.calls.Opening.{Opening}
-use Rattle.tables.specs.declared.ike.IkeRecord.{IkeRecord}
-use Rattle.tables.specs.declared.ipsec.IpsecRecord.{IpsecRecord}
+use Rattle.records.specs.declared.ike.IkeRecord.{IkeRecord}
+use Rattle.records.specs.declared.ipsec.IpsecRecord.{IpsecRecord}
 
 module _ (ike : List IkeRecord) (ipsec : List IpsecRecord) (o : Opening) where
   -- the pair fits, both SPIs are new, and each record stands at the lowest free place of its table

@@ -1,7 +1,7 @@
 -- Both tables together.
 use mathlib.Core.List.{List}
-use Rattle.tables.specs.declared.ike.IkeRecord.{IkeRecord}
-use Rattle.tables.specs.declared.ipsec.IpsecRecord.{IpsecRecord}
+use Rattle.records.specs.declared.ike.IkeRecord.{IkeRecord}
+use Rattle.records.specs.declared.ipsec.IpsecRecord.{IpsecRecord}
 
 pub record Tables : Type 0 where
   pub ike : List IkeRecord

@@ -8,11 +8,11 @@ use lib.Dec.{eqb}
 use lib.ListN.{length, getD, set}
 use Rattle.octets.specs.Lists.{placeOf}
 use Rattle.address.specs.declared.pair.Pair.{Pair}
-use Rattle.tables.specs.Records.{ikeSpi, noIke, follows, released}
+use Rattle.records.specs.Records.{ikeSpi, noIke, follows, released}
 use Rattle.tables.specs.Calls.{hasIke}
 use Rattle.tables.specs.Tables.{Tables, tables}
-use Rattle.tables.specs.declared.ike.IkeRecord.{IkeRecord}
-use Rattle.tables.specs.declared.ipsec.IpsecRecord.{IpsecRecord}
+use Rattle.records.specs.declared.ike.IkeRecord.{IkeRecord}
+use Rattle.records.specs.declared.ipsec.IpsecRecord.{IpsecRecord}
 
 -- An IKE SA of these tables has this SPI. 0 is no SPI, whatever place is free.
 abbrev pub inUse : ℕ → Tables → Bool

@@ -1,16 +1,16 @@
 // What each table call comes to, given what was looked up: its number, and the record to store with its place.
-use crate::ike::Agreed;
-use crate::ike::IkeRecord;
-use crate::ike::new_ike;
-use crate::ike::no_ike;
-use crate::ipsec::IpsecRecord;
-use crate::ipsec::no_ipsec;
 use address::pair::Pair;
 use address::pair::pair_fits;
+use records::ike::Agreed;
+use records::ike::IkeRecord;
+use records::ike::new_ike;
+use records::ike::no_ike;
+use records::ipsec::IpsecRecord;
+use records::ipsec::no_ipsec;
 ghost use mathlib.Core.Path.{_≡_};
 ghost use mathlib.Core.Bool.{cond, _||_, not};
 ghost use lib.Dec.{eqb};
-ghost use Rattle.tables.specs.Records.{ikeOf, childOf};
+ghost use Rattle.tables.specs.Opening.{ikeOf, childOf};
 ghost use Rattle.tables.specs.Calls.{openingFits};
 ghost use Rattle.tables.specs.Changes.{openingNumber, closingNumber, bothNumber, bothOpening, ipsecOpening, ikeClosing, ipsecClosing};
 

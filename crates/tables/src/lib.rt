@@ -1,4 +1,2 @@
-// The IKE and IPsec records: opening, closing and looking them up.
+// The calls that open and close records.
 pub mod calls;
-pub mod ike;
-pub mod ipsec;

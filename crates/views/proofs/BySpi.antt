@@ -7,7 +7,7 @@ use mathlib.Core.Option.{Option, none}
 use native.Mathlib.Decide.{ℕ-discrete}
 use Rattle.tables.specs.Tables.{Tables}
 use Rattle.tables.specs.View.{inUse, View, view, Change, stays, applied, Proper, BySpi}
-use Rattle.tables.specs.declared.ike.IkeRecord.{IkeRecord}
+use Rattle.records.specs.declared.ike.IkeRecord.{IkeRecord}
 use Rattle.views.proofs.View.{applied-stays, unseen, applied-swap}
 
 -- s was reached from t: an SPI that no record of t has sees in s what it saw in t

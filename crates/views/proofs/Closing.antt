@@ -8,11 +8,11 @@ use lib.Dec.{eqb}
 use lib.ListN.{length, set}
 use Rattle.octets.specs.Lists.{placeOf}
 use Rattle.octets.proofs.Small.{neither}
-use Rattle.tables.specs.Records.{ikeSpi, noIke, released}
+use Rattle.records.specs.Records.{ikeSpi, noIke, released}
 use Rattle.tables.specs.Calls.{TablesAnswer, tablesAnswer, hasIke, listFits, closeIke}
 use Rattle.tables.specs.Tables.{Tables, tables}
 use Rattle.tables.specs.View.{View, view, Change, stays, closes, applied, Proper, BySpi}
-use Rattle.tables.specs.declared.ike.IkeRecord.{IkeRecord}
+use Rattle.records.specs.declared.ike.IkeRecord.{IkeRecord}
 use Rattle.views.proofs.View.{applied-stays}
 
 abbrev closing : Option IkeRecord → Change

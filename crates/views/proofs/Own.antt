@@ -10,11 +10,11 @@ use lib.ListN.{length, set, length-set, length-map}
 use lib.Seq.{getD-set-same, set-set}
 use Rattle.octets.proofs.Places.{store-same}
 use Rattle.address.specs.declared.pair.Pair.{Pair}
-use Rattle.tables.specs.Records.{ikeSpi, noIke, follows}
+use Rattle.records.specs.Records.{ikeSpi, noIke, follows}
 use Rattle.tables.specs.Tables.{Tables, tables}
 use Rattle.tables.specs.View.{view, becomes, childAfter, applied}
-use Rattle.tables.specs.declared.ike.IkeRecord.{IkeRecord}
-use Rattle.tables.specs.declared.ipsec.IpsecRecord.{IpsecRecord}
+use Rattle.records.specs.declared.ike.IkeRecord.{IkeRecord}
+use Rattle.records.specs.declared.ipsec.IpsecRecord.{IpsecRecord}
 use Rattle.views.proofs.View.{place, found}
 
 -- Of two moves of one owner's records the later decides.

@@ -14,12 +14,12 @@ use lib.Seq.{getD-set-other, set-getD, set-comm}
 use Rattle.octets.specs.Lists.{placeOf}
 use Rattle.octets.proofs.Places.{place-has, store-other}
 use Rattle.octets.proofs.Small.{chosen}
-use Rattle.tables.specs.Records.{ikeSpi, noIke}
+use Rattle.records.specs.Records.{ikeSpi, noIke}
 use Rattle.tables.specs.Calls.{hasIke}
 use Rattle.tables.specs.Tables.{Tables, tables}
 use Rattle.tables.specs.View.{view, Change, stays, becomes, closes, entryAfter, childAfter, applied, Proper}
-use Rattle.tables.specs.declared.ike.IkeRecord.{IkeRecord}
-use Rattle.tables.specs.declared.ipsec.IpsecRecord.{IpsecRecord}
+use Rattle.records.specs.declared.ike.IkeRecord.{IkeRecord}
+use Rattle.records.specs.declared.ipsec.IpsecRecord.{IpsecRecord}
 
 -- the place that is meant
 abbrev pub place : ℕ → Tables → ℕ

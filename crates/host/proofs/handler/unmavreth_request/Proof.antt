@@ -1,10 +1,10 @@
 -- `host::handler::unmavreth_request` meets its contract: a walk of its MIR, by hand. Each table is lent as `&` for each look-up, and comes back; the covered `marks_of` is asked before `answer`. The output goes to `answer` for good, the IKE table to `ike_change`, and the IPsec list to `follow_if`.
 -- Assumes nothing.
-use Rattle.lent.proofs.Kit.{_≡_, refl, ap, ℕ, _<_, _^_, cond, [], _∷_, List, map, length, set, URA, named, w8, w32, w64, Val, SProp, ent, emp, via, id⊢, fst∗, flft, fres, Memory, Routine, Heap, Calls, Loops, WpFn, Atoms, Lfts, Shares}
-use Rattle.lent.proofs.Kit.{Fun, givenOf, tables, tablesOf, Given, Item, ‵, ⋆, _$_, _∵_, !, qed, by, move, drop, split, join, fsplit, fjoin, feqL, suffices, frame, done, look, init, forget, stop, hop, fld, from, load, of-opd, addr, assigns}
-use Rattle.lent.proofs.Kit.{and-then, no-more, land, returns, enter, alloc1, alloc0, params1, pass1, pass0, free0, whole, sub, look-in, agg, FmC, fmOf, RattleType, owns, flat, Is, Spells, valss, uint-makes, uint-vals, uint-tells, bool-makes, bool-vals, nothing-tells, u8, u32, u64}
-use Rattle.lent.proofs.Kit.{says, usize, bool, RefT, ptr-vals, mut-tells, shr-tells, slice-vals, mut-slice-tells, shr-slice-tells, Room, finally, Slot, plain, shrRefTo, shrSliceOf, typesAt, owned, nothing, Triple, Args, Vals, onEntry, cited, Stays, stay-dropped}
-use Rattle.lent.proofs.Kit.{gave-ref, gave-slice, walkOf, goes-dropped, goes-gave-ref, goes-gave-slice, ends-at, yes}
+use Rattle.walks.proofs.Kit.{_≡_, refl, ap, ℕ, _<_, _^_, cond, [], _∷_, List, map, length, set, URA, named, w8, w32, w64, Val, SProp, ent, emp, via, id⊢, fst∗, flft, fres, Memory, Routine, Heap, Calls, Loops, WpFn, Atoms, Lfts, Shares}
+use Rattle.walks.proofs.Kit.{Fun, givenOf, tables, tablesOf, Given, Item, ‵, ⋆, _$_, _∵_, !, qed, by, move, drop, split, join, fsplit, fjoin, feqL, suffices, frame, done, look, init, forget, stop, hop, fld, from, load, of-opd, addr, assigns}
+use Rattle.walks.proofs.Kit.{and-then, no-more, land, returns, enter, alloc1, alloc0, params1, pass1, pass0, free0, whole, sub, look-in, agg, FmC, fmOf, RattleType, owns, flat, Is, Spells, valss, uint-makes, uint-vals, uint-tells, bool-makes, bool-vals, nothing-tells, u8, u32, u64}
+use Rattle.walks.proofs.Kit.{says, usize, bool, RefT, ptr-vals, mut-tells, shr-tells, slice-vals, mut-slice-tells, shr-slice-tells, Room, finally, Slot, plain, shrRefTo, shrSliceOf, typesAt, owned, nothing, Triple, Args, Vals, onEntry, cited, Stays, stay-dropped}
+use Rattle.walks.proofs.Kit.{gave-ref, gave-slice, walkOf, goes-dropped, goes-gave-ref, goes-gave-slice, ends-at, yes}
 use denote.Signature.{AllWithin}
 use denote.Slice.{shr-slice-copy}
 use denote.Struct.Laws as LL
@@ -17,52 +17,52 @@ use Rattle.address.proofs.pair.Pair.Laws as P′
 use Rattle.policy.specs.declared.rules.Policy.{Policy}
 use Rattle.policy.proofs.rules.Policy as Y
 use Rattle.policy.proofs.rules.Policy.Laws as Y′
-use Rattle.tables.specs.Records.{ikeSpi, marksIn, follows}
-use Rattle.tables.specs.declared.ike.IkeRecord.{IkeRecord}
-use Rattle.tables.proofs.ike.IkeRecord as S
-use Rattle.tables.proofs.ike.IkeRecord.Laws as S′
-use Rattle.tables.proofs.ike.Marks as N
-use Rattle.tables.proofs.ike.Marks.Laws as N′
-use Rattle.tables.specs.declared.ipsec.IpsecRecord.{IpsecRecord}
-use Rattle.tables.proofs.ipsec.IpsecRecord as I
-use Rattle.tables.proofs.ike.marks_of as marks
-use Rattle.tables.proofs.ike.marks_of.Symbol as marks-def
-use Rattle.tables.proofs.ike.marks_of.Met as marks-thm
-use Rattle.responder.specs.Core.{asked, changedBy}
+use Rattle.records.specs.Records.{ikeSpi, marksIn, follows}
+use Rattle.records.specs.declared.ike.IkeRecord.{IkeRecord}
+use Rattle.records.proofs.ike.IkeRecord as S
+use Rattle.records.proofs.ike.IkeRecord.Laws as S′
+use Rattle.records.proofs.ike.Marks as N
+use Rattle.records.proofs.ike.Marks.Laws as N′
+use Rattle.records.specs.declared.ipsec.IpsecRecord.{IpsecRecord}
+use Rattle.records.proofs.ipsec.IpsecRecord as I
+use Rattle.records.proofs.ike.marks_of as marks
+use Rattle.records.proofs.ike.marks_of.Symbol as marks-def
+use Rattle.records.proofs.ike.marks_of.Met as marks-thm
+use Rattle.answering.specs.Core.{asked, changedBy}
 use Rattle.responder.specs.Handle.{Request, HandledAs, request, meant, answered, answeredResponse}
-use Rattle.responder.specs.declared.core.CoreAnswer.{CoreAnswer}
+use Rattle.answering.specs.declared.core.CoreAnswer.{CoreAnswer}
 use Rattle.responder.proofs.Looked.{handles}
 use Rattle.responder.proofs.Counted.{counted}
-use Rattle.responder.proofs.core.CoreAnswer as D
-use Rattle.responder.proofs.core.CoreAnswer.Laws as D′
-use Rattle.responder.proofs.core.Reply as Z
-use Rattle.responder.proofs.core.Reply.Laws as Z′
+use Rattle.answering.proofs.core.CoreAnswer as D
+use Rattle.answering.proofs.core.CoreAnswer.Laws as D′
+use Rattle.answering.proofs.core.Reply as Z
+use Rattle.answering.proofs.core.Reply.Laws as Z′
 use Rattle.responder.proofs.handle.answer as answer
 use Rattle.responder.proofs.handle.answer.Symbol as answer-def
 use Rattle.responder.proofs.handle.answer.Met as answer-thm
-use Rattle.lent.proofs.Walk.{closes}
-use Rattle.lent.proofs.IkeTable.{R, Q, table-slot, rec-vals}
-use Rattle.lent.proofs.PolicyTypes.{R as Rₚ, policy-vals}
-use Rattle.lent.proofs.Calls.{_&_, tokens, Told, plainly, gives, spares, spare-first, spare-next, list-last, calls-both, calls-for, calls-to, copied, ends-local}
+use Rattle.walks.proofs.Walk.{closes}
+use Rattle.lent_ike.proofs.IkeTable.{R, Q, table-slot, rec-vals}
+use Rattle.lent_policy.proofs.PolicyTypes.{R as Rₚ, policy-vals}
+use Rattle.walks.proofs.Calls.{_&_, tokens, Told, plainly, gives, spares, spare-first, spare-next, list-last, calls-both, calls-for, calls-to, copied, ends-local}
 use Rattle.lent.proofs.Asked.{counts, finds-ike, reads-ike, changes-ike, reads-policy}
-use Rattle.lent.proofs.owned.ipsec_count as count
-use Rattle.lent.proofs.owned.ipsec_count.Symbol as count-def
-use Rattle.lent.proofs.owned.ipsec_count.Met as count-thm
-use Rattle.lent.proofs.owned.follow_if as follow
-use Rattle.lent.proofs.owned.follow_if.Symbol as follow-def
-use Rattle.lent.proofs.owned.follow_if.Met as follow-thm
-use Rattle.lent.proofs.ike.ike_place as place-of
-use Rattle.lent.proofs.ike.ike_place.Symbol as place-of-def
-use Rattle.lent.proofs.ike.ike_place.Met as place-of-thm
-use Rattle.lent.proofs.ike.ike_at as at-place
-use Rattle.lent.proofs.ike.ike_at.Symbol as at-place-def
-use Rattle.lent.proofs.ike.ike_at.Met as at-place-thm
-use Rattle.lent.proofs.ike.ike_change as change
-use Rattle.lent.proofs.ike.ike_change.Symbol as change-def
-use Rattle.lent.proofs.ike.ike_change.Met as change-thm
-use Rattle.lent.proofs.rules.policy_of as rules
-use Rattle.lent.proofs.rules.policy_of.Symbol as rules-def
-use Rattle.lent.proofs.rules.policy_of.Met as rules-thm
+use Rattle.lent_ipsec.proofs.owned.ipsec_count as count
+use Rattle.lent_ipsec.proofs.owned.ipsec_count.Symbol as count-def
+use Rattle.lent_ipsec.proofs.owned.ipsec_count.Met as count-thm
+use Rattle.lent_ipsec.proofs.owned.follow_if as follow
+use Rattle.lent_ipsec.proofs.owned.follow_if.Symbol as follow-def
+use Rattle.lent_ipsec.proofs.owned.follow_if.Met as follow-thm
+use Rattle.lent_ike.proofs.ike.ike_place as place-of
+use Rattle.lent_ike.proofs.ike.ike_place.Symbol as place-of-def
+use Rattle.lent_ike.proofs.ike.ike_place.Met as place-of-thm
+use Rattle.lent_ike.proofs.ike.ike_at as at-place
+use Rattle.lent_ike.proofs.ike.ike_at.Symbol as at-place-def
+use Rattle.lent_ike.proofs.ike.ike_at.Met as at-place-thm
+use Rattle.lent_ike.proofs.ike.ike_change as change
+use Rattle.lent_ike.proofs.ike.ike_change.Symbol as change-def
+use Rattle.lent_ike.proofs.ike.ike_change.Met as change-thm
+use Rattle.lent_policy.proofs.rules.policy_of as rules
+use Rattle.lent_policy.proofs.rules.policy_of.Symbol as rules-def
+use Rattle.lent_policy.proofs.rules.policy_of.Met as rules-thm
 use Rattle.host.proofs.handler.unmavreth_request.Key as key
 use Rattle.host.proofs.handler.unmavreth_request as f
 use Rattle.host.proofs.handler.unmavreth_request.Statement as stated
@@ -231,11 +231,11 @@ unmavreth-request-spec 𝓤 H 𝓜 𝓖 𝓡 =
     (walk 𝓤 H A W (𝓜 .mem) (𝓡 .run) κs qs (a .0) (a .1 .0) (a .1 .1 .0) (a .1 .1 .1 .0) (a .1 .1 .1 .1 .0) (a .1 .1 .1 .1 .1 .0) (a .1 .1 .1 .1 .1 .1 .0) (a .1 .1 .1 .1 .1 .1 .1 .0) (a .1 .1 .1 .1 .1 .1 .1 .1 .0) (a .1 .1 .1 .1 .1 .1 .1 .1 .1 .0) (a .1 .1 .1 .1 .1 .1 .1 .1 .1 .1 .0)
     (are .1 .0 .0 .1) (are .1 .1 .1 .0 .1) (are .1 .1 .1 .1 .0 .1) (are .1 .1 .1 .1 .1 .0) (are .1 .1 .1 .1 .1 .1 .0 .0 .1) (are .1 .1 .1 .1 .1 .1 .1 .0 .0 .1) (are .1 .1 .1 .1 .1 .1 .1 .1 .0 .1) (are .1 .1 .1 .1 .1 .1 .1 .1 .1 .0 .0 .1) (are .1 .1 .1 .1 .1 .1 .1 .1 .1 .1 .0 .0 .1)
     (Ts .C) (Ts .Λ) (fmOf 𝓤 H (W .laws) (tablesOf 𝓤 H 𝓜 Ts))
-    (cited 𝓤 H (Told 𝓤 H A count.ended (count.clauses 𝓤 H A (𝓜 .mem) (𝓡 .run))) 𝓜 𝓡 code.env count-def.name count-def.routine code.calls-lent·owned·ipsec-count (count-thm.met 𝓤 H 𝓜 𝓖 𝓡))
-    (cited 𝓤 H (Told 𝓤 H A place-of.ended (place-of.clauses 𝓤 H A (𝓜 .mem) (𝓡 .run))) 𝓜 𝓡 code.env place-of-def.name place-of-def.routine code.calls-lent·ike·ike-place (place-of-thm.met 𝓤 H 𝓜 𝓖 𝓡))
-    (cited 𝓤 H (Told 𝓤 H A at-place.ended (at-place.clauses 𝓤 H A (𝓜 .mem) (𝓡 .run))) 𝓜 𝓡 code.env at-place-def.name at-place-def.routine code.calls-lent·ike·ike-at (at-place-thm.met 𝓤 H 𝓜 𝓖 𝓡))
-    (cited 𝓤 H (Told 𝓤 H A marks.ended (marks.clauses 𝓤 H A (𝓜 .mem) (𝓡 .run))) 𝓜 𝓡 code.env marks-def.name marks-def.routine code.calls-tables·ike·marks-of (marks-thm.met 𝓤 H 𝓜 𝓖 𝓡))
-    (cited 𝓤 H (Told 𝓤 H A rules.ended (rules.clauses 𝓤 H A (𝓜 .mem) (𝓡 .run))) 𝓜 𝓡 code.env rules-def.name rules-def.routine code.calls-lent·rules·policy-of (rules-thm.met 𝓤 H 𝓜 𝓖 𝓡))
+    (cited 𝓤 H (Told 𝓤 H A count.ended (count.clauses 𝓤 H A (𝓜 .mem) (𝓡 .run))) 𝓜 𝓡 code.env count-def.name count-def.routine code.calls-lent-ipsec·owned·ipsec-count (count-thm.met 𝓤 H 𝓜 𝓖 𝓡))
+    (cited 𝓤 H (Told 𝓤 H A place-of.ended (place-of.clauses 𝓤 H A (𝓜 .mem) (𝓡 .run))) 𝓜 𝓡 code.env place-of-def.name place-of-def.routine code.calls-lent-ike·ike·ike-place (place-of-thm.met 𝓤 H 𝓜 𝓖 𝓡))
+    (cited 𝓤 H (Told 𝓤 H A at-place.ended (at-place.clauses 𝓤 H A (𝓜 .mem) (𝓡 .run))) 𝓜 𝓡 code.env at-place-def.name at-place-def.routine code.calls-lent-ike·ike·ike-at (at-place-thm.met 𝓤 H 𝓜 𝓖 𝓡))
+    (cited 𝓤 H (Told 𝓤 H A marks.ended (marks.clauses 𝓤 H A (𝓜 .mem) (𝓡 .run))) 𝓜 𝓡 code.env marks-def.name marks-def.routine code.calls-records·ike·marks-of (marks-thm.met 𝓤 H 𝓜 𝓖 𝓡))
+    (cited 𝓤 H (Told 𝓤 H A rules.ended (rules.clauses 𝓤 H A (𝓜 .mem) (𝓡 .run))) 𝓜 𝓡 code.env rules-def.name rules-def.routine code.calls-lent-policy·rules·policy-of (rules-thm.met 𝓤 H 𝓜 𝓖 𝓡))
     (cited 𝓤 H (Told 𝓤 H A answer.ended (answer.clauses 𝓤 H A (𝓜 .mem) (𝓡 .run))) 𝓜 𝓡 code.env answer-def.name answer-def.routine code.calls-responder·handle·answer (answer-thm.met 𝓤 H 𝓜 𝓖 𝓡))
-    (cited 𝓤 H (Told 𝓤 H A change.ended (change.clauses 𝓤 H A (𝓜 .mem) (𝓡 .run))) 𝓜 𝓡 code.env change-def.name change-def.routine code.calls-lent·ike·ike-change (change-thm.met 𝓤 H 𝓜 𝓖 𝓡))
-    (cited 𝓤 H (Told 𝓤 H A follow.ended (follow.clauses 𝓤 H A (𝓜 .mem) (𝓡 .run))) 𝓜 𝓡 code.env follow-def.name follow-def.routine code.calls-lent·owned·follow-if (follow-thm.met 𝓤 H 𝓜 𝓖 𝓡))))
+    (cited 𝓤 H (Told 𝓤 H A change.ended (change.clauses 𝓤 H A (𝓜 .mem) (𝓡 .run))) 𝓜 𝓡 code.env change-def.name change-def.routine code.calls-lent-ike·ike·ike-change (change-thm.met 𝓤 H 𝓜 𝓖 𝓡))
+    (cited 𝓤 H (Told 𝓤 H A follow.ended (follow.clauses 𝓤 H A (𝓜 .mem) (𝓡 .run))) 𝓜 𝓡 code.env follow-def.name follow-def.routine code.calls-lent-ipsec·owned·follow-if (follow-thm.met 𝓤 H 𝓜 𝓖 𝓡))))

@@ -1,7 +1,7 @@
 -- `host::records::unmavreth_acceptable` meets its contract: a walk of its MIR, by hand. The policy is read by `policy_of`, and the covered `is_acceptable` decides.
 -- Assumes nothing.
-use Rattle.lent.proofs.Kit.{refl, [], _∷_, List, URA, named, Val, vbool, SProp, ent, emp, via, id⊢, fst∗, flft, Memory, Routine, Heap, Calls, Loops, WpFn, Atoms, Lfts, Shares, Fun, givenOf, tables, tablesOf, Given, ‵, ⋆, _$_, _∵_, !, qed, by, move, drop, join, keep, fsplit, fjoin, suffices, frame, done, look, init, stop, from}
-use Rattle.lent.proofs.Kit.{and-then, no-more, land, returns, enter, alloc1, alloc0, params1, pass1, pass0, free0, FmC, fmOf, owns, flat, Is, Spells, valss, bool-makes, bool-vals, bool-tells, bool, RefT, ptr-vals, shr-tells, plain, shrRefTo, typesAt, owned, nothing, Triple, Args, Vals, onEntry, cited, says, Stays, stay-dropped, walkOf, goes-dropped, ends-at, yes}
+use Rattle.walks.proofs.Kit.{refl, [], _∷_, List, URA, named, Val, vbool, SProp, ent, emp, via, id⊢, fst∗, flft, Memory, Routine, Heap, Calls, Loops, WpFn, Atoms, Lfts, Shares, Fun, givenOf, tables, tablesOf, Given, ‵, ⋆, _$_, _∵_, !, qed, by, move, drop, join, keep, fsplit, fjoin, suffices, frame, done, look, init, stop, from}
+use Rattle.walks.proofs.Kit.{and-then, no-more, land, returns, enter, alloc1, alloc0, params1, pass1, pass0, free0, FmC, fmOf, owns, flat, Is, Spells, valss, bool-makes, bool-vals, bool-tells, bool, RefT, ptr-vals, shr-tells, plain, shrRefTo, typesAt, owned, nothing, Triple, Args, Vals, onEntry, cited, says, Stays, stay-dropped, walkOf, goes-dropped, ends-at, yes}
 use denote.Struct.Laws as LL
 use Rattle.address.specs.declared.pair.Pair.{Pair}
 use Rattle.address.proofs.pair.Pair as P
@@ -13,13 +13,13 @@ use Rattle.policy.proofs.rules.Policy.Laws as Y′
 use Rattle.policy.proofs.rules.is_acceptable as decide
 use Rattle.policy.proofs.rules.is_acceptable.Symbol as decide-def
 use Rattle.policy.proofs.rules.is_acceptable.Met as decide-thm
-use Rattle.lent.proofs.Walk.{closes}
-use Rattle.lent.proofs.Calls.{tokens, Told, no-token, plainly, calls-for, copied, ends-local}
+use Rattle.walks.proofs.Walk.{closes}
+use Rattle.walks.proofs.Calls.{tokens, Told, no-token, plainly, calls-for, copied, ends-local}
 use Rattle.lent.proofs.Asked.{reads-policy}
-use Rattle.lent.proofs.PolicyTypes.{R, policy-vals}
-use Rattle.lent.proofs.rules.policy_of as read
-use Rattle.lent.proofs.rules.policy_of.Symbol as read-def
-use Rattle.lent.proofs.rules.policy_of.Met as read-thm
+use Rattle.lent_policy.proofs.PolicyTypes.{R, policy-vals}
+use Rattle.lent_policy.proofs.rules.policy_of as read
+use Rattle.lent_policy.proofs.rules.policy_of.Symbol as read-def
+use Rattle.lent_policy.proofs.rules.policy_of.Met as read-thm
 use Rattle.host.proofs.records.unmavreth_acceptable.Key as key
 use Rattle.host.proofs.records.unmavreth_acceptable as f
 use Rattle.host.proofs.records.unmavreth_acceptable.Statement as stated
@@ -72,5 +72,5 @@ unmavreth-acceptable-spec 𝓤 H 𝓜 𝓖 𝓡 =
     closes 𝓤 H 𝓜 𝓖 𝓡 code.env key.name code.function (code.unfolded 𝓤 H 𝓜 𝓡) f.ended stayed (f.clauses 𝓤 H A (𝓜 .mem) (𝓡 .run))
     (goes-dropped 𝓤 H A W 1 (shrRefTo (0 ∷ []) tt (plain (λ _. R))) yes (λ κs x f. refl), (goes-dropped 𝓤 H A W 1 (plain (λ _. P.the-row)) yes (λ κs x f. refl), tt)) spelled (λ κs. (shr-tells (named 0) (κs .0) R, (LL.tells P.the-type P′.the-laws, tt)))
     (λ κs qs bounds a g are. via 𝓤 _ (fst∗ 𝓤 _ (emp 𝓤)) (walk 𝓤 H A W (𝓜 .mem) (𝓡 .run) κs qs (a .0) (a .1 .0) (are .1 .0) (Ts .C) (Ts .Λ) (fmOf 𝓤 H (W .laws) (tablesOf 𝓤 H 𝓜 Ts))
-    (cited 𝓤 H (Told 𝓤 H A read.ended (read.clauses 𝓤 H A (𝓜 .mem) (𝓡 .run))) 𝓜 𝓡 code.env read-def.name read-def.routine code.calls-lent·rules·policy-of (read-thm.met 𝓤 H 𝓜 𝓖 𝓡))
+    (cited 𝓤 H (Told 𝓤 H A read.ended (read.clauses 𝓤 H A (𝓜 .mem) (𝓡 .run))) 𝓜 𝓡 code.env read-def.name read-def.routine code.calls-lent-policy·rules·policy-of (read-thm.met 𝓤 H 𝓜 𝓖 𝓡))
     (cited 𝓤 H (Told 𝓤 H A decide.ended (decide.clauses 𝓤 H A (𝓜 .mem) (𝓡 .run))) 𝓜 𝓡 code.env decide-def.name decide-def.routine code.calls-policy·rules·is-acceptable (decide-thm.met 𝓤 H 𝓜 𝓖 𝓡))))

@@ -1,16 +1,16 @@
 -- `host::records::unmavreth_close_ike` meets its contract: a walk of its MIR, by hand. The list is lent to `ipsec_count` and the table to `ike_place`, the covered `ike_closing` decides, and then the table is passed for good to `ike_store`, and the list to `release_if`.
 -- Assumes nothing.
-use Rattle.lent.proofs.Kit.{_≡_, refl, ℕ, _<_, _^_, cond, [], _∷_, List, map, eqb, length, set, URA, named, w8, w64, Val, vint, SProp, ent, emp, via, id⊢, fst∗, flft, fres, Memory, Routine, Heap, Calls, Loops, WpFn, Atoms, Lfts, Shares, Fun, givenOf, tables, tablesOf, Given, ‵, ⋆, _$_}
-use Rattle.lent.proofs.Kit.{_∵_, !, qed, by, move, drop, split, join, fsplit, fjoin, suffices, frame, done, look, init, stop, hop, fld, from, load, lit, of-opd, bin, addr, assigns, and-then, no-more, land, returns, enter, alloc1, alloc0, params1, pass1, pass0, free0, whole, sub, look-in}
-use Rattle.lent.proofs.Kit.{agg, FmC, fmOf, owns, flat, Is, Spells, valss, uint-makes, uint-vals, uint-tells, bool-makes, bool-vals, nothing-tells, u8, u64, usize, bool, ArrayOf, RefT, ptr-vals, mut-tells, slice-vals, mut-slice-tells, Room, finally, Slot, plain, typesAt, owned, nothing}
-use Rattle.lent.proofs.Kit.{Triple, Args, Vals, onEntry, cited, says, Stays, stay-dropped, gave-ref, gave-slice, walkOf, goes-dropped, goes-gave-ref, goes-gave-slice, ends-at, yes}
+use Rattle.walks.proofs.Kit.{_≡_, refl, ℕ, _<_, _^_, cond, [], _∷_, List, map, eqb, length, set, URA, named, w8, w64, Val, vint, SProp, ent, emp, via, id⊢, fst∗, flft, fres, Memory, Routine, Heap, Calls, Loops, WpFn, Atoms, Lfts, Shares, Fun, givenOf, tables, tablesOf, Given, ‵, ⋆, _$_}
+use Rattle.walks.proofs.Kit.{_∵_, !, qed, by, move, drop, split, join, fsplit, fjoin, suffices, frame, done, look, init, stop, hop, fld, from, load, lit, of-opd, bin, addr, assigns, and-then, no-more, land, returns, enter, alloc1, alloc0, params1, pass1, pass0, free0, whole, sub, look-in}
+use Rattle.walks.proofs.Kit.{agg, FmC, fmOf, owns, flat, Is, Spells, valss, uint-makes, uint-vals, uint-tells, bool-makes, bool-vals, nothing-tells, u8, u64, usize, bool, ArrayOf, RefT, ptr-vals, mut-tells, slice-vals, mut-slice-tells, Room, finally, Slot, plain, typesAt, owned, nothing}
+use Rattle.walks.proofs.Kit.{Triple, Args, Vals, onEntry, cited, says, Stays, stay-dropped, gave-ref, gave-slice, walkOf, goes-dropped, goes-gave-ref, goes-gave-slice, ends-at, yes}
 use types.Run.{store as stores}
 use denote.Struct.Laws as LL
 use Rattle.octets.specs.Lists.{placeOf}
-use Rattle.tables.specs.Records.{ikeSpi, released}
+use Rattle.records.specs.Records.{ikeSpi, released}
 use Rattle.tables.specs.Changes.{ikeClosing}
-use Rattle.tables.specs.declared.ike.IkeRecord.{IkeRecord}
-use Rattle.tables.specs.declared.ipsec.IpsecRecord.{IpsecRecord}
+use Rattle.records.specs.declared.ike.IkeRecord.{IkeRecord}
+use Rattle.records.specs.declared.ipsec.IpsecRecord.{IpsecRecord}
 use Rattle.tables.specs.declared.calls.IkeChange.{IkeChange}
 use Rattle.tables.proofs.Changed.{closes-ike}
 use Rattle.tables.proofs.calls.IkeChange as D
@@ -18,23 +18,23 @@ use Rattle.tables.proofs.calls.IkeChange.Laws as D′
 use Rattle.tables.proofs.calls.ike_closing as closing
 use Rattle.tables.proofs.calls.ike_closing.Symbol as closing-def
 use Rattle.tables.proofs.calls.ike_closing.Met as closing-thm
-use Rattle.lent.proofs.Walk.{closes}
-use Rattle.lent.proofs.Calls.{_&_, tokens, Told, no-token, list-last, plainly, gives, calls-for, calls-to, copied, ends-local}
+use Rattle.walks.proofs.Walk.{closes}
+use Rattle.walks.proofs.Calls.{_&_, tokens, Told, no-token, list-last, plainly, gives, calls-for, calls-to, copied, ends-local}
 use Rattle.lent.proofs.Asked.{counts, finds-ike, stores-ike}
-use Rattle.lent.proofs.IkeTable.{R as Rₖ, Q}
-use Rattle.lent.proofs.IpsecTable.{R}
-use Rattle.lent.proofs.ike.ike_place as place
-use Rattle.lent.proofs.ike.ike_place.Symbol as place-def
-use Rattle.lent.proofs.ike.ike_place.Met as place-thm
-use Rattle.lent.proofs.ike.ike_store as store
-use Rattle.lent.proofs.ike.ike_store.Symbol as store-def
-use Rattle.lent.proofs.ike.ike_store.Met as store-thm
-use Rattle.lent.proofs.owned.ipsec_count as count
-use Rattle.lent.proofs.owned.ipsec_count.Symbol as count-def
-use Rattle.lent.proofs.owned.ipsec_count.Met as count-thm
-use Rattle.lent.proofs.owned.release_if as release
-use Rattle.lent.proofs.owned.release_if.Symbol as release-def
-use Rattle.lent.proofs.owned.release_if.Met as release-thm
+use Rattle.lent_ike.proofs.IkeTable.{R as Rₖ, Q}
+use Rattle.lent_ipsec.proofs.IpsecTable.{R}
+use Rattle.lent_ike.proofs.ike.ike_place as place
+use Rattle.lent_ike.proofs.ike.ike_place.Symbol as place-def
+use Rattle.lent_ike.proofs.ike.ike_place.Met as place-thm
+use Rattle.lent_ike.proofs.ike.ike_store as store
+use Rattle.lent_ike.proofs.ike.ike_store.Symbol as store-def
+use Rattle.lent_ike.proofs.ike.ike_store.Met as store-thm
+use Rattle.lent_ipsec.proofs.owned.ipsec_count as count
+use Rattle.lent_ipsec.proofs.owned.ipsec_count.Symbol as count-def
+use Rattle.lent_ipsec.proofs.owned.ipsec_count.Met as count-thm
+use Rattle.lent_ipsec.proofs.owned.release_if as release
+use Rattle.lent_ipsec.proofs.owned.release_if.Symbol as release-def
+use Rattle.lent_ipsec.proofs.owned.release_if.Met as release-thm
 use Rattle.host.proofs.records.unmavreth_close_ike.Key as key
 use Rattle.host.proofs.records.unmavreth_close_ike as f
 use Rattle.host.proofs.records.unmavreth_close_ike.Statement as stated
@@ -121,8 +121,8 @@ unmavreth-close-ike-spec 𝓤 H 𝓜 𝓖 𝓡 =
     (goes-gave-ref 𝓤 H A W 2 0 tt table, (goes-gave-slice 𝓤 H A W 2 1 tt (plain (λ _. R)), (goes-dropped 𝓤 H A W 2 (plain (λ _. u64)) yes (λ κs x f. refl), tt)))
     spelled (λ κs. (mut-tells (named 0) (κs .0) Q, (mut-slice-tells (named 1) (κs .1 .0) R, (uint-tells w64, tt))))
     (λ κs qs bounds a g are. via 𝓤 _ (fst∗ 𝓤 _ (emp 𝓤)) (walk 𝓤 H A W (𝓜 .mem) (𝓡 .run) κs qs (a .0) (a .1 .0) (a .1 .1 .0) (are .1 .0 .0 .1) (are .1 .1 .0 .1) (Ts .C) (Ts .Λ) (fmOf 𝓤 H (W .laws) (tablesOf 𝓤 H 𝓜 Ts))
-    (cited 𝓤 H (Told 𝓤 H A count.ended (count.clauses 𝓤 H A (𝓜 .mem) (𝓡 .run))) 𝓜 𝓡 code.env count-def.name count-def.routine code.calls-lent·owned·ipsec-count (count-thm.met 𝓤 H 𝓜 𝓖 𝓡))
-    (cited 𝓤 H (Told 𝓤 H A place.ended (place.clauses 𝓤 H A (𝓜 .mem) (𝓡 .run))) 𝓜 𝓡 code.env place-def.name place-def.routine code.calls-lent·ike·ike-place (place-thm.met 𝓤 H 𝓜 𝓖 𝓡))
+    (cited 𝓤 H (Told 𝓤 H A count.ended (count.clauses 𝓤 H A (𝓜 .mem) (𝓡 .run))) 𝓜 𝓡 code.env count-def.name count-def.routine code.calls-lent-ipsec·owned·ipsec-count (count-thm.met 𝓤 H 𝓜 𝓖 𝓡))
+    (cited 𝓤 H (Told 𝓤 H A place.ended (place.clauses 𝓤 H A (𝓜 .mem) (𝓡 .run))) 𝓜 𝓡 code.env place-def.name place-def.routine code.calls-lent-ike·ike·ike-place (place-thm.met 𝓤 H 𝓜 𝓖 𝓡))
     (cited 𝓤 H (Told 𝓤 H A closing.ended (closing.clauses 𝓤 H A (𝓜 .mem) (𝓡 .run))) 𝓜 𝓡 code.env closing-def.name closing-def.routine code.calls-tables·calls·ike-closing (closing-thm.met 𝓤 H 𝓜 𝓖 𝓡))
-    (cited 𝓤 H (Told 𝓤 H A store.ended (store.clauses 𝓤 H A (𝓜 .mem) (𝓡 .run))) 𝓜 𝓡 code.env store-def.name store-def.routine code.calls-lent·ike·ike-store (store-thm.met 𝓤 H 𝓜 𝓖 𝓡))
-    (cited 𝓤 H (Told 𝓤 H A release.ended (release.clauses 𝓤 H A (𝓜 .mem) (𝓡 .run))) 𝓜 𝓡 code.env release-def.name release-def.routine code.calls-lent·owned·release-if (release-thm.met 𝓤 H 𝓜 𝓖 𝓡))))
+    (cited 𝓤 H (Told 𝓤 H A store.ended (store.clauses 𝓤 H A (𝓜 .mem) (𝓡 .run))) 𝓜 𝓡 code.env store-def.name store-def.routine code.calls-lent-ike·ike·ike-store (store-thm.met 𝓤 H 𝓜 𝓖 𝓡))
+    (cited 𝓤 H (Told 𝓤 H A release.ended (release.clauses 𝓤 H A (𝓜 .mem) (𝓡 .run))) 𝓜 𝓡 code.env release-def.name release-def.routine code.calls-lent-ipsec·owned·release-if (release-thm.met 𝓤 H 𝓜 𝓖 𝓡))))

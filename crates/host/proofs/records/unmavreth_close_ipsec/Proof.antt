@@ -1,14 +1,14 @@
 -- `host::records::unmavreth_close_ipsec` meets its contract: a walk of its MIR, by hand. The list is lent to `ipsec_count` and `ipsec_place`, the covered `ipsec_closing` decides, and the list is passed for good to `ipsec_store`.
 -- Assumes nothing.
-use Rattle.lent.proofs.Kit.{_≡_, refl, ℕ, _<_, _^_, [], _∷_, List, length, set, URA, named, w8, w32, w64, Val, vint, SProp, ent, emp, via, id⊢, fst∗, flft, Memory, Routine, Heap, Calls, Loops, WpFn, Atoms, Lfts, Shares, Fun, givenOf, tables, tablesOf, Given, ‵, ⋆, _$_, _∵_, !, qed, by}
-use Rattle.lent.proofs.Kit.{move, drop, join, fsplit, fjoin, suffices, frame, done, look, init, stop, hop, fld, from, load, of-opd, addr, assigns, and-then, no-more, land, returns, enter, alloc1, alloc0, params1, pass1, pass0, free0, whole, sub, look-in, agg, FmC, fmOf, owns, flat, Is}
-use Rattle.lent.proofs.Kit.{Spells, valss, uint-makes, uint-vals, uint-tells, u8, u32, usize, RefT, slice-vals, mut-slice-tells, Room, finally, plain, typesAt, owned, nothing, Triple, Args, Vals, onEntry, cited, says, Stays, stay-dropped, gave-slice, walkOf, goes-dropped, goes-gave-slice}
-use Rattle.lent.proofs.Kit.{ends-at, yes}
+use Rattle.walks.proofs.Kit.{_≡_, refl, ℕ, _<_, _^_, [], _∷_, List, length, set, URA, named, w8, w32, w64, Val, vint, SProp, ent, emp, via, id⊢, fst∗, flft, Memory, Routine, Heap, Calls, Loops, WpFn, Atoms, Lfts, Shares, Fun, givenOf, tables, tablesOf, Given, ‵, ⋆, _$_, _∵_, !, qed, by}
+use Rattle.walks.proofs.Kit.{move, drop, join, fsplit, fjoin, suffices, frame, done, look, init, stop, hop, fld, from, load, of-opd, addr, assigns, and-then, no-more, land, returns, enter, alloc1, alloc0, params1, pass1, pass0, free0, whole, sub, look-in, agg, FmC, fmOf, owns, flat, Is}
+use Rattle.walks.proofs.Kit.{Spells, valss, uint-makes, uint-vals, uint-tells, u8, u32, usize, RefT, slice-vals, mut-slice-tells, Room, finally, plain, typesAt, owned, nothing, Triple, Args, Vals, onEntry, cited, says, Stays, stay-dropped, gave-slice, walkOf, goes-dropped, goes-gave-slice}
+use Rattle.walks.proofs.Kit.{ends-at, yes}
 use denote.Struct.Laws as LL
 use Rattle.octets.specs.Lists.{placeOf}
-use Rattle.tables.specs.Records.{ipsecSpi}
+use Rattle.records.specs.Records.{ipsecSpi}
 use Rattle.tables.specs.Changes.{ipsecClosing}
-use Rattle.tables.specs.declared.ipsec.IpsecRecord.{IpsecRecord}
+use Rattle.records.specs.declared.ipsec.IpsecRecord.{IpsecRecord}
 use Rattle.tables.specs.declared.calls.IpsecChange.{IpsecChange}
 use Rattle.tables.proofs.Changed.{closes-ipsec}
 use Rattle.tables.proofs.calls.IpsecChange as D
@@ -16,19 +16,19 @@ use Rattle.tables.proofs.calls.IpsecChange.Laws as D′
 use Rattle.tables.proofs.calls.ipsec_closing as closing
 use Rattle.tables.proofs.calls.ipsec_closing.Symbol as closing-def
 use Rattle.tables.proofs.calls.ipsec_closing.Met as closing-thm
-use Rattle.lent.proofs.Walk.{closes}
-use Rattle.lent.proofs.Calls.{_&_, tokens, Told, no-token, plainly, calls-for, copied, ends-local}
+use Rattle.walks.proofs.Walk.{closes}
+use Rattle.walks.proofs.Calls.{_&_, tokens, Told, no-token, plainly, calls-for, copied, ends-local}
 use Rattle.lent.proofs.Asked.{counts, finds-ipsec, stores-ipsec}
-use Rattle.lent.proofs.IpsecTable.{R}
-use Rattle.lent.proofs.owned.ipsec_count as count
-use Rattle.lent.proofs.owned.ipsec_count.Symbol as count-def
-use Rattle.lent.proofs.owned.ipsec_count.Met as count-thm
-use Rattle.lent.proofs.places.ipsec_place as place
-use Rattle.lent.proofs.places.ipsec_place.Symbol as place-def
-use Rattle.lent.proofs.places.ipsec_place.Met as place-thm
-use Rattle.lent.proofs.places.ipsec_store as store
-use Rattle.lent.proofs.places.ipsec_store.Symbol as store-def
-use Rattle.lent.proofs.places.ipsec_store.Met as store-thm
+use Rattle.lent_ipsec.proofs.IpsecTable.{R}
+use Rattle.lent_ipsec.proofs.owned.ipsec_count as count
+use Rattle.lent_ipsec.proofs.owned.ipsec_count.Symbol as count-def
+use Rattle.lent_ipsec.proofs.owned.ipsec_count.Met as count-thm
+use Rattle.lent_ipsec.proofs.places.ipsec_place as place
+use Rattle.lent_ipsec.proofs.places.ipsec_place.Symbol as place-def
+use Rattle.lent_ipsec.proofs.places.ipsec_place.Met as place-thm
+use Rattle.lent_ipsec.proofs.places.ipsec_store as store
+use Rattle.lent_ipsec.proofs.places.ipsec_store.Symbol as store-def
+use Rattle.lent_ipsec.proofs.places.ipsec_store.Met as store-thm
 use Rattle.host.proofs.records.unmavreth_close_ipsec.Key as key
 use Rattle.host.proofs.records.unmavreth_close_ipsec as f
 use Rattle.host.proofs.records.unmavreth_close_ipsec.Statement as stated
@@ -103,7 +103,7 @@ unmavreth-close-ipsec-spec 𝓤 H 𝓜 𝓖 𝓡 =
     closes 𝓤 H 𝓜 𝓖 𝓡 code.env key.name code.function (code.unfolded 𝓤 H 𝓜 𝓡) f.ended stayed (f.clauses 𝓤 H A (𝓜 .mem) (𝓡 .run))
     (goes-gave-slice 𝓤 H A W 1 0 tt (plain (λ _. R)), (goes-dropped 𝓤 H A W 1 (plain (λ _. u32)) yes (λ κs x f. refl), tt)) spelled (λ κs. (mut-slice-tells (named 0) (κs .0) R, (uint-tells w32, tt)))
     (λ κs qs bounds a g are. via 𝓤 _ (fst∗ 𝓤 _ (emp 𝓤)) (walk 𝓤 H A W (𝓜 .mem) (𝓡 .run) κs qs (a .0) (a .1 .0) (are .0 .0 .1) (are .1 .0 .1) (Ts .C) (Ts .Λ) (fmOf 𝓤 H (W .laws) (tablesOf 𝓤 H 𝓜 Ts))
-    (cited 𝓤 H (Told 𝓤 H A count.ended (count.clauses 𝓤 H A (𝓜 .mem) (𝓡 .run))) 𝓜 𝓡 code.env count-def.name count-def.routine code.calls-lent·owned·ipsec-count (count-thm.met 𝓤 H 𝓜 𝓖 𝓡))
-    (cited 𝓤 H (Told 𝓤 H A place.ended (place.clauses 𝓤 H A (𝓜 .mem) (𝓡 .run))) 𝓜 𝓡 code.env place-def.name place-def.routine code.calls-lent·places·ipsec-place (place-thm.met 𝓤 H 𝓜 𝓖 𝓡))
+    (cited 𝓤 H (Told 𝓤 H A count.ended (count.clauses 𝓤 H A (𝓜 .mem) (𝓡 .run))) 𝓜 𝓡 code.env count-def.name count-def.routine code.calls-lent-ipsec·owned·ipsec-count (count-thm.met 𝓤 H 𝓜 𝓖 𝓡))
+    (cited 𝓤 H (Told 𝓤 H A place.ended (place.clauses 𝓤 H A (𝓜 .mem) (𝓡 .run))) 𝓜 𝓡 code.env place-def.name place-def.routine code.calls-lent-ipsec·places·ipsec-place (place-thm.met 𝓤 H 𝓜 𝓖 𝓡))
     (cited 𝓤 H (Told 𝓤 H A closing.ended (closing.clauses 𝓤 H A (𝓜 .mem) (𝓡 .run))) 𝓜 𝓡 code.env closing-def.name closing-def.routine code.calls-tables·calls·ipsec-closing (closing-thm.met 𝓤 H 𝓜 𝓖 𝓡))
-    (cited 𝓤 H (Told 𝓤 H A store.ended (store.clauses 𝓤 H A (𝓜 .mem) (𝓡 .run))) 𝓜 𝓡 code.env store-def.name store-def.routine code.calls-lent·places·ipsec-store (store-thm.met 𝓤 H 𝓜 𝓖 𝓡))))
+    (cited 𝓤 H (Told 𝓤 H A store.ended (store.clauses 𝓤 H A (𝓜 .mem) (𝓡 .run))) 𝓜 𝓡 code.env store-def.name store-def.routine code.calls-lent-ipsec·places·ipsec-store (store-thm.met 𝓤 H 𝓜 𝓖 𝓡))))

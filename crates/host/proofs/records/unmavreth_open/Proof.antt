@@ -1,16 +1,16 @@
 -- `host::records::unmavreth_open` meets its contract: a walk of its MIR, by hand. The list is lent to `ipsec_count`, the table twice to `ike_place` and the list twice to `ipsec_place`, the covered `both_opening` decides, and then the table is passed for good to `ike_store`, and the list to `ipsec_store`.
 -- Assumes nothing.
-use Rattle.lent.proofs.Kit.{_≡_, refl, ℕ, _<_, _^_, [], _∷_, List, lit<, length, set, URA, named, w8, w64, Val, vint, SProp, ent, emp, via, id⊢, fst∗, flft, fres, Memory, Routine, Heap, Calls, Loops, WpFn, Atoms, Lfts, Shares, Fun, givenOf, tables, tablesOf, Given, ‵, ⋆, _$_}
-use Rattle.lent.proofs.Kit.{_∵_, !, qed, by, move, drop, split, join, fsplit, fjoin, suffices, frame, done, look, init, stop, hop, fld, from, load, lit, of-opd, addr, assigns, and-then, no-more, land, returns, enter, alloc1, alloc0, params1, pass1, pass0, free0, whole, sub, look-in}
-use Rattle.lent.proofs.Kit.{agg, FmC, fmOf, RattleType, owns, flat, Is, Spells, valss, uint-makes, uint-vals, u8, usize, RefT, ptr-vals, mut-tells, slice-vals, mut-slice-tells, Room, finally, Slot, plain, typesAt, owned, nothing}
-use Rattle.lent.proofs.Kit.{Triple, Args, Vals, onEntry, cited, says, Stays, stay-dropped, gave-ref, gave-slice, walkOf, goes-dropped, goes-gave-ref, goes-gave-slice, ends-at, yes}
+use Rattle.walks.proofs.Kit.{_≡_, refl, ℕ, _<_, _^_, [], _∷_, List, lit<, length, set, URA, named, w8, w64, Val, vint, SProp, ent, emp, via, id⊢, fst∗, flft, fres, Memory, Routine, Heap, Calls, Loops, WpFn, Atoms, Lfts, Shares, Fun, givenOf, tables, tablesOf, Given, ‵, ⋆, _$_}
+use Rattle.walks.proofs.Kit.{_∵_, !, qed, by, move, drop, split, join, fsplit, fjoin, suffices, frame, done, look, init, stop, hop, fld, from, load, lit, of-opd, addr, assigns, and-then, no-more, land, returns, enter, alloc1, alloc0, params1, pass1, pass0, free0, whole, sub, look-in}
+use Rattle.walks.proofs.Kit.{agg, FmC, fmOf, RattleType, owns, flat, Is, Spells, valss, uint-makes, uint-vals, u8, usize, RefT, ptr-vals, mut-tells, slice-vals, mut-slice-tells, Room, finally, Slot, plain, typesAt, owned, nothing}
+use Rattle.walks.proofs.Kit.{Triple, Args, Vals, onEntry, cited, says, Stays, stay-dropped, gave-ref, gave-slice, walkOf, goes-dropped, goes-gave-ref, goes-gave-slice, ends-at, yes}
 use types.Run.{store as stores}
 use denote.Struct.Laws as LL
 use Rattle.octets.specs.Lists.{placeOf}
-use Rattle.tables.specs.Records.{ikeSpi, ipsecSpi}
+use Rattle.records.specs.Records.{ikeSpi, ipsecSpi}
 use Rattle.tables.specs.Changes.{bothOpening}
-use Rattle.tables.specs.declared.ike.IkeRecord.{IkeRecord}
-use Rattle.tables.specs.declared.ipsec.IpsecRecord.{IpsecRecord}
+use Rattle.records.specs.declared.ike.IkeRecord.{IkeRecord}
+use Rattle.records.specs.declared.ipsec.IpsecRecord.{IpsecRecord}
 use Rattle.tables.specs.declared.calls.BothChange.{BothChange}
 use Rattle.tables.specs.declared.calls.Opening.{Opening}
 use Rattle.tables.proofs.Changed.{opens-both}
@@ -21,26 +21,26 @@ use Rattle.tables.proofs.calls.Opening.Laws as O′
 use Rattle.tables.proofs.calls.both_opening as opening
 use Rattle.tables.proofs.calls.both_opening.Symbol as opening-def
 use Rattle.tables.proofs.calls.both_opening.Met as opening-thm
-use Rattle.lent.proofs.Walk.{closes}
-use Rattle.lent.proofs.Calls.{_&_, tokens, Told, no-token, plainly, calls-for, copied, ends-local}
+use Rattle.walks.proofs.Walk.{closes}
+use Rattle.walks.proofs.Calls.{_&_, tokens, Told, no-token, plainly, calls-for, copied, ends-local}
 use Rattle.lent.proofs.Asked.{counts, finds-ike, finds-ipsec, stores-ike, stores-ipsec}
-use Rattle.lent.proofs.IkeTable.{Q, table-slot}
-use Rattle.lent.proofs.IpsecTable.{R}
-use Rattle.lent.proofs.ike.ike_place as home
-use Rattle.lent.proofs.ike.ike_place.Symbol as home-def
-use Rattle.lent.proofs.ike.ike_place.Met as home-thm
-use Rattle.lent.proofs.ike.ike_store as put
-use Rattle.lent.proofs.ike.ike_store.Symbol as put-def
-use Rattle.lent.proofs.ike.ike_store.Met as put-thm
-use Rattle.lent.proofs.owned.ipsec_count as count
-use Rattle.lent.proofs.owned.ipsec_count.Symbol as count-def
-use Rattle.lent.proofs.owned.ipsec_count.Met as count-thm
-use Rattle.lent.proofs.places.ipsec_place as place
-use Rattle.lent.proofs.places.ipsec_place.Symbol as place-def
-use Rattle.lent.proofs.places.ipsec_place.Met as place-thm
-use Rattle.lent.proofs.places.ipsec_store as store
-use Rattle.lent.proofs.places.ipsec_store.Symbol as store-def
-use Rattle.lent.proofs.places.ipsec_store.Met as store-thm
+use Rattle.lent_ike.proofs.IkeTable.{Q, table-slot}
+use Rattle.lent_ipsec.proofs.IpsecTable.{R}
+use Rattle.lent_ike.proofs.ike.ike_place as home
+use Rattle.lent_ike.proofs.ike.ike_place.Symbol as home-def
+use Rattle.lent_ike.proofs.ike.ike_place.Met as home-thm
+use Rattle.lent_ike.proofs.ike.ike_store as put
+use Rattle.lent_ike.proofs.ike.ike_store.Symbol as put-def
+use Rattle.lent_ike.proofs.ike.ike_store.Met as put-thm
+use Rattle.lent_ipsec.proofs.owned.ipsec_count as count
+use Rattle.lent_ipsec.proofs.owned.ipsec_count.Symbol as count-def
+use Rattle.lent_ipsec.proofs.owned.ipsec_count.Met as count-thm
+use Rattle.lent_ipsec.proofs.places.ipsec_place as place
+use Rattle.lent_ipsec.proofs.places.ipsec_place.Symbol as place-def
+use Rattle.lent_ipsec.proofs.places.ipsec_place.Met as place-thm
+use Rattle.lent_ipsec.proofs.places.ipsec_store as store
+use Rattle.lent_ipsec.proofs.places.ipsec_store.Symbol as store-def
+use Rattle.lent_ipsec.proofs.places.ipsec_store.Met as store-thm
 use Rattle.host.proofs.records.unmavreth_open.Key as key
 use Rattle.host.proofs.records.unmavreth_open as f
 use Rattle.host.proofs.records.unmavreth_open.Statement as stated
@@ -154,9 +154,9 @@ unmavreth-open-spec 𝓤 H 𝓜 𝓖 𝓡 =
     (goes-gave-ref 𝓤 H A W 2 0 tt table-slot & goes-gave-slice 𝓤 H A W 2 1 tt (val R) & goes-dropped 𝓤 H A W 2 (val O.the-row) yes (λ κs x f. refl) & tt)
     spelled (λ κs. mut-tells (named 0) (κs .0) Q & mut-slice-tells (named 1) (κs .1 .0) R & LL.tells O.the-type O′.the-laws & tt)
     (λ κs qs bounds a g are. via 𝓤 _ (fst∗ 𝓤 _ (emp 𝓤)) (walk 𝓤 H A W (𝓜 .mem) (𝓡 .run) κs qs (a .0) (a .1 .0) (a .1 .1 .0) (are .1 .0 .0 .1) (are .1 .1 .0) (Ts .C) (Ts .Λ) (fmOf 𝓤 H (W .laws) (tablesOf 𝓤 H 𝓜 Ts))
-    (cited 𝓤 H (Told 𝓤 H A count.ended (count.clauses 𝓤 H A (𝓜 .mem) (𝓡 .run))) 𝓜 𝓡 code.env count-def.name count-def.routine code.calls-lent·owned·ipsec-count (count-thm.met 𝓤 H 𝓜 𝓖 𝓡))
-    (cited 𝓤 H (Told 𝓤 H A home.ended (home.clauses 𝓤 H A (𝓜 .mem) (𝓡 .run))) 𝓜 𝓡 code.env home-def.name home-def.routine code.calls-lent·ike·ike-place (home-thm.met 𝓤 H 𝓜 𝓖 𝓡))
-    (cited 𝓤 H (Told 𝓤 H A place.ended (place.clauses 𝓤 H A (𝓜 .mem) (𝓡 .run))) 𝓜 𝓡 code.env place-def.name place-def.routine code.calls-lent·places·ipsec-place (place-thm.met 𝓤 H 𝓜 𝓖 𝓡))
+    (cited 𝓤 H (Told 𝓤 H A count.ended (count.clauses 𝓤 H A (𝓜 .mem) (𝓡 .run))) 𝓜 𝓡 code.env count-def.name count-def.routine code.calls-lent-ipsec·owned·ipsec-count (count-thm.met 𝓤 H 𝓜 𝓖 𝓡))
+    (cited 𝓤 H (Told 𝓤 H A home.ended (home.clauses 𝓤 H A (𝓜 .mem) (𝓡 .run))) 𝓜 𝓡 code.env home-def.name home-def.routine code.calls-lent-ike·ike·ike-place (home-thm.met 𝓤 H 𝓜 𝓖 𝓡))
+    (cited 𝓤 H (Told 𝓤 H A place.ended (place.clauses 𝓤 H A (𝓜 .mem) (𝓡 .run))) 𝓜 𝓡 code.env place-def.name place-def.routine code.calls-lent-ipsec·places·ipsec-place (place-thm.met 𝓤 H 𝓜 𝓖 𝓡))
     (cited 𝓤 H (Told 𝓤 H A opening.ended (opening.clauses 𝓤 H A (𝓜 .mem) (𝓡 .run))) 𝓜 𝓡 code.env opening-def.name opening-def.routine code.calls-tables·calls·both-opening (opening-thm.met 𝓤 H 𝓜 𝓖 𝓡))
-    (cited 𝓤 H (Told 𝓤 H A put.ended (put.clauses 𝓤 H A (𝓜 .mem) (𝓡 .run))) 𝓜 𝓡 code.env put-def.name put-def.routine code.calls-lent·ike·ike-store (put-thm.met 𝓤 H 𝓜 𝓖 𝓡))
-    (cited 𝓤 H (Told 𝓤 H A store.ended (store.clauses 𝓤 H A (𝓜 .mem) (𝓡 .run))) 𝓜 𝓡 code.env store-def.name store-def.routine code.calls-lent·places·ipsec-store (store-thm.met 𝓤 H 𝓜 𝓖 𝓡))))
+    (cited 𝓤 H (Told 𝓤 H A put.ended (put.clauses 𝓤 H A (𝓜 .mem) (𝓡 .run))) 𝓜 𝓡 code.env put-def.name put-def.routine code.calls-lent-ike·ike·ike-store (put-thm.met 𝓤 H 𝓜 𝓖 𝓡))
+    (cited 𝓤 H (Told 𝓤 H A store.ended (store.clauses 𝓤 H A (𝓜 .mem) (𝓡 .run))) 𝓜 𝓡 code.env store-def.name store-def.routine code.calls-lent-ipsec·places·ipsec-store (store-thm.met 𝓤 H 𝓜 𝓖 𝓡))))

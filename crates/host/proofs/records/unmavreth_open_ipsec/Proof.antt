@@ -1,45 +1,45 @@
 -- `host::records::unmavreth_open_ipsec` meets its contract: a walk of its MIR, by hand. The list is lent to `ipsec_count` and `ipsec_place`, the table goes to `ike_place` and `ike_at`, the covered `ipsec_opening` decides, and the list is passed for good to `ipsec_store`.
 -- Assumes nothing.
-use Rattle.lent.proofs.Kit.{_≡_, refl, ℕ, _<_, _^_, [], _∷_, List, lit<, length, getD, set, URA, named, w8, w32, w64, Val, vint, SProp, ent, emp, via, id⊢, fst∗, flft, Memory, Routine, Heap, Calls, Loops, WpFn, Atoms, Lfts, Shares, Fun, givenOf, tables, tablesOf, Given, ‵, ⋆, _$_, _∵_, ! }
-use Rattle.lent.proofs.Kit.{qed, by, move, keep, drop, split, join, fsplit, fjoin, suffices, frame, done, look, init, stop, hop, fld, from, load, lit, of-opd, addr, assigns, and-then, no-more, land, returns, enter, alloc1, alloc0, params1, pass1, pass0, free0, whole, sub, look-in, agg}
-use Rattle.lent.proofs.Kit.{FmC, fmOf, owns, flat, Is, Spells, valss, uint-makes, uint-vals, uint-tells, u8, u32, u64, usize, ArrayOf, RefT, ptr-vals, shr-tells, slice-vals, mut-slice-tells, Room, finally, Slot, plain, shrRefTo, typesAt, owned, nothing, Triple, Args, Vals, onEntry, cited}
-use Rattle.lent.proofs.Kit.{says, Stays, stay-dropped, gave-slice, walkOf, goes-dropped, goes-gave-slice, ends-at, yes}
+use Rattle.walks.proofs.Kit.{_≡_, refl, ℕ, _<_, _^_, [], _∷_, List, lit<, length, getD, set, URA, named, w8, w32, w64, Val, vint, SProp, ent, emp, via, id⊢, fst∗, flft, Memory, Routine, Heap, Calls, Loops, WpFn, Atoms, Lfts, Shares, Fun, givenOf, tables, tablesOf, Given, ‵, ⋆, _$_, _∵_, ! }
+use Rattle.walks.proofs.Kit.{qed, by, move, keep, drop, split, join, fsplit, fjoin, suffices, frame, done, look, init, stop, hop, fld, from, load, lit, of-opd, addr, assigns, and-then, no-more, land, returns, enter, alloc1, alloc0, params1, pass1, pass0, free0, whole, sub, look-in, agg}
+use Rattle.walks.proofs.Kit.{FmC, fmOf, owns, flat, Is, Spells, valss, uint-makes, uint-vals, uint-tells, u8, u32, u64, usize, ArrayOf, RefT, ptr-vals, shr-tells, slice-vals, mut-slice-tells, Room, finally, Slot, plain, shrRefTo, typesAt, owned, nothing, Triple, Args, Vals, onEntry, cited}
+use Rattle.walks.proofs.Kit.{says, Stays, stay-dropped, gave-slice, walkOf, goes-dropped, goes-gave-slice, ends-at, yes}
 use denote.Struct.Laws as LL
 use Rattle.octets.specs.Lists.{placeOf}
-use Rattle.tables.specs.Records.{ikeSpi, ipsecSpi, noIke}
+use Rattle.records.specs.Records.{ikeSpi, ipsecSpi, noIke}
 use Rattle.tables.specs.Changes.{ipsecOpening}
-use Rattle.tables.specs.declared.ike.IkeRecord.{IkeRecord}
-use Rattle.tables.specs.declared.ipsec.IpsecRecord.{IpsecRecord}
+use Rattle.records.specs.declared.ike.IkeRecord.{IkeRecord}
+use Rattle.records.specs.declared.ipsec.IpsecRecord.{IpsecRecord}
 use Rattle.tables.specs.declared.calls.IpsecChange.{IpsecChange}
 use Rattle.tables.proofs.Changed.{opens-ipsec}
-use Rattle.tables.proofs.ike.IkeRecord as I
-use Rattle.tables.proofs.ike.IkeRecord.Laws as I′
+use Rattle.records.proofs.ike.IkeRecord as I
+use Rattle.records.proofs.ike.IkeRecord.Laws as I′
 use Rattle.tables.proofs.calls.IpsecChange as D
 use Rattle.tables.proofs.calls.IpsecChange.Laws as D′
 use Rattle.tables.proofs.calls.ipsec_opening as opening
 use Rattle.tables.proofs.calls.ipsec_opening.Symbol as opening-def
 use Rattle.tables.proofs.calls.ipsec_opening.Met as opening-thm
-use Rattle.lent.proofs.Walk.{closes}
-use Rattle.lent.proofs.Calls.{_&_, tokens, Told, no-token, plainly, calls-for, copied, ends-local}
+use Rattle.walks.proofs.Walk.{closes}
+use Rattle.walks.proofs.Calls.{_&_, tokens, Told, no-token, plainly, calls-for, copied, ends-local}
 use Rattle.lent.proofs.Asked.{counts, finds-ipsec, stores-ipsec}
-use Rattle.lent.proofs.Loans.{array-long, copies-ref}
-use Rattle.lent.proofs.IkeTable.{R as Rₖ, Q, rec-vals as ike-vals}
-use Rattle.lent.proofs.IpsecTable.{R}
-use Rattle.lent.proofs.ike.ike_place as home-of
-use Rattle.lent.proofs.ike.ike_place.Symbol as home-of-def
-use Rattle.lent.proofs.ike.ike_place.Met as home-of-thm
-use Rattle.lent.proofs.ike.ike_at as record-at
-use Rattle.lent.proofs.ike.ike_at.Symbol as record-at-def
-use Rattle.lent.proofs.ike.ike_at.Met as record-at-thm
-use Rattle.lent.proofs.owned.ipsec_count as count
-use Rattle.lent.proofs.owned.ipsec_count.Symbol as count-def
-use Rattle.lent.proofs.owned.ipsec_count.Met as count-thm
-use Rattle.lent.proofs.places.ipsec_place as place
-use Rattle.lent.proofs.places.ipsec_place.Symbol as place-def
-use Rattle.lent.proofs.places.ipsec_place.Met as place-thm
-use Rattle.lent.proofs.places.ipsec_store as store
-use Rattle.lent.proofs.places.ipsec_store.Symbol as store-def
-use Rattle.lent.proofs.places.ipsec_store.Met as store-thm
+use Rattle.walks.proofs.Loans.{array-long, copies-ref}
+use Rattle.lent_ike.proofs.IkeTable.{R as Rₖ, Q, rec-vals as ike-vals}
+use Rattle.lent_ipsec.proofs.IpsecTable.{R}
+use Rattle.lent_ike.proofs.ike.ike_place as home-of
+use Rattle.lent_ike.proofs.ike.ike_place.Symbol as home-of-def
+use Rattle.lent_ike.proofs.ike.ike_place.Met as home-of-thm
+use Rattle.lent_ike.proofs.ike.ike_at as record-at
+use Rattle.lent_ike.proofs.ike.ike_at.Symbol as record-at-def
+use Rattle.lent_ike.proofs.ike.ike_at.Met as record-at-thm
+use Rattle.lent_ipsec.proofs.owned.ipsec_count as count
+use Rattle.lent_ipsec.proofs.owned.ipsec_count.Symbol as count-def
+use Rattle.lent_ipsec.proofs.owned.ipsec_count.Met as count-thm
+use Rattle.lent_ipsec.proofs.places.ipsec_place as place
+use Rattle.lent_ipsec.proofs.places.ipsec_place.Symbol as place-def
+use Rattle.lent_ipsec.proofs.places.ipsec_place.Met as place-thm
+use Rattle.lent_ipsec.proofs.places.ipsec_store as store
+use Rattle.lent_ipsec.proofs.places.ipsec_store.Symbol as store-def
+use Rattle.lent_ipsec.proofs.places.ipsec_store.Met as store-thm
 use Rattle.host.proofs.records.unmavreth_open_ipsec.Key as key
 use Rattle.host.proofs.records.unmavreth_open_ipsec as f
 use Rattle.host.proofs.records.unmavreth_open_ipsec.Statement as stated
@@ -137,9 +137,9 @@ unmavreth-open-ipsec-spec 𝓤 H 𝓜 𝓖 𝓡 =
     (goes-dropped 𝓤 H A W 2 (shrRefTo (0 ∷ []) tt table) yes (λ κs x f. refl), (goes-gave-slice 𝓤 H A W 2 1 tt (plain (λ _. R)), (goes-dropped 𝓤 H A W 2 (plain (λ _. u32)) yes (λ κs x f. refl), (goes-dropped 𝓤 H A W 2 (plain (λ _. u64)) yes (λ κs x f. refl), tt))))
     spelled (λ κs. (shr-tells (named 0) (κs .0) Q, (mut-slice-tells (named 1) (κs .1 .0) R, (uint-tells w32, (uint-tells w64, tt)))))
     (λ κs qs bounds a g are. via 𝓤 _ (fst∗ 𝓤 _ (emp 𝓤)) (walk 𝓤 H A W (𝓜 .mem) (𝓡 .run) κs qs (a .0) (a .1 .0) (a .1 .1 .0) (a .1 .1 .1 .0) (are .1 .0 .0 .1) (are .1 .1 .0 .1) (are .1 .1 .1 .0 .1) (Ts .C) (Ts .Λ) (fmOf 𝓤 H (W .laws) (tablesOf 𝓤 H 𝓜 Ts))
-    (cited 𝓤 H (Told 𝓤 H A count.ended (count.clauses 𝓤 H A (𝓜 .mem) (𝓡 .run))) 𝓜 𝓡 code.env count-def.name count-def.routine code.calls-lent·owned·ipsec-count (count-thm.met 𝓤 H 𝓜 𝓖 𝓡))
-    (cited 𝓤 H (Told 𝓤 H A home-of.ended (home-of.clauses 𝓤 H A (𝓜 .mem) (𝓡 .run))) 𝓜 𝓡 code.env home-of-def.name home-of-def.routine code.calls-lent·ike·ike-place (home-of-thm.met 𝓤 H 𝓜 𝓖 𝓡))
-    (cited 𝓤 H (Told 𝓤 H A record-at.ended (record-at.clauses 𝓤 H A (𝓜 .mem) (𝓡 .run))) 𝓜 𝓡 code.env record-at-def.name record-at-def.routine code.calls-lent·ike·ike-at (record-at-thm.met 𝓤 H 𝓜 𝓖 𝓡))
-    (cited 𝓤 H (Told 𝓤 H A place.ended (place.clauses 𝓤 H A (𝓜 .mem) (𝓡 .run))) 𝓜 𝓡 code.env place-def.name place-def.routine code.calls-lent·places·ipsec-place (place-thm.met 𝓤 H 𝓜 𝓖 𝓡))
+    (cited 𝓤 H (Told 𝓤 H A count.ended (count.clauses 𝓤 H A (𝓜 .mem) (𝓡 .run))) 𝓜 𝓡 code.env count-def.name count-def.routine code.calls-lent-ipsec·owned·ipsec-count (count-thm.met 𝓤 H 𝓜 𝓖 𝓡))
+    (cited 𝓤 H (Told 𝓤 H A home-of.ended (home-of.clauses 𝓤 H A (𝓜 .mem) (𝓡 .run))) 𝓜 𝓡 code.env home-of-def.name home-of-def.routine code.calls-lent-ike·ike·ike-place (home-of-thm.met 𝓤 H 𝓜 𝓖 𝓡))
+    (cited 𝓤 H (Told 𝓤 H A record-at.ended (record-at.clauses 𝓤 H A (𝓜 .mem) (𝓡 .run))) 𝓜 𝓡 code.env record-at-def.name record-at-def.routine code.calls-lent-ike·ike·ike-at (record-at-thm.met 𝓤 H 𝓜 𝓖 𝓡))
+    (cited 𝓤 H (Told 𝓤 H A place.ended (place.clauses 𝓤 H A (𝓜 .mem) (𝓡 .run))) 𝓜 𝓡 code.env place-def.name place-def.routine code.calls-lent-ipsec·places·ipsec-place (place-thm.met 𝓤 H 𝓜 𝓖 𝓡))
     (cited 𝓤 H (Told 𝓤 H A opening.ended (opening.clauses 𝓤 H A (𝓜 .mem) (𝓡 .run))) 𝓜 𝓡 code.env opening-def.name opening-def.routine code.calls-tables·calls·ipsec-opening (opening-thm.met 𝓤 H 𝓜 𝓖 𝓡))
-    (cited 𝓤 H (Told 𝓤 H A store.ended (store.clauses 𝓤 H A (𝓜 .mem) (𝓡 .run))) 𝓜 𝓡 code.env store-def.name store-def.routine code.calls-lent·places·ipsec-store (store-thm.met 𝓤 H 𝓜 𝓖 𝓡))))
+    (cited 𝓤 H (Told 𝓤 H A store.ended (store.clauses 𝓤 H A (𝓜 .mem) (𝓡 .run))) 𝓜 𝓡 code.env store-def.name store-def.routine code.calls-lent-ipsec·places·ipsec-store (store-thm.met 𝓤 H 𝓜 𝓖 𝓡))))

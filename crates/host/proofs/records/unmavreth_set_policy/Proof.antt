@@ -1,8 +1,8 @@
 -- `host::records::unmavreth_set_policy` meets its contract: a walk of its MIR, by hand. The policy is lent to `policy_of` and the rules read by `rules_of`, the covered `set_policy` decides, and the policy is passed for good to `policy_store`.
 -- Assumes nothing.
-use Rattle.lent.proofs.Kit.{_≡_, refl, ℕ, _<_, _^_, [], _∷_, List, URA, named, w8, Val, vint, SProp, ent, emp, via, id⊢, fst∗, flft, fres, Memory, Routine, Heap, Calls, Loops, WpFn, Atoms, Lfts, Shares, Fun, givenOf, tables, tablesOf, Given, ‵, ⋆, _$_, _∵_, !, qed, by, move, drop, join, split, keep}
-use Rattle.lent.proofs.Kit.{fsplit, fjoin, suffices, frame, done, look, init, stop, hop, fld, from, load, of-opd, addr, assigns, and-then, no-more, land, returns, enter, alloc1, alloc0, params1, pass1, pass0, free0, whole, sub, look-in, FmC, fmOf, owns, flat, Is, Spells, valss, uint-makes, uint-vals, uint-tells, u8, RefT, ptr-vals}
-use Rattle.lent.proofs.Kit.{ArrayOf, mut-tells, shr-tells, Slot, plain, shrRefTo, typesAt, owned, nothing, Triple, Args, Vals, onEntry, cited, says, Stays, stay-dropped, gave-ref, walkOf, goes-dropped, goes-gave-ref, ends-at, yes}
+use Rattle.walks.proofs.Kit.{_≡_, refl, ℕ, _<_, _^_, [], _∷_, List, URA, named, w8, Val, vint, SProp, ent, emp, via, id⊢, fst∗, flft, fres, Memory, Routine, Heap, Calls, Loops, WpFn, Atoms, Lfts, Shares, Fun, givenOf, tables, tablesOf, Given, ‵, ⋆, _$_, _∵_, !, qed, by, move, drop, join, split, keep}
+use Rattle.walks.proofs.Kit.{fsplit, fjoin, suffices, frame, done, look, init, stop, hop, fld, from, load, of-opd, addr, assigns, and-then, no-more, land, returns, enter, alloc1, alloc0, params1, pass1, pass0, free0, whole, sub, look-in, FmC, fmOf, owns, flat, Is, Spells, valss, uint-makes, uint-vals, uint-tells, u8, RefT, ptr-vals}
+use Rattle.walks.proofs.Kit.{ArrayOf, mut-tells, shr-tells, Slot, plain, shrRefTo, typesAt, owned, nothing, Triple, Args, Vals, onEntry, cited, says, Stays, stay-dropped, gave-ref, walkOf, goes-dropped, goes-gave-ref, ends-at, yes}
 use mir.Syntax.{w16}
 use denote.Array.{array-makes, array-lawful}
 use denote.Builtin.{u16}
@@ -20,19 +20,19 @@ use Rattle.policy.proofs.rules.PolicyAnswer.Laws as D′
 use Rattle.policy.proofs.rules.set_policy as decide
 use Rattle.policy.proofs.rules.set_policy.Symbol as decide-def
 use Rattle.policy.proofs.rules.set_policy.Met as decide-thm
-use Rattle.lent.proofs.Walk.{closes}
-use Rattle.lent.proofs.Calls.{_&_, tokens, Told, no-token, plainly, calls-for, copied, ends-local}
+use Rattle.walks.proofs.Walk.{closes}
+use Rattle.walks.proofs.Calls.{_&_, tokens, Told, no-token, plainly, calls-for, copied, ends-local}
 use Rattle.lent.proofs.Asked.{reads-lent, reads-rules, stores-policy}
-use Rattle.lent.proofs.PolicyTypes.{R, Q, policy-vals, rules-vals}
-use Rattle.lent.proofs.rules.policy_of as read
-use Rattle.lent.proofs.rules.policy_of.Symbol as read-def
-use Rattle.lent.proofs.rules.policy_of.Met as read-thm
-use Rattle.lent.proofs.rules.rules_of as list
-use Rattle.lent.proofs.rules.rules_of.Symbol as list-def
-use Rattle.lent.proofs.rules.rules_of.Met as list-thm
-use Rattle.lent.proofs.rules.policy_store as store
-use Rattle.lent.proofs.rules.policy_store.Symbol as store-def
-use Rattle.lent.proofs.rules.policy_store.Met as store-thm
+use Rattle.lent_policy.proofs.PolicyTypes.{R, Q, policy-vals, rules-vals}
+use Rattle.lent_policy.proofs.rules.policy_of as read
+use Rattle.lent_policy.proofs.rules.policy_of.Symbol as read-def
+use Rattle.lent_policy.proofs.rules.policy_of.Met as read-thm
+use Rattle.lent_policy.proofs.rules.rules_of as list
+use Rattle.lent_policy.proofs.rules.rules_of.Symbol as list-def
+use Rattle.lent_policy.proofs.rules.rules_of.Met as list-thm
+use Rattle.lent_policy.proofs.rules.policy_store as store
+use Rattle.lent_policy.proofs.rules.policy_store.Symbol as store-def
+use Rattle.lent_policy.proofs.rules.policy_store.Met as store-thm
 use Rattle.host.proofs.records.unmavreth_set_policy.Key as key
 use Rattle.host.proofs.records.unmavreth_set_policy as f
 use Rattle.host.proofs.records.unmavreth_set_policy.Statement as stated
@@ -106,7 +106,7 @@ unmavreth-set-policy-spec 𝓤 H 𝓜 𝓖 𝓡 =
     closes 𝓤 H 𝓜 𝓖 𝓡 code.env key.name code.function (code.unfolded 𝓤 H 𝓜 𝓡) f.ended stayed (f.clauses 𝓤 H A (𝓜 .mem) (𝓡 .run))
     (goes-gave-ref 𝓤 H A W 2 0 tt kept & goes-dropped 𝓤 H A W 2 number yes (λ κs x f. refl) & goes-dropped 𝓤 H A W 2 rules yes (λ κs x f. refl) & tt) spelled (λ κs. mut-tells (named 0) (κs .0) R & uint-tells w16 & shr-tells (named 1) (κs .1 .0) Q & tt)
     (λ κs qs bounds a g are. via 𝓤 _ (fst∗ 𝓤 _ (emp 𝓤)) (walk 𝓤 H A W (𝓜 .mem) (𝓡 .run) κs qs (a .0) (a .1 .0) (a .1 .1 .0) (are .1 .0 .1) (Ts .C) (Ts .Λ) (fmOf 𝓤 H (W .laws) (tablesOf 𝓤 H 𝓜 Ts))
-    (cited 𝓤 H (Told 𝓤 H A read.ended (read.clauses 𝓤 H A (𝓜 .mem) (𝓡 .run))) 𝓜 𝓡 code.env read-def.name read-def.routine code.calls-lent·rules·policy-of (read-thm.met 𝓤 H 𝓜 𝓖 𝓡))
-    (cited 𝓤 H (Told 𝓤 H A list.ended (list.clauses 𝓤 H A (𝓜 .mem) (𝓡 .run))) 𝓜 𝓡 code.env list-def.name list-def.routine code.calls-lent·rules·rules-of (list-thm.met 𝓤 H 𝓜 𝓖 𝓡))
+    (cited 𝓤 H (Told 𝓤 H A read.ended (read.clauses 𝓤 H A (𝓜 .mem) (𝓡 .run))) 𝓜 𝓡 code.env read-def.name read-def.routine code.calls-lent-policy·rules·policy-of (read-thm.met 𝓤 H 𝓜 𝓖 𝓡))
+    (cited 𝓤 H (Told 𝓤 H A list.ended (list.clauses 𝓤 H A (𝓜 .mem) (𝓡 .run))) 𝓜 𝓡 code.env list-def.name list-def.routine code.calls-lent-policy·rules·rules-of (list-thm.met 𝓤 H 𝓜 𝓖 𝓡))
     (cited 𝓤 H (Told 𝓤 H A decide.ended (decide.clauses 𝓤 H A (𝓜 .mem) (𝓡 .run))) 𝓜 𝓡 code.env decide-def.name decide-def.routine code.calls-policy·rules·set-policy (decide-thm.met 𝓤 H 𝓜 𝓖 𝓡))
-    (cited 𝓤 H (Told 𝓤 H A store.ended (store.clauses 𝓤 H A (𝓜 .mem) (𝓡 .run))) 𝓜 𝓡 code.env store-def.name store-def.routine code.calls-lent·rules·policy-store (store-thm.met 𝓤 H 𝓜 𝓖 𝓡))))
+    (cited 𝓤 H (Told 𝓤 H A store.ended (store.clauses 𝓤 H A (𝓜 .mem) (𝓡 .run))) 𝓜 𝓡 code.env store-def.name store-def.routine code.calls-lent-policy·rules·policy-store (store-thm.met 𝓤 H 𝓜 𝓖 𝓡))))

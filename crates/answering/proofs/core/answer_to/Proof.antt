@@ -1,0 +1,14 @@
+-- `answering::core::answer_to` meets its contract.
+-- Assumes nothing.
+use borrow.Author.Needs.{needs}
+use Rattle.answering.proofs.core.answer_to.Statement.{statement}
+use Rattle.answering.proofs.core.answer_to.Tie as tie
+
+pub answer-to-spec : {M : Type 1} → statement M
+answer-to-spec =
+    tie.close
+    (tie.spec
+    (λ c κs. search needs)
+    (λ c κs. search needs)
+    (λ c κs. search needs)
+    (λ c. rw (c .before .before .reply-to .ensures, c .before .is-done .ensures, c .is-done2 .ensures)))

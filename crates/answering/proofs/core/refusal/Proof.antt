@@ -1,0 +1,12 @@
+-- `answering::core::refusal` meets its contract.
+-- Assumes nothing.
+use borrow.Author.Needs.{needs}
+use Rattle.answering.proofs.core.refusal.Statement.{statement}
+use Rattle.answering.proofs.core.refusal.Tie as tie
+
+pub refusal-spec : {M : Type 1} → statement M
+refusal-spec =
+    tie.close
+    (tie.spec
+    (λ c κs. search needs)
+    (λ c. rw (c .first-of .ensures)))

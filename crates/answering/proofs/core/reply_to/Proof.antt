@@ -1,0 +1,15 @@
+-- `answering::core::reply_to` meets its contract.
+-- Assumes nothing.
+use borrow.Author.Needs.{needs}
+use Rattle.answering.proofs.core.reply_to.Statement.{statement}
+use Rattle.answering.proofs.core.reply_to.Tie as tie
+
+pub reply-to-spec : {M : Type 1} → statement M
+reply-to-spec =
+    tie.close
+    (tie.spec
+    (λ c κs. search needs)
+    (λ c κs. search needs)
+    (λ c κs. search needs)
+    (λ c κs. search needs)
+    (λ c. rw (c .before .before .before .verdict-number .ensures, c .before .before .effect-number .ensures, c .before .effect-number2 .ensures, c .first-of .ensures)))

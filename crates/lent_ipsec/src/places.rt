@@ -1,0 +1,29 @@
+// The lowest place of the lent IPsec list with an SPI, and a record stored there.
+use records::ipsec::IpsecRecord;
+ghost use mathlib.Core.Path.{_≡_};
+ghost use lib.ListN.{set};
+ghost use Rattle.octets.specs.Lists.{placeOf};
+ghost use Rattle.records.specs.Records.{ipsecSpi};
+
+// The lowest place with this SPI, or the list's length where there is none; of SPI 0, the lowest free place.
+pub fn ipsec_place(records: &[IpsecRecord], spi: u32) -> usize
+    ensures { λ r. ⌜ r ≡ placeOf ipsecSpi spi (now (records .entry)) ⌝ }
+{
+    let mut i = 0;
+    while i < records.len() {
+        if records[i].spi == spi {
+            return i;
+        }
+        i += 1;
+    }
+    i
+}
+
+// Stores a record at a place; nothing past the end.
+pub fn ipsec_store(records: &mut [IpsecRecord], i: usize, new: IpsecRecord)
+    ensures { λ _. ⌜ now (records .exit) ≡ set (now (records .entry)) i new ⌝ }
+{
+    if i < records.len() {
+        records[i] = new;
+    }
+}

@@ -1,0 +1,2 @@
+// The lent policy and rules.
+pub mod rules;

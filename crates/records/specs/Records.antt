@@ -1,0 +1,85 @@
+-- IKE and IPsec records: their keys, new ones, closed ones, and how one is changed.
+use Prim.Native.Nat.{ℕ}
+use mathlib.Core.Bool.{Bool, cond}
+use mathlib.Core.List.{List}
+use lib.Dec.{eqb}
+use lib.ListN.{replicate}
+use Rattle.octets.specs.Flags.{zeroOrOne}
+use Rattle.address.specs.Address.{noPair, noAddress}
+use Rattle.address.specs.declared.address.Address.{Address}
+use Rattle.address.specs.declared.pair.Pair.{Pair}
+use Rattle.records.specs.declared.ike.Agreed.{Agreed}
+use Rattle.records.specs.declared.ike.IkeRecord.{IkeRecord}
+use Rattle.records.specs.declared.ike.Marks.{Marks}
+use Rattle.records.specs.declared.ipsec.IpsecRecord.{IpsecRecord}
+
+abbrev pub ikeSpi : IkeRecord → ℕ
+ikeSpi r = r .spi
+
+abbrev pub ipsecSpi : IpsecRecord → ℕ
+ipsecSpi r = r .spi
+
+-- What is agreed at an opening, as it is stored; and of a place that is free.
+abbrev pub settled : Agreed → Agreed
+settled a = record { mobike = zeroOrOne (a .mobike) }
+
+abbrev pub noneAgreed : Agreed
+noneAgreed = record { mobike = 0 }
+
+-- 01: "A new IKE record has no marks, an empty list, tally 0."
+abbrev pub newIke : ℕ → Agreed → Pair → IkeRecord
+newIke spi agreed pair =
+    record {
+      spi = spi;
+      agreed = settled agreed;
+      pair = pair;
+      «update_mark» = 0;
+      «list_mark» = 0;
+      count = 0;
+      addresses = replicate 16 noAddress;
+      unknown = 0;
+    }
+
+-- 01: "A place is free when its SPI is 0; closing sets all its fields to 0 or none."
+abbrev pub noIke : IkeRecord
+noIke = newIke 0 noneAgreed noPair
+
+abbrev pub newIpsec : ℕ → ℕ → Pair → IpsecRecord
+newIpsec spi owner pair = record { spi = spi; owner = owner; pair = pair }
+
+abbrev pub noIpsec : IpsecRecord
+noIpsec = newIpsec 0 0 noPair
+
+-- 01: "Closing an IKE record closes the IPsec records it owns." A free place is no record, whatever owner it still names.
+abbrev pub released : ℕ → IpsecRecord → IpsecRecord
+released owner r = cond (eqb (r .spi) 0) r (cond (eqb (r .owner) owner) noIpsec r)
+
+-- 01: "the IKE record and all its IPsec records take the packet's pair, and no other record changes": those in use with this owner.
+abbrev pub follows : ℕ → Pair → IpsecRecord → IpsecRecord
+follows owner pair r = cond (eqb (r .spi) 0) r (cond (eqb (r .owner) owner) (newIpsec (r .spi) (r .owner) pair) r)
+
+-- what of a record a request is decided by: 01's "MOBIKE agreed or not", "an update mark and a list mark", "an unknown tally"
+abbrev pub marksIn : IkeRecord → Marks
+marksIn r = record { agreed = r .agreed; «update_mark» = r .«update_mark»; «list_mark» = r .«list_mark»; unknown = r .unknown }
+
+-- the record with all that a request may change in it; what else it holds is kept
+abbrev pub rewritten : Pair → ℕ → ℕ → ℕ → List Address → ℕ → IkeRecord → IkeRecord
+rewritten pair updateMark listMark count addresses unknown r =
+    record {
+      spi = r .spi;
+      agreed = r .agreed;
+      pair = pair;
+      «update_mark» = updateMark;
+      «list_mark» = listMark;
+      count = count;
+      addresses = addresses;
+      unknown = unknown;
+    }
+
+-- the record with these marks and this tally; and, where it moves, "the IKE record ... take[s] the packet's pair"
+abbrev pub remarked : Marks → Bool → Pair → IkeRecord → IkeRecord
+remarked m moves pair r = rewritten (cond moves pair (r .pair)) (m .«update_mark») (m .«list_mark») (r .count) (r .addresses) (m .unknown) r
+
+-- the record with another list
+abbrev pub relisted : ℕ → List Address → IkeRecord → IkeRecord
+relisted count addresses r = rewritten (r .pair) (r .«update_mark») (r .«list_mark») count addresses (r .unknown) r

@@ -1,0 +1,114 @@
+// IKE records: a new one, a closed one, and what a request changes in one.
+use address::address::Address;
+use address::pair::Pair;
+use octets::flag::zero_or_one;
+ghost use mathlib.Core.Path.{_≡_};
+ghost use Rattle.records.specs.Records.{settled, newIke, noIke, marksIn, remarked, relisted};
+
+// What is agreed when a record is opened; no request changes it. Yes or no is an octet, 0 or any other.
+#[repr(C)]
+pub struct Agreed {
+    pub mobike: u8,
+}
+
+// A place is free when its SPI is 0. A mark is the least message ID that exceeds it: 0 for none, and the ID and one for an ID.
+#[repr(C)]
+pub struct IkeRecord {
+    pub spi: u64,
+    pub agreed: Agreed,
+    pub pair: Pair,
+    pub update_mark: u64,
+    pub list_mark: u64,
+    pub count: u16,
+    pub addresses: [Address; 16],
+    pub unknown: u32,
+}
+
+// What a request is decided by in its record, and changes there whether it moves or not. Decisions go by these alone, so that a request
+// does not carry the record's list about.
+pub struct Marks {
+    pub agreed: Agreed,
+    pub update_mark: u64,
+    pub list_mark: u64,
+    pub unknown: u32,
+}
+
+// As it is stored.
+pub fn settle(given: Agreed) -> Agreed
+    ensures { λ r. ⌜ r ≡ settled given ⌝ }
+{
+    Agreed {
+        mobike: zero_or_one(given.mobike),
+    }
+}
+
+// A record with no marks, an empty list and no tally.
+pub fn new_ike(spi: u64, agreed: Agreed, pair: Pair) -> IkeRecord
+    ensures { λ r. ⌜ r ≡ newIke spi agreed pair ⌝ }
+{
+    let none = Address {
+        family: 0,
+        octets: [0u8; 16],
+    };
+    IkeRecord {
+        spi,
+        agreed: settle(agreed),
+        pair,
+        update_mark: 0,
+        list_mark: 0,
+        count: 0,
+        addresses: [none; 16],
+        unknown: 0,
+    }
+}
+
+// A place that is closed.
+pub fn no_ike() -> IkeRecord
+    ensures { λ r. ⌜ r ≡ noIke ⌝ }
+{
+    let pair = Pair {
+        family: 0,
+        source: [0u8; 16],
+        destination: [0u8; 16],
+        source_port: 0,
+        destination_port: 0,
+    };
+    let agreed = Agreed { mobike: 0 };
+    new_ike(0, agreed, pair)
+}
+
+pub fn marks_of(entry: IkeRecord) -> Marks
+    ensures { λ r. ⌜ r ≡ marksIn entry ⌝ }
+{
+    let agreed = entry.agreed;
+    Marks {
+        agreed,
+        update_mark: entry.update_mark,
+        list_mark: entry.list_mark,
+        unknown: entry.unknown,
+    }
+}
+
+// The record with these marks and this tally, and with the pair if it moves.
+pub fn remark(entry: IkeRecord, marks: Marks, moves: bool, pair: Pair) -> IkeRecord
+    ensures { λ r. ⌜ r ≡ remarked marks moves pair entry ⌝ }
+{
+    let mut new = entry;
+    new.update_mark = marks.update_mark;
+    new.list_mark = marks.list_mark;
+    new.unknown = marks.unknown;
+    if moves {
+        new.pair = pair;
+    }
+    new
+}
+
+// The record with another list.
+pub fn relist(entry: IkeRecord, count: u16, addresses: [Address; 16]) -> IkeRecord
+    ensures { λ r. ⌜ r ≡ relisted count addresses entry ⌝ }
+{
+    let mut new = entry;
+    new.count = count;
+    new.addresses = addresses;
+    new
+}

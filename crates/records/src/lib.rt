@@ -1,0 +1,3 @@
+// IKE and IPsec records: new ones, closed ones, and how one is changed.
+pub mod ike;
+pub mod ipsec;

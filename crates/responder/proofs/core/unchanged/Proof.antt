@@ -1,8 +1,0 @@
--- `responder::core::unchanged` meets its contract.
--- Assumes nothing.
-use borrow.Author.Needs.{needs}
-use Rattle.responder.proofs.core.unchanged.Statement.{statement}
-use Rattle.responder.proofs.core.unchanged.Tie as tie
-
-pub unchanged-spec : {M : Type 1} → statement M
-unchanged-spec = tie.close (tie.spec (λ c κs. search needs) (λ c. rw (c .before .nothing-seen .ensures)))
