@@ -4,8 +4,8 @@
 --     looks-array      a `&κ [T; n]` is looked into, which takes κ's token: some share q′ of ys, which has n elements.        T is Copy, and its relation tells its machine values
 --     shuts-array      it is shut with that share, and the token comes back
 -- Assumes `Given`.
-use Rattle.lent.proofs.Kit.{_≡_, ℕ, List, [], _∷_, length, URA, fullShare, Val, Lft, GName, Share, flft, fobs, fauth, fbor, fobor, Heap, Atoms, Goal, Soaks, Given, Item, ‵, Seq, Step, step, _$_, move, use1, drop, fsplit, fjoin, feqL, feqI, arr-parts, RattleType, Is, Tells, Copy, shows}
-use Rattle.lent.proofs.Kit.{partAt, mem, shares, Array, Single, row}
+use Rattle.walks.proofs.Kit.{_≡_, ℕ, List, [], _∷_, length, URA, fullShare, Val, Lft, GName, Share, flft, fobs, fauth, fbor, fobor, Heap, Atoms, Goal, Soaks, Given, Item, ‵, Seq, Step, step, _$_, move, use1, drop, fsplit, fjoin, feqL, feqI, arr-parts, RattleType, Is, Tells, Copy, shows}
+use Rattle.walks.proofs.Kit.{partAt, mem, shares, Array, Single, row}
 use base.Fml.{fshr-bor}
 use base.Stored.{Gv}
 use types.Tokens.{obor-close, shr-bor-open}

@@ -3,8 +3,8 @@
 --     finds-ike, reads-ike, stores-ike       a `&mut [IkeRecord; 32]` to `ike_place`, to `ike_at`, and for good to `ike_store`.        changes-ike      the same to `ike_change`, beside a `&[u8]`
 --     reads-policy, reads-lent, stores-policy      a `&Policy` to `policy_of`, a `&mut Policy` to it, and for good to `policy_store`.        reads-rules      a `&[Rule; 16]` to `rules_of`
 -- Assumes `Given`, and that the table of calls is monotone under a frame.
-use Rattle.lent.proofs.Kit.{_≡_, refl, ℕ, _<_, _^_, List, [], _∷_, length, getD, set, URA, fullShare, Place, Body, erased, w32, w64, seq, call, vunit, vint, vptr, SProp, id⊢, Lft, Share, flft, fres, Memory, Routine, Heap, Env, Calls, Loops, Atoms, Fun, Given, Item, ‵, Post, runs, lands, Seq}
-use Rattle.lent.proofs.Kit.{Step, step, _$_, move, drop, split, join, fsplit, fjoin, u8, ShrSlice, owned, nothing, Opds, FmC, Is, uint-makes, uint-vals, uint-tells, nothing-tells, u32, u64, usize, RefT, MutRef, ShrRef, ptr-vals, MutSlice, Room, slice-vals, finally, only, Triple}
+use Rattle.walks.proofs.Kit.{_≡_, refl, ℕ, _<_, _^_, List, [], _∷_, length, getD, set, URA, fullShare, Place, Body, erased, w32, w64, seq, call, vunit, vint, vptr, SProp, id⊢, Lft, Share, flft, fres, Memory, Routine, Heap, Env, Calls, Loops, Atoms, Fun, Given, Item, ‵, Post, runs, lands, Seq}
+use Rattle.walks.proofs.Kit.{Step, step, _$_, move, drop, split, join, fsplit, fjoin, u8, ShrSlice, owned, nothing, Opds, FmC, Is, uint-makes, uint-vals, uint-tells, nothing-tells, u32, u64, usize, RefT, MutRef, ShrRef, ptr-vals, MutSlice, Room, slice-vals, finally, only, Triple}
 use mir.Syntax.{Opd as Operand}
 use denote.Struct.Laws as LL
 use Rattle.octets.specs.Lists.{placeOf}
@@ -26,7 +26,7 @@ use Rattle.responder.specs.Core.{changedBy}
 use Rattle.responder.specs.declared.core.CoreAnswer.{CoreAnswer}
 use Rattle.responder.proofs.core.CoreAnswer as D
 use Rattle.responder.proofs.core.CoreAnswer.Laws as D′
-use Rattle.lent.proofs.Calls.{_&_, Told, token, no-token, list-last, ref-last, gives, calls-for, calls-to}
+use Rattle.walks.proofs.Calls.{_&_, Told, token, no-token, list-last, ref-last, gives, calls-for, calls-to}
 use Rattle.lent.proofs.Loans.{renamed, lent-list, list-over, lent-array, lent-ref, ref-over, copies-ref}
 use Rattle.lent.proofs.IkeTable as Ike
 use Rattle.lent.proofs.IpsecTable.{R, rec-vals}

@@ -2,10 +2,10 @@
 -- The borrow is open all through it. A turn takes element i out of the row and reads its owner. Of the owner asked, it calls f with it, and puts what f returns in its place; else it puts it back, which is what f would make of it. At the end the borrow is closed, and given up for what says the last list.
 -- The function's own are its environment E, in which i is local j and the loop's other locals follow it, the callee, and Δ, the rest of the locals. The slice is local 1, the owner local 2.
 -- Assumes nothing.
-use Rattle.lent.proofs.Kit.{_≡_, refl, sym, subst, ℕ, _+_, _<_, _*_, _^_, zero, zero-le, lt-of-le-of-lt, add-one-le, add-one-dec, arith, ap, _∙_, Bool, true, false, not, T, [], _∷_, List, map, set, eqb, ltb, length, getD, URA, fullShare, Name, Ty, Body, copy, int, op2, add, unsigned, place, seq, assign, call}
-use Rattle.lent.proofs.Kit.{named, w64, tyPtr, tyInt, tyBool, Val, vbool, vint, vptr, SProp, ent, emp, Lft, Share, GName, fat, froom, flft, fobs, fauth, fres, fobor, Heap, Out, Env, spotOf, afterSeq, afterBlock, afterTurn, Wp, atReturn, Tables, Atoms, sem, Given, Item}
-use Rattle.lent.proofs.Kit.{‵, raw, ⋆, later, runs, anyQ, atRet, Sq, _$_, !, move, drop, use0, use1, rewrite, await, Opds, look, look-raw, init, store, store-raw, forget, stop, hop, fld, load, lit, of-opd, bin, assigns, assigns-last, land, first, blocks, branches, skips, stays, leaves-loop, exec, Below}
-use Rattle.lent.proofs.Kit.{again, loops, whole, sub, look-in, fmOf, Is, shows, mem, shares, sliceVal, Room, heres, codedHoleys, finally, res-finally, Held, row, place-is, elem-out, elem-put, closes-slice, Contract, Triple, calls-at}
+use Rattle.walks.proofs.Kit.{_≡_, refl, sym, subst, ℕ, _+_, _<_, _*_, _^_, zero, zero-le, lt-of-le-of-lt, add-one-le, add-one-dec, arith, ap, _∙_, Bool, true, false, not, T, [], _∷_, List, map, set, eqb, ltb, length, getD, URA, fullShare, Name, Ty, Body, copy, int, op2, add, unsigned, place, seq, assign, call}
+use Rattle.walks.proofs.Kit.{named, w64, tyPtr, tyInt, tyBool, Val, vbool, vint, vptr, SProp, ent, emp, Lft, Share, GName, fat, froom, flft, fobs, fauth, fres, fobor, Heap, Out, Env, spotOf, afterSeq, afterBlock, afterTurn, Wp, atReturn, Tables, Atoms, sem, Given, Item}
+use Rattle.walks.proofs.Kit.{‵, raw, ⋆, later, runs, anyQ, atRet, Sq, _$_, !, move, drop, use0, use1, rewrite, await, Opds, look, look-raw, init, store, store-raw, forget, stop, hop, fld, load, lit, of-opd, bin, assigns, assigns-last, land, first, blocks, branches, skips, stays, leaves-loop, exec, Below}
+use Rattle.walks.proofs.Kit.{again, loops, whole, sub, look-in, fmOf, Is, shows, mem, shares, sliceVal, Room, heres, codedHoleys, finally, res-finally, Held, row, place-is, elem-out, elem-put, closes-slice, Contract, Triple, calls-at}
 use mir.Syntax.{Step as PStep, Opd as Operand, rvOpd, eq, lt, mul, offset, field, deref, cond, skip, exit, block, loop}
 use prog.Wp.{Spot, walk}
 use types.Kit.{Go}

@@ -1,5 +1,5 @@
 -- The lent IKE table as the walks have it: its type, its parameter's slot, how a record's machine value is spelled, and a place within the table or past its end.
-use Rattle.lent.proofs.Kit.{Ty, named, tyInt, tyRef, w64, pointee, ℕ, _<_, _≤_, _*_, _^_, _≡_, arith, not, List, T, ltb, ltb→lt, nltb→le, length, Val, RattleType, mem, Array, ArrayOf, Slot, plain}
+use Rattle.walks.proofs.Kit.{Ty, named, tyInt, tyRef, w64, pointee, ℕ, _<_, _≤_, _*_, _^_, _≡_, arith, not, List, T, ltb, ltb→lt, nltb→le, length, Val, RattleType, mem, Array, ArrayOf, Slot, plain}
 use mir.Syntax.{Mutability}
 use denote.Struct.Laws as LL
 use Rattle.tables.specs.declared.ike.IkeRecord.{IkeRecord}

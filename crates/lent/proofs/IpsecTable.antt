@@ -2,8 +2,8 @@
 --     given-up         what says the list  ⊢ what says it for good
 --     gives-up         own (the `&κ mut [IpsecRecord]` (ptr, γ, xs))  ⊢ what says xs for good
 -- Assumes `Given`.
-use Rattle.lent.proofs.Kit.{ℕ, _≡_, refl, Bool, true, false, cond, not, List, [], _∷_, T, length, URA, fullShare, Ty, named, erased, mut, tyRef, Val, ent, Lft, GName, Fml, fat, froom, fdies, fobs, fres, Heap, Atoms, sem, Given, Item, ‵, _$_, _∵_, !, qed, use1, move, drop, fsplit}
-use Rattle.lent.proofs.Kit.{done, RattleType, pointee, RefT, sliceTy, sliceVal, MutSlice, heres, codedHoleys, finally, res-finally}
+use Rattle.walks.proofs.Kit.{ℕ, _≡_, refl, Bool, true, false, cond, not, List, [], _∷_, T, length, URA, fullShare, Ty, named, erased, mut, tyRef, Val, ent, Lft, GName, Fml, fat, froom, fdies, fobs, fres, Heap, Atoms, sem, Given, Item, ‵, _$_, _∵_, !, qed, use1, move, drop, fsplit}
+use Rattle.walks.proofs.Kit.{done, RattleType, pointee, RefT, sliceTy, sliceVal, MutSlice, heres, codedHoleys, finally, res-finally}
 use mir.Syntax.{Lifetime}
 use denote.Struct.Laws as LL
 use Rattle.tables.specs.declared.ipsec.IpsecRecord.{IpsecRecord}

@@ -1,13 +1,10 @@
 -- Laws that belong to no one function.
 pub mod Arrays
 pub mod Asked
-pub mod Calls
 pub mod Each
 pub mod IkeTable
 pub mod IpsecTable
-pub mod Kit
 pub mod Loans
 pub mod PolicyTypes
 pub mod Upto
-pub mod Walk
 pub mod Whole

@@ -4,9 +4,9 @@
 --     lent-list, lent-ref, lent-array        the same for a lifetime ν that begins here: its token and the lent reference stand at the head, as a call takes them.        list-over, ref-over      ν ends after that call
 --     array-long       a `&κ [T; n]` has n elements.        copies-ref       a `&κ T` goes to a call, and stays
 -- Assumes `Given`.
-use Rattle.lent.proofs.Kit.{_≡_, refl, ℕ, List, [], _∷_, length, URA, fullShare, erased, Val, Lft, GName, Share, Fml, fsep, flft, fdead, fobs, fauth, fobor, Heap, Atoms, Goal, Soaks, Given, Item, ‵, _⊛_, some, later, Seq, Step, step, _$_, move, use1, use2, drop, split, pick, feqL, feqI}
-use Rattle.lent.proofs.Kit.{fsplit, fsplit3, fjoin, await, lft-new, lft-end, arr-parts, RattleType, Denots, Valss, owns, shares, Is, Are, Ises, Makess, Tells, Copy, RefT, MutRef, ShrRef, ptr-vals, shr-copy, MutSlice, ShrSlice, Room, slice-vals, heres, codedHoleys, Held, opens-slice}
-use Rattle.lent.proofs.Kit.{closes-slice, Array, Single}
+use Rattle.walks.proofs.Kit.{_≡_, refl, ℕ, List, [], _∷_, length, URA, fullShare, erased, Val, Lft, GName, Share, Fml, fsep, flft, fdead, fobs, fauth, fobor, Heap, Atoms, Goal, Soaks, Given, Item, ‵, _⊛_, some, later, Seq, Step, step, _$_, move, use1, use2, drop, split, pick, feqL, feqI}
+use Rattle.walks.proofs.Kit.{fsplit, fsplit3, fjoin, await, lft-new, lft-end, arr-parts, RattleType, Denots, Valss, owns, shares, Is, Are, Ises, Makess, Tells, Copy, RefT, MutRef, ShrRef, ptr-vals, shr-copy, MutSlice, ShrSlice, Room, slice-vals, heres, codedHoleys, Held, opens-slice}
+use Rattle.walks.proofs.Kit.{closes-slice, Array, Single}
 use base.Fml.{flent}
 use types.Tokens.{lent-back}
 use denote.Shadow.{pureL, pureI}
@@ -14,7 +14,7 @@ use denote.Slice.{at-slice}
 use denote.Lend.{lends-shr-slice}
 use borrow.Table.Owned as O
 use borrow.Rule.Reshare.{keptS, ref-reshare, ref-reshare-back}
-use Rattle.lent.proofs.Calls.{Token, token, no-token, beside}
+use Rattle.walks.proofs.Calls.{Token, token, no-token, beside}
 use Rattle.lent.proofs.Arrays.{opens-array, closes-array, looks-array, shuts-array}
 
 -- the same reference under another name

@@ -1,5 +1,5 @@
 -- The lent policy and the lent rules as the walks have them: their types, and how their machine values are spelled.
-use Rattle.lent.proofs.Kit.{List, Val, RattleType, Is, Tells, Array}
+use Rattle.walks.proofs.Kit.{List, Val, RattleType, Is, Tells, Array}
 use denote.Array.{array-vals, array-tells}
 use denote.Struct.Laws as LL
 use Rattle.policy.specs.declared.rules.Policy.{Policy}

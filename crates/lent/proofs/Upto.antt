@@ -1,7 +1,7 @@
 -- A list whose first i elements have been replaced by f of them: what a loop over a slice has made of it after i turns. And the loop's variant: i, at most the length, ordered by what is left.
 -- Assumes nothing.
-use Rattle.lent.proofs.Kit.{_≡_, refl, sym, ap, _∙_, subst, true, false, List, [], _∷_, map, WellFounded, InvImage·wf, ℕ, zero, suc, _+_, _-_, _≤_, _<_, add-one-le, Nat·lt-wfRel, ltb, ltb→lt, nltb→le, length, set, getD}
-use Rattle.lent.proofs.Walk.{tested as outcome}
+use Rattle.walks.proofs.Kit.{_≡_, refl, sym, ap, _∙_, subst, true, false, List, [], _∷_, map, WellFounded, InvImage·wf, ℕ, zero, suc, _+_, _-_, _≤_, _<_, add-one-le, Nat·lt-wfRel, ltb, ltb→lt, nltb→le, length, set, getD}
+use Rattle.walks.proofs.Walk.{tested as outcome}
 use native.Mathlib.Nat.{not-suc-le-zero, le-of-suc-le-suc, le-antisymm}
 use native.Mathlib.Numerals.{add-one}
 

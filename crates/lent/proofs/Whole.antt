@@ -2,7 +2,7 @@
 --     looks-whole      a `&κ T` is looked into, which takes κ's token: some share of its machine values, what it owns, and an open borrow of that share, which `denote.Steps`' `shuts` shuts.        T is Copy, and its relation tells its machine values
 --     opens-whole      a `&κ mut T` is opened, which takes κ's token: its machine values, and the open borrow, which `denote.Steps`' `closes` closes at another value
 -- Assumes `Given`.
-use Rattle.lent.proofs.Kit.{refl, ℕ, List, [], _∷_, subst, URA, fullShare, Val, Lft, GName, Share, flft, fobs, fauth, fbor, fobor, Heap, Atoms, Goal, Soaks, Given, Item, ‵, Seq, Step, step, _$_, move, drop, rewrite, RattleType, Is, Tells, Copy, shows, partAt, mem}
+use Rattle.walks.proofs.Kit.{refl, ℕ, List, [], _∷_, subst, URA, fullShare, Val, Lft, GName, Share, flft, fobs, fauth, fbor, fobor, Heap, Atoms, Goal, Soaks, Given, Item, ‵, Seq, Step, step, _$_, move, drop, rewrite, RattleType, Is, Tells, Copy, shows, partAt, mem}
 use base.Fml.{fshr-bor}
 use types.SemTy.{Body}
 use denote.Memory.{cellAt}

@@ -1,10 +1,10 @@
 -- `host::handler::unmavreth_request` meets its contract: a walk of its MIR, by hand. Each table is lent as `&` for each look-up, and comes back; the covered `marks_of` is asked before `answer`. The output goes to `answer` for good, the IKE table to `ike_change`, and the IPsec list to `follow_if`.
 -- Assumes nothing.
-use Rattle.lent.proofs.Kit.{_≡_, refl, ap, ℕ, _<_, _^_, cond, [], _∷_, List, map, length, set, URA, named, w8, w32, w64, Val, SProp, ent, emp, via, id⊢, fst∗, flft, fres, Memory, Routine, Heap, Calls, Loops, WpFn, Atoms, Lfts, Shares}
-use Rattle.lent.proofs.Kit.{Fun, givenOf, tables, tablesOf, Given, Item, ‵, ⋆, _$_, _∵_, !, qed, by, move, drop, split, join, fsplit, fjoin, feqL, suffices, frame, done, look, init, forget, stop, hop, fld, from, load, of-opd, addr, assigns}
-use Rattle.lent.proofs.Kit.{and-then, no-more, land, returns, enter, alloc1, alloc0, params1, pass1, pass0, free0, whole, sub, look-in, agg, FmC, fmOf, RattleType, owns, flat, Is, Spells, valss, uint-makes, uint-vals, uint-tells, bool-makes, bool-vals, nothing-tells, u8, u32, u64}
-use Rattle.lent.proofs.Kit.{says, usize, bool, RefT, ptr-vals, mut-tells, shr-tells, slice-vals, mut-slice-tells, shr-slice-tells, Room, finally, Slot, plain, shrRefTo, shrSliceOf, typesAt, owned, nothing, Triple, Args, Vals, onEntry, cited, Stays, stay-dropped}
-use Rattle.lent.proofs.Kit.{gave-ref, gave-slice, walkOf, goes-dropped, goes-gave-ref, goes-gave-slice, ends-at, yes}
+use Rattle.walks.proofs.Kit.{_≡_, refl, ap, ℕ, _<_, _^_, cond, [], _∷_, List, map, length, set, URA, named, w8, w32, w64, Val, SProp, ent, emp, via, id⊢, fst∗, flft, fres, Memory, Routine, Heap, Calls, Loops, WpFn, Atoms, Lfts, Shares}
+use Rattle.walks.proofs.Kit.{Fun, givenOf, tables, tablesOf, Given, Item, ‵, ⋆, _$_, _∵_, !, qed, by, move, drop, split, join, fsplit, fjoin, feqL, suffices, frame, done, look, init, forget, stop, hop, fld, from, load, of-opd, addr, assigns}
+use Rattle.walks.proofs.Kit.{and-then, no-more, land, returns, enter, alloc1, alloc0, params1, pass1, pass0, free0, whole, sub, look-in, agg, FmC, fmOf, RattleType, owns, flat, Is, Spells, valss, uint-makes, uint-vals, uint-tells, bool-makes, bool-vals, nothing-tells, u8, u32, u64}
+use Rattle.walks.proofs.Kit.{says, usize, bool, RefT, ptr-vals, mut-tells, shr-tells, slice-vals, mut-slice-tells, shr-slice-tells, Room, finally, Slot, plain, shrRefTo, shrSliceOf, typesAt, owned, nothing, Triple, Args, Vals, onEntry, cited, Stays, stay-dropped}
+use Rattle.walks.proofs.Kit.{gave-ref, gave-slice, walkOf, goes-dropped, goes-gave-ref, goes-gave-slice, ends-at, yes}
 use denote.Signature.{AllWithin}
 use denote.Slice.{shr-slice-copy}
 use denote.Struct.Laws as LL
@@ -40,10 +40,10 @@ use Rattle.responder.proofs.core.Reply.Laws as Z′
 use Rattle.responder.proofs.handle.answer as answer
 use Rattle.responder.proofs.handle.answer.Symbol as answer-def
 use Rattle.responder.proofs.handle.answer.Met as answer-thm
-use Rattle.lent.proofs.Walk.{closes}
+use Rattle.walks.proofs.Walk.{closes}
 use Rattle.lent.proofs.IkeTable.{R, Q, table-slot, rec-vals}
 use Rattle.lent.proofs.PolicyTypes.{R as Rₚ, policy-vals}
-use Rattle.lent.proofs.Calls.{_&_, tokens, Told, plainly, gives, spares, spare-first, spare-next, list-last, calls-both, calls-for, calls-to, copied, ends-local}
+use Rattle.walks.proofs.Calls.{_&_, tokens, Told, plainly, gives, spares, spare-first, spare-next, list-last, calls-both, calls-for, calls-to, copied, ends-local}
 use Rattle.lent.proofs.Asked.{counts, finds-ike, reads-ike, changes-ike, reads-policy}
 use Rattle.lent.proofs.owned.ipsec_count as count
 use Rattle.lent.proofs.owned.ipsec_count.Symbol as count-def

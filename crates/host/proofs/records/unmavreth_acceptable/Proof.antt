@@ -1,7 +1,7 @@
 -- `host::records::unmavreth_acceptable` meets its contract: a walk of its MIR, by hand. The policy is read by `policy_of`, and the covered `is_acceptable` decides.
 -- Assumes nothing.
-use Rattle.lent.proofs.Kit.{refl, [], _∷_, List, URA, named, Val, vbool, SProp, ent, emp, via, id⊢, fst∗, flft, Memory, Routine, Heap, Calls, Loops, WpFn, Atoms, Lfts, Shares, Fun, givenOf, tables, tablesOf, Given, ‵, ⋆, _$_, _∵_, !, qed, by, move, drop, join, keep, fsplit, fjoin, suffices, frame, done, look, init, stop, from}
-use Rattle.lent.proofs.Kit.{and-then, no-more, land, returns, enter, alloc1, alloc0, params1, pass1, pass0, free0, FmC, fmOf, owns, flat, Is, Spells, valss, bool-makes, bool-vals, bool-tells, bool, RefT, ptr-vals, shr-tells, plain, shrRefTo, typesAt, owned, nothing, Triple, Args, Vals, onEntry, cited, says, Stays, stay-dropped, walkOf, goes-dropped, ends-at, yes}
+use Rattle.walks.proofs.Kit.{refl, [], _∷_, List, URA, named, Val, vbool, SProp, ent, emp, via, id⊢, fst∗, flft, Memory, Routine, Heap, Calls, Loops, WpFn, Atoms, Lfts, Shares, Fun, givenOf, tables, tablesOf, Given, ‵, ⋆, _$_, _∵_, !, qed, by, move, drop, join, keep, fsplit, fjoin, suffices, frame, done, look, init, stop, from}
+use Rattle.walks.proofs.Kit.{and-then, no-more, land, returns, enter, alloc1, alloc0, params1, pass1, pass0, free0, FmC, fmOf, owns, flat, Is, Spells, valss, bool-makes, bool-vals, bool-tells, bool, RefT, ptr-vals, shr-tells, plain, shrRefTo, typesAt, owned, nothing, Triple, Args, Vals, onEntry, cited, says, Stays, stay-dropped, walkOf, goes-dropped, ends-at, yes}
 use denote.Struct.Laws as LL
 use Rattle.address.specs.declared.pair.Pair.{Pair}
 use Rattle.address.proofs.pair.Pair as P
@@ -13,8 +13,8 @@ use Rattle.policy.proofs.rules.Policy.Laws as Y′
 use Rattle.policy.proofs.rules.is_acceptable as decide
 use Rattle.policy.proofs.rules.is_acceptable.Symbol as decide-def
 use Rattle.policy.proofs.rules.is_acceptable.Met as decide-thm
-use Rattle.lent.proofs.Walk.{closes}
-use Rattle.lent.proofs.Calls.{tokens, Told, no-token, plainly, calls-for, copied, ends-local}
+use Rattle.walks.proofs.Walk.{closes}
+use Rattle.walks.proofs.Calls.{tokens, Told, no-token, plainly, calls-for, copied, ends-local}
 use Rattle.lent.proofs.Asked.{reads-policy}
 use Rattle.lent.proofs.PolicyTypes.{R, policy-vals}
 use Rattle.lent.proofs.rules.policy_of as read

@@ -1,9 +1,9 @@
 -- `host::records::unmavreth_close_ike` meets its contract: a walk of its MIR, by hand. The list is lent to `ipsec_count` and the table to `ike_place`, the covered `ike_closing` decides, and then the table is passed for good to `ike_store`, and the list to `release_if`.
 -- Assumes nothing.
-use Rattle.lent.proofs.Kit.{_≡_, refl, ℕ, _<_, _^_, cond, [], _∷_, List, map, eqb, length, set, URA, named, w8, w64, Val, vint, SProp, ent, emp, via, id⊢, fst∗, flft, fres, Memory, Routine, Heap, Calls, Loops, WpFn, Atoms, Lfts, Shares, Fun, givenOf, tables, tablesOf, Given, ‵, ⋆, _$_}
-use Rattle.lent.proofs.Kit.{_∵_, !, qed, by, move, drop, split, join, fsplit, fjoin, suffices, frame, done, look, init, stop, hop, fld, from, load, lit, of-opd, bin, addr, assigns, and-then, no-more, land, returns, enter, alloc1, alloc0, params1, pass1, pass0, free0, whole, sub, look-in}
-use Rattle.lent.proofs.Kit.{agg, FmC, fmOf, owns, flat, Is, Spells, valss, uint-makes, uint-vals, uint-tells, bool-makes, bool-vals, nothing-tells, u8, u64, usize, bool, ArrayOf, RefT, ptr-vals, mut-tells, slice-vals, mut-slice-tells, Room, finally, Slot, plain, typesAt, owned, nothing}
-use Rattle.lent.proofs.Kit.{Triple, Args, Vals, onEntry, cited, says, Stays, stay-dropped, gave-ref, gave-slice, walkOf, goes-dropped, goes-gave-ref, goes-gave-slice, ends-at, yes}
+use Rattle.walks.proofs.Kit.{_≡_, refl, ℕ, _<_, _^_, cond, [], _∷_, List, map, eqb, length, set, URA, named, w8, w64, Val, vint, SProp, ent, emp, via, id⊢, fst∗, flft, fres, Memory, Routine, Heap, Calls, Loops, WpFn, Atoms, Lfts, Shares, Fun, givenOf, tables, tablesOf, Given, ‵, ⋆, _$_}
+use Rattle.walks.proofs.Kit.{_∵_, !, qed, by, move, drop, split, join, fsplit, fjoin, suffices, frame, done, look, init, stop, hop, fld, from, load, lit, of-opd, bin, addr, assigns, and-then, no-more, land, returns, enter, alloc1, alloc0, params1, pass1, pass0, free0, whole, sub, look-in}
+use Rattle.walks.proofs.Kit.{agg, FmC, fmOf, owns, flat, Is, Spells, valss, uint-makes, uint-vals, uint-tells, bool-makes, bool-vals, nothing-tells, u8, u64, usize, bool, ArrayOf, RefT, ptr-vals, mut-tells, slice-vals, mut-slice-tells, Room, finally, Slot, plain, typesAt, owned, nothing}
+use Rattle.walks.proofs.Kit.{Triple, Args, Vals, onEntry, cited, says, Stays, stay-dropped, gave-ref, gave-slice, walkOf, goes-dropped, goes-gave-ref, goes-gave-slice, ends-at, yes}
 use types.Run.{store as stores}
 use denote.Struct.Laws as LL
 use Rattle.octets.specs.Lists.{placeOf}
@@ -18,8 +18,8 @@ use Rattle.tables.proofs.calls.IkeChange.Laws as D′
 use Rattle.tables.proofs.calls.ike_closing as closing
 use Rattle.tables.proofs.calls.ike_closing.Symbol as closing-def
 use Rattle.tables.proofs.calls.ike_closing.Met as closing-thm
-use Rattle.lent.proofs.Walk.{closes}
-use Rattle.lent.proofs.Calls.{_&_, tokens, Told, no-token, list-last, plainly, gives, calls-for, calls-to, copied, ends-local}
+use Rattle.walks.proofs.Walk.{closes}
+use Rattle.walks.proofs.Calls.{_&_, tokens, Told, no-token, list-last, plainly, gives, calls-for, calls-to, copied, ends-local}
 use Rattle.lent.proofs.Asked.{counts, finds-ike, stores-ike}
 use Rattle.lent.proofs.IkeTable.{R as Rₖ, Q}
 use Rattle.lent.proofs.IpsecTable.{R}

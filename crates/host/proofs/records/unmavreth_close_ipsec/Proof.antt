@@ -1,9 +1,9 @@
 -- `host::records::unmavreth_close_ipsec` meets its contract: a walk of its MIR, by hand. The list is lent to `ipsec_count` and `ipsec_place`, the covered `ipsec_closing` decides, and the list is passed for good to `ipsec_store`.
 -- Assumes nothing.
-use Rattle.lent.proofs.Kit.{_≡_, refl, ℕ, _<_, _^_, [], _∷_, List, length, set, URA, named, w8, w32, w64, Val, vint, SProp, ent, emp, via, id⊢, fst∗, flft, Memory, Routine, Heap, Calls, Loops, WpFn, Atoms, Lfts, Shares, Fun, givenOf, tables, tablesOf, Given, ‵, ⋆, _$_, _∵_, !, qed, by}
-use Rattle.lent.proofs.Kit.{move, drop, join, fsplit, fjoin, suffices, frame, done, look, init, stop, hop, fld, from, load, of-opd, addr, assigns, and-then, no-more, land, returns, enter, alloc1, alloc0, params1, pass1, pass0, free0, whole, sub, look-in, agg, FmC, fmOf, owns, flat, Is}
-use Rattle.lent.proofs.Kit.{Spells, valss, uint-makes, uint-vals, uint-tells, u8, u32, usize, RefT, slice-vals, mut-slice-tells, Room, finally, plain, typesAt, owned, nothing, Triple, Args, Vals, onEntry, cited, says, Stays, stay-dropped, gave-slice, walkOf, goes-dropped, goes-gave-slice}
-use Rattle.lent.proofs.Kit.{ends-at, yes}
+use Rattle.walks.proofs.Kit.{_≡_, refl, ℕ, _<_, _^_, [], _∷_, List, length, set, URA, named, w8, w32, w64, Val, vint, SProp, ent, emp, via, id⊢, fst∗, flft, Memory, Routine, Heap, Calls, Loops, WpFn, Atoms, Lfts, Shares, Fun, givenOf, tables, tablesOf, Given, ‵, ⋆, _$_, _∵_, !, qed, by}
+use Rattle.walks.proofs.Kit.{move, drop, join, fsplit, fjoin, suffices, frame, done, look, init, stop, hop, fld, from, load, of-opd, addr, assigns, and-then, no-more, land, returns, enter, alloc1, alloc0, params1, pass1, pass0, free0, whole, sub, look-in, agg, FmC, fmOf, owns, flat, Is}
+use Rattle.walks.proofs.Kit.{Spells, valss, uint-makes, uint-vals, uint-tells, u8, u32, usize, RefT, slice-vals, mut-slice-tells, Room, finally, plain, typesAt, owned, nothing, Triple, Args, Vals, onEntry, cited, says, Stays, stay-dropped, gave-slice, walkOf, goes-dropped, goes-gave-slice}
+use Rattle.walks.proofs.Kit.{ends-at, yes}
 use denote.Struct.Laws as LL
 use Rattle.octets.specs.Lists.{placeOf}
 use Rattle.tables.specs.Records.{ipsecSpi}
@@ -16,8 +16,8 @@ use Rattle.tables.proofs.calls.IpsecChange.Laws as D′
 use Rattle.tables.proofs.calls.ipsec_closing as closing
 use Rattle.tables.proofs.calls.ipsec_closing.Symbol as closing-def
 use Rattle.tables.proofs.calls.ipsec_closing.Met as closing-thm
-use Rattle.lent.proofs.Walk.{closes}
-use Rattle.lent.proofs.Calls.{_&_, tokens, Told, no-token, plainly, calls-for, copied, ends-local}
+use Rattle.walks.proofs.Walk.{closes}
+use Rattle.walks.proofs.Calls.{_&_, tokens, Told, no-token, plainly, calls-for, copied, ends-local}
 use Rattle.lent.proofs.Asked.{counts, finds-ipsec, stores-ipsec}
 use Rattle.lent.proofs.IpsecTable.{R}
 use Rattle.lent.proofs.owned.ipsec_count as count

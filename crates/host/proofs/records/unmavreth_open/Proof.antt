@@ -1,9 +1,9 @@
 -- `host::records::unmavreth_open` meets its contract: a walk of its MIR, by hand. The list is lent to `ipsec_count`, the table twice to `ike_place` and the list twice to `ipsec_place`, the covered `both_opening` decides, and then the table is passed for good to `ike_store`, and the list to `ipsec_store`.
 -- Assumes nothing.
-use Rattle.lent.proofs.Kit.{_≡_, refl, ℕ, _<_, _^_, [], _∷_, List, lit<, length, set, URA, named, w8, w64, Val, vint, SProp, ent, emp, via, id⊢, fst∗, flft, fres, Memory, Routine, Heap, Calls, Loops, WpFn, Atoms, Lfts, Shares, Fun, givenOf, tables, tablesOf, Given, ‵, ⋆, _$_}
-use Rattle.lent.proofs.Kit.{_∵_, !, qed, by, move, drop, split, join, fsplit, fjoin, suffices, frame, done, look, init, stop, hop, fld, from, load, lit, of-opd, addr, assigns, and-then, no-more, land, returns, enter, alloc1, alloc0, params1, pass1, pass0, free0, whole, sub, look-in}
-use Rattle.lent.proofs.Kit.{agg, FmC, fmOf, RattleType, owns, flat, Is, Spells, valss, uint-makes, uint-vals, u8, usize, RefT, ptr-vals, mut-tells, slice-vals, mut-slice-tells, Room, finally, Slot, plain, typesAt, owned, nothing}
-use Rattle.lent.proofs.Kit.{Triple, Args, Vals, onEntry, cited, says, Stays, stay-dropped, gave-ref, gave-slice, walkOf, goes-dropped, goes-gave-ref, goes-gave-slice, ends-at, yes}
+use Rattle.walks.proofs.Kit.{_≡_, refl, ℕ, _<_, _^_, [], _∷_, List, lit<, length, set, URA, named, w8, w64, Val, vint, SProp, ent, emp, via, id⊢, fst∗, flft, fres, Memory, Routine, Heap, Calls, Loops, WpFn, Atoms, Lfts, Shares, Fun, givenOf, tables, tablesOf, Given, ‵, ⋆, _$_}
+use Rattle.walks.proofs.Kit.{_∵_, !, qed, by, move, drop, split, join, fsplit, fjoin, suffices, frame, done, look, init, stop, hop, fld, from, load, lit, of-opd, addr, assigns, and-then, no-more, land, returns, enter, alloc1, alloc0, params1, pass1, pass0, free0, whole, sub, look-in}
+use Rattle.walks.proofs.Kit.{agg, FmC, fmOf, RattleType, owns, flat, Is, Spells, valss, uint-makes, uint-vals, u8, usize, RefT, ptr-vals, mut-tells, slice-vals, mut-slice-tells, Room, finally, Slot, plain, typesAt, owned, nothing}
+use Rattle.walks.proofs.Kit.{Triple, Args, Vals, onEntry, cited, says, Stays, stay-dropped, gave-ref, gave-slice, walkOf, goes-dropped, goes-gave-ref, goes-gave-slice, ends-at, yes}
 use types.Run.{store as stores}
 use denote.Struct.Laws as LL
 use Rattle.octets.specs.Lists.{placeOf}
@@ -21,8 +21,8 @@ use Rattle.tables.proofs.calls.Opening.Laws as O′
 use Rattle.tables.proofs.calls.both_opening as opening
 use Rattle.tables.proofs.calls.both_opening.Symbol as opening-def
 use Rattle.tables.proofs.calls.both_opening.Met as opening-thm
-use Rattle.lent.proofs.Walk.{closes}
-use Rattle.lent.proofs.Calls.{_&_, tokens, Told, no-token, plainly, calls-for, copied, ends-local}
+use Rattle.walks.proofs.Walk.{closes}
+use Rattle.walks.proofs.Calls.{_&_, tokens, Told, no-token, plainly, calls-for, copied, ends-local}
 use Rattle.lent.proofs.Asked.{counts, finds-ike, finds-ipsec, stores-ike, stores-ipsec}
 use Rattle.lent.proofs.IkeTable.{Q, table-slot}
 use Rattle.lent.proofs.IpsecTable.{R}

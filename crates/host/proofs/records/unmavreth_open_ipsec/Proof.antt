@@ -1,9 +1,9 @@
 -- `host::records::unmavreth_open_ipsec` meets its contract: a walk of its MIR, by hand. The list is lent to `ipsec_count` and `ipsec_place`, the table goes to `ike_place` and `ike_at`, the covered `ipsec_opening` decides, and the list is passed for good to `ipsec_store`.
 -- Assumes nothing.
-use Rattle.lent.proofs.Kit.{_≡_, refl, ℕ, _<_, _^_, [], _∷_, List, lit<, length, getD, set, URA, named, w8, w32, w64, Val, vint, SProp, ent, emp, via, id⊢, fst∗, flft, Memory, Routine, Heap, Calls, Loops, WpFn, Atoms, Lfts, Shares, Fun, givenOf, tables, tablesOf, Given, ‵, ⋆, _$_, _∵_, ! }
-use Rattle.lent.proofs.Kit.{qed, by, move, keep, drop, split, join, fsplit, fjoin, suffices, frame, done, look, init, stop, hop, fld, from, load, lit, of-opd, addr, assigns, and-then, no-more, land, returns, enter, alloc1, alloc0, params1, pass1, pass0, free0, whole, sub, look-in, agg}
-use Rattle.lent.proofs.Kit.{FmC, fmOf, owns, flat, Is, Spells, valss, uint-makes, uint-vals, uint-tells, u8, u32, u64, usize, ArrayOf, RefT, ptr-vals, shr-tells, slice-vals, mut-slice-tells, Room, finally, Slot, plain, shrRefTo, typesAt, owned, nothing, Triple, Args, Vals, onEntry, cited}
-use Rattle.lent.proofs.Kit.{says, Stays, stay-dropped, gave-slice, walkOf, goes-dropped, goes-gave-slice, ends-at, yes}
+use Rattle.walks.proofs.Kit.{_≡_, refl, ℕ, _<_, _^_, [], _∷_, List, lit<, length, getD, set, URA, named, w8, w32, w64, Val, vint, SProp, ent, emp, via, id⊢, fst∗, flft, Memory, Routine, Heap, Calls, Loops, WpFn, Atoms, Lfts, Shares, Fun, givenOf, tables, tablesOf, Given, ‵, ⋆, _$_, _∵_, ! }
+use Rattle.walks.proofs.Kit.{qed, by, move, keep, drop, split, join, fsplit, fjoin, suffices, frame, done, look, init, stop, hop, fld, from, load, lit, of-opd, addr, assigns, and-then, no-more, land, returns, enter, alloc1, alloc0, params1, pass1, pass0, free0, whole, sub, look-in, agg}
+use Rattle.walks.proofs.Kit.{FmC, fmOf, owns, flat, Is, Spells, valss, uint-makes, uint-vals, uint-tells, u8, u32, u64, usize, ArrayOf, RefT, ptr-vals, shr-tells, slice-vals, mut-slice-tells, Room, finally, Slot, plain, shrRefTo, typesAt, owned, nothing, Triple, Args, Vals, onEntry, cited}
+use Rattle.walks.proofs.Kit.{says, Stays, stay-dropped, gave-slice, walkOf, goes-dropped, goes-gave-slice, ends-at, yes}
 use denote.Struct.Laws as LL
 use Rattle.octets.specs.Lists.{placeOf}
 use Rattle.tables.specs.Records.{ikeSpi, ipsecSpi, noIke}
@@ -19,8 +19,8 @@ use Rattle.tables.proofs.calls.IpsecChange.Laws as D′
 use Rattle.tables.proofs.calls.ipsec_opening as opening
 use Rattle.tables.proofs.calls.ipsec_opening.Symbol as opening-def
 use Rattle.tables.proofs.calls.ipsec_opening.Met as opening-thm
-use Rattle.lent.proofs.Walk.{closes}
-use Rattle.lent.proofs.Calls.{_&_, tokens, Told, no-token, plainly, calls-for, copied, ends-local}
+use Rattle.walks.proofs.Walk.{closes}
+use Rattle.walks.proofs.Calls.{_&_, tokens, Told, no-token, plainly, calls-for, copied, ends-local}
 use Rattle.lent.proofs.Asked.{counts, finds-ipsec, stores-ipsec}
 use Rattle.lent.proofs.Loans.{array-long, copies-ref}
 use Rattle.lent.proofs.IkeTable.{R as Rₖ, Q, rec-vals as ike-vals}

@@ -1,8 +1,8 @@
 -- `host::records::unmavreth_set_policy` meets its contract: a walk of its MIR, by hand. The policy is lent to `policy_of` and the rules read by `rules_of`, the covered `set_policy` decides, and the policy is passed for good to `policy_store`.
 -- Assumes nothing.
-use Rattle.lent.proofs.Kit.{_≡_, refl, ℕ, _<_, _^_, [], _∷_, List, URA, named, w8, Val, vint, SProp, ent, emp, via, id⊢, fst∗, flft, fres, Memory, Routine, Heap, Calls, Loops, WpFn, Atoms, Lfts, Shares, Fun, givenOf, tables, tablesOf, Given, ‵, ⋆, _$_, _∵_, !, qed, by, move, drop, join, split, keep}
-use Rattle.lent.proofs.Kit.{fsplit, fjoin, suffices, frame, done, look, init, stop, hop, fld, from, load, of-opd, addr, assigns, and-then, no-more, land, returns, enter, alloc1, alloc0, params1, pass1, pass0, free0, whole, sub, look-in, FmC, fmOf, owns, flat, Is, Spells, valss, uint-makes, uint-vals, uint-tells, u8, RefT, ptr-vals}
-use Rattle.lent.proofs.Kit.{ArrayOf, mut-tells, shr-tells, Slot, plain, shrRefTo, typesAt, owned, nothing, Triple, Args, Vals, onEntry, cited, says, Stays, stay-dropped, gave-ref, walkOf, goes-dropped, goes-gave-ref, ends-at, yes}
+use Rattle.walks.proofs.Kit.{_≡_, refl, ℕ, _<_, _^_, [], _∷_, List, URA, named, w8, Val, vint, SProp, ent, emp, via, id⊢, fst∗, flft, fres, Memory, Routine, Heap, Calls, Loops, WpFn, Atoms, Lfts, Shares, Fun, givenOf, tables, tablesOf, Given, ‵, ⋆, _$_, _∵_, !, qed, by, move, drop, join, split, keep}
+use Rattle.walks.proofs.Kit.{fsplit, fjoin, suffices, frame, done, look, init, stop, hop, fld, from, load, of-opd, addr, assigns, and-then, no-more, land, returns, enter, alloc1, alloc0, params1, pass1, pass0, free0, whole, sub, look-in, FmC, fmOf, owns, flat, Is, Spells, valss, uint-makes, uint-vals, uint-tells, u8, RefT, ptr-vals}
+use Rattle.walks.proofs.Kit.{ArrayOf, mut-tells, shr-tells, Slot, plain, shrRefTo, typesAt, owned, nothing, Triple, Args, Vals, onEntry, cited, says, Stays, stay-dropped, gave-ref, walkOf, goes-dropped, goes-gave-ref, ends-at, yes}
 use mir.Syntax.{w16}
 use denote.Array.{array-makes, array-lawful}
 use denote.Builtin.{u16}
@@ -20,8 +20,8 @@ use Rattle.policy.proofs.rules.PolicyAnswer.Laws as D′
 use Rattle.policy.proofs.rules.set_policy as decide
 use Rattle.policy.proofs.rules.set_policy.Symbol as decide-def
 use Rattle.policy.proofs.rules.set_policy.Met as decide-thm
-use Rattle.lent.proofs.Walk.{closes}
-use Rattle.lent.proofs.Calls.{_&_, tokens, Told, no-token, plainly, calls-for, copied, ends-local}
+use Rattle.walks.proofs.Walk.{closes}
+use Rattle.walks.proofs.Calls.{_&_, tokens, Told, no-token, plainly, calls-for, copied, ends-local}
 use Rattle.lent.proofs.Asked.{reads-lent, reads-rules, stores-policy}
 use Rattle.lent.proofs.PolicyTypes.{R, Q, policy-vals, rules-vals}
 use Rattle.lent.proofs.rules.policy_of as read

@@ -1,10 +1,10 @@
 -- `lent::ike::ike_at` meets its contract: a walk of its MIR, by hand. The table is looked into before the branch, which learns that there are 32 records, and shut at each of the two ways out; past the end the covered `no_ike` is called.
 -- Assumes nothing.
-use Rattle.lent.proofs.Kit.{_≡_, refl, sym, ℕ, _<_, _^_, [], _∷_, List, ltb, length, getD, URA, fullShare, named, imm, w64, tyPtr, tyBool, Val, vbool, vint, vptr, SProp, ent, emp, via, id⊢, fst∗, Lft, Share, GName, ftrue, fat, froom, fdies, flft, fobor, Memory}
-use Rattle.lent.proofs.Kit.{Routine, Heap, Env, Calls, Loops, WpFn, Atoms, Fun, givenOf, tables, tablesOf, Given, Item, ‵, _⊛_, ⋆, prop, runs, frees, atRet, Sq, _$_, _∵_, !, qed, by, move, drop, split, join, rewrite, fsplit, fsplit3, fjoin}
-use Rattle.lent.proofs.Kit.{suffices, frame, done, look, look-raw, init, forget, stop, hop, from, load, lit, of-opd, addr, bin, assigns, no-more, land, first, branches, skips, returns, returns-within, enter, alloc1, alloc0, params1, pass1, pass0, free1, free0, exec, FmC, fmOf}
-use Rattle.lent.proofs.Kit.{owns, Is, shows, mem, partAt, uint-vals, uint-tells, usize, RefT, ShrRef, ptr-vals, shr-tells, row, place-is, elem-out, elem-back, plain, shrRefTo, owned, nothing, Triple, onEntry, cited}
-use Rattle.lent.proofs.Kit.{says, Stays, stay-dropped, walkOf, goes-dropped, ends-at, yes}
+use Rattle.walks.proofs.Kit.{_≡_, refl, sym, ℕ, _<_, _^_, [], _∷_, List, ltb, length, getD, URA, fullShare, named, imm, w64, tyPtr, tyBool, Val, vbool, vint, vptr, SProp, ent, emp, via, id⊢, fst∗, Lft, Share, GName, ftrue, fat, froom, fdies, flft, fobor, Memory}
+use Rattle.walks.proofs.Kit.{Routine, Heap, Env, Calls, Loops, WpFn, Atoms, Fun, givenOf, tables, tablesOf, Given, Item, ‵, _⊛_, ⋆, prop, runs, frees, atRet, Sq, _$_, _∵_, !, qed, by, move, drop, split, join, rewrite, fsplit, fsplit3, fjoin}
+use Rattle.walks.proofs.Kit.{suffices, frame, done, look, look-raw, init, forget, stop, hop, from, load, lit, of-opd, addr, bin, assigns, no-more, land, first, branches, skips, returns, returns-within, enter, alloc1, alloc0, params1, pass1, pass0, free1, free0, exec, FmC, fmOf}
+use Rattle.walks.proofs.Kit.{owns, Is, shows, mem, partAt, uint-vals, uint-tells, usize, RefT, ShrRef, ptr-vals, shr-tells, row, place-is, elem-out, elem-back, plain, shrRefTo, owned, nothing, Triple, onEntry, cited}
+use Rattle.walks.proofs.Kit.{says, Stays, stay-dropped, walkOf, goes-dropped, ends-at, yes}
 use lib.ListN.{List·getD-eq-default}
 use denote.Struct.Laws as LL
 use Rattle.tables.specs.Records.{noIke}
@@ -15,8 +15,8 @@ use Rattle.tables.proofs.ike.no_ike as no-ike
 use Rattle.tables.proofs.ike.no_ike.Symbol as no-ike-def
 use Rattle.tables.proofs.ike.no_ike.Met as no-ike-thm
 use Rattle.lent.proofs.Arrays.{looks-array, shuts-array}
-use Rattle.lent.proofs.Walk.{closes}
-use Rattle.lent.proofs.Calls.{Told, plainly, calls-for}
+use Rattle.walks.proofs.Walk.{closes}
+use Rattle.walks.proofs.Calls.{Told, plainly, calls-for}
 use Rattle.lent.proofs.IkeTable.{R, Q, word, table, table-slot, rec-vals, at-fits, within, past}
 use Rattle.lent.proofs.ike.ike_at.Key.{name as #lent·ike-at}
 use Rattle.lent.proofs.ike.ike_at as f

@@ -1,9 +1,9 @@
 -- `lent::ike::ike_change` meets its contract: a walk of its MIR, by hand. The borrow is opened before the branch, which learns that there are 32 records; where the place is within them, its record is read, and replaced by what the covered `changed` makes of it.
 -- Assumes nothing.
-use Rattle.lent.proofs.Kit.{_≡_, refl, sym, _∙_, ℕ, _<_, _^_, [], _∷_, List, ltb, length, getD, set, length-set, URA, fullShare, named, imm, mut, w8, w64, tyPtr, tyInt, tyRef, tyBool, tyUnit, Val, vunit, vbool, vint, vptr, SProp, ent, emp, via, id⊢, fst∗, Lfts, Shares, Ty}
-use Rattle.lent.proofs.Kit.{flft, fobs, fauth, fbor, fobor, Memory, Routine, Heap, Env, Calls, Loops, WpFn, Atoms, Fun, givenOf, tables, tablesOf, Given, Item, ‵, ⋆, runs, atRet, Sq, _$_, _∵_, !, qed, by, move, drop, split, join, rewrite, fsplit, fsplit3, fjoin, feqI, suffices}
-use Rattle.lent.proofs.Kit.{frame, done, fat, look, look-raw, init, store, store-raw, forget, stop, hop, from, load, lit, unit-lit, of-opd, addr, bin, assigns, assigns-last, and-then, no-more, land, first, branches, skips, returns, enter, alloc1, alloc0, params1, pass1, pass0, free1, free0, exec, FmC, fmOf}
-use Rattle.lent.proofs.Kit.{owns, flat, Is, Spells, valss, shows, mem, uint-vals, uint-tells, u8, usize, RefT, ptr-vals, mut-tells, sliceTy, ShrSlice, slice-vals, shr-slice-tells, Room, row, place-is, elem-out, elem-put, RattleType, Slot, plain, only, shrSliceOf, typesAt, owned, nothing, Triple, Args, Vals, onEntry, cited, says, Stays, stay-dropped, walkOf, goes-dropped, ends-at, yes, set-out}
+use Rattle.walks.proofs.Kit.{_≡_, refl, sym, _∙_, ℕ, _<_, _^_, [], _∷_, List, ltb, length, getD, set, length-set, URA, fullShare, named, imm, mut, w8, w64, tyPtr, tyInt, tyRef, tyBool, tyUnit, Val, vunit, vbool, vint, vptr, SProp, ent, emp, via, id⊢, fst∗, Lfts, Shares, Ty}
+use Rattle.walks.proofs.Kit.{flft, fobs, fauth, fbor, fobor, Memory, Routine, Heap, Env, Calls, Loops, WpFn, Atoms, Fun, givenOf, tables, tablesOf, Given, Item, ‵, ⋆, runs, atRet, Sq, _$_, _∵_, !, qed, by, move, drop, split, join, rewrite, fsplit, fsplit3, fjoin, feqI, suffices}
+use Rattle.walks.proofs.Kit.{frame, done, fat, look, look-raw, init, store, store-raw, forget, stop, hop, from, load, lit, unit-lit, of-opd, addr, bin, assigns, assigns-last, and-then, no-more, land, first, branches, skips, returns, enter, alloc1, alloc0, params1, pass1, pass0, free1, free0, exec, FmC, fmOf}
+use Rattle.walks.proofs.Kit.{owns, flat, Is, Spells, valss, shows, mem, uint-vals, uint-tells, u8, usize, RefT, ptr-vals, mut-tells, sliceTy, ShrSlice, slice-vals, shr-slice-tells, Room, row, place-is, elem-out, elem-put, RattleType, Slot, plain, only, shrSliceOf, typesAt, owned, nothing, Triple, Args, Vals, onEntry, cited, says, Stays, stay-dropped, walkOf, goes-dropped, ends-at, yes, set-out}
 use types.Kit.{fjoin3}
 use types.SemTy.{Body}
 use denote.Struct.Laws as LL
@@ -23,8 +23,8 @@ use Rattle.responder.proofs.core.changed as change
 use Rattle.responder.proofs.core.changed.Symbol as change-def
 use Rattle.responder.proofs.core.changed.Met as change-thm
 use Rattle.lent.proofs.Arrays.{opens-array, closes-array}
-use Rattle.lent.proofs.Walk.{closes}
-use Rattle.lent.proofs.Calls.{_&_, tokens, Told, calls-for, copied, ends-local}
+use Rattle.walks.proofs.Walk.{closes}
+use Rattle.walks.proofs.Calls.{_&_, tokens, Told, calls-for, copied, ends-local}
 use Rattle.lent.proofs.IkeTable.{R, Q, word, table, table-slot, rec-vals, at-fits, within, past}
 use Rattle.lent.proofs.IpsecTable.{holds, empty}
 use Rattle.lent.proofs.ike.ike_change.Key as key

@@ -1,11 +1,11 @@
 -- `lent::ike::ike_place` meets its contract: a walk of its MIR, by hand. The table is looked into once, before the loop, and shut at each of the two ways out. A turn reads the SPI of record i.
 -- Assumes nothing.
-use Rattle.lent.proofs.Kit.{_≡_, refl, sym, ℕ, _+_, _-_, _≤_, _<_, _^_, zero-le, zero-add, add-one-le, add-one-dec, arith, Bool, true, false, not, WellFounded, InvImage·wf, [], _∷_, List, Nat·lt-wfRel, T, ltb, eqb, ltb→lt, eqb→eq, lit<, length, getD, URA, fullShare, eqb-no, Body}
-use Rattle.lent.proofs.Kit.{named, imm, w64, tyPtr, tyBool, place, unsigned, copy, int, assign, op2, add, Val, vbool, vint, vptr, SProp, ent, emp, via, fst∗, Lft, Share, GName, ftrue, fat, froom, fdies, flft, fobor, Memory, Routine, Heap, Out, Env, afterSeq, afterBlock}
-use Rattle.lent.proofs.Kit.{afterTurn, Calls, Loops, Wp, atReturn, WpFn, Tables, Atoms, Fun, givenOf, tables, tablesOf, Given, Item, ‵, _⊛_, ⋆, prop, runs, frees, anyQ, atRet, Sq, _$_, _∵_, !, qed, by, move, drop, split, join, rewrite, fsplit, fsplit3, fjoin, suffices, frame, done, look}
-use Rattle.lent.proofs.Kit.{init, store, forget, stop, hop, fld, from, load, lit, of-opd, addr, bin, assigns, assigns-last, first, blocks, branches, skips, stays, leaves-loop, returns, returns-within, enter, alloc1, alloc0, params1, pass1, pass0, free1, free0, exec, Below, again, loops}
-use Rattle.lent.proofs.Kit.{whole, sub, look-in, owns, Is, shows, mem, partAt, uint-makes, uint-vals, uint-tells, u64, usize, RefT, ShrRef, ptr-vals, shr-tells, row, place-is, elem-out, elem-back, plain, shrRefTo, owned, nothing, onEntry, says, Stays, stay-dropped, walkOf}
-use Rattle.lent.proofs.Kit.{goes-dropped, ends-at, yes}
+use Rattle.walks.proofs.Kit.{_≡_, refl, sym, ℕ, _+_, _-_, _≤_, _<_, _^_, zero-le, zero-add, add-one-le, add-one-dec, arith, Bool, true, false, not, WellFounded, InvImage·wf, [], _∷_, List, Nat·lt-wfRel, T, ltb, eqb, ltb→lt, eqb→eq, lit<, length, getD, URA, fullShare, eqb-no, Body}
+use Rattle.walks.proofs.Kit.{named, imm, w64, tyPtr, tyBool, place, unsigned, copy, int, assign, op2, add, Val, vbool, vint, vptr, SProp, ent, emp, via, fst∗, Lft, Share, GName, ftrue, fat, froom, fdies, flft, fobor, Memory, Routine, Heap, Out, Env, afterSeq, afterBlock}
+use Rattle.walks.proofs.Kit.{afterTurn, Calls, Loops, Wp, atReturn, WpFn, Tables, Atoms, Fun, givenOf, tables, tablesOf, Given, Item, ‵, _⊛_, ⋆, prop, runs, frees, anyQ, atRet, Sq, _$_, _∵_, !, qed, by, move, drop, split, join, rewrite, fsplit, fsplit3, fjoin, suffices, frame, done, look}
+use Rattle.walks.proofs.Kit.{init, store, forget, stop, hop, fld, from, load, lit, of-opd, addr, bin, assigns, assigns-last, first, blocks, branches, skips, stays, leaves-loop, returns, returns-within, enter, alloc1, alloc0, params1, pass1, pass0, free1, free0, exec, Below, again, loops}
+use Rattle.walks.proofs.Kit.{whole, sub, look-in, owns, Is, shows, mem, partAt, uint-makes, uint-vals, uint-tells, u64, usize, RefT, ShrRef, ptr-vals, shr-tells, row, place-is, elem-out, elem-back, plain, shrRefTo, owned, nothing, onEntry, says, Stays, stay-dropped, walkOf}
+use Rattle.walks.proofs.Kit.{goes-dropped, ends-at, yes}
 use lib.ListN.{drop as drop-list}
 use denote.Struct.Laws as LL
 use Rattle.octets.specs.Lists.{placeOf}
@@ -15,7 +15,7 @@ use Rattle.tables.specs.declared.ike.IkeRecord.{IkeRecord}
 use Rattle.tables.proofs.ike.IkeRecord as S
 use Rattle.tables.proofs.ike.IkeRecord.Laws as S′
 use Rattle.lent.proofs.Arrays.{looks-array, shuts-array}
-use Rattle.lent.proofs.Walk.{closes, tested}
+use Rattle.walks.proofs.Walk.{closes, tested}
 use Rattle.lent.proofs.IkeTable.{R, Q, word, table, table-slot, rec-vals, at-fits, within, past}
 use Rattle.lent.proofs.ike.ike_place.Key.{name as #lent·ike-place}
 use Rattle.lent.proofs.ike.ike_place as f

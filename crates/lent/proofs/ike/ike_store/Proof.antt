@@ -1,9 +1,9 @@
 -- `lent::ike::ike_store` meets its contract: a walk of its MIR, by hand. The borrow is opened before the branch, which learns that there are 32 records; where the place is within them, its record is replaced.
 -- Assumes nothing.
-use Rattle.lent.proofs.Kit.{_≡_, refl, sym, _∙_, ℕ, _<_, _^_, [], _∷_, List, ltb, length, set, length-set, URA, fullShare, named, mut, w64, tyPtr, tyBool, tyUnit, Val, vunit, vbool, vint, vptr, SProp, ent, emp, via, fst∗, Lft, Share, GName, ftrue, fat, froom, fdies}
-use Rattle.lent.proofs.Kit.{flft, fobs, fauth, fbor, fobor, Memory, Routine, Heap, Env, Calls, Loops, WpFn, Atoms, Fun, givenOf, tables, tablesOf, Given, Item, ‵, _⊛_, ⋆, runs, atRet, Sq, _$_, _∵_, !, qed, by, move, drop, split, join, rewrite, fsplit, fsplit3, fjoin, feqI, suffices}
-use Rattle.lent.proofs.Kit.{frame, done, look, init, store-raw, forget, stop, hop, from, load, lit, unit-lit, of-opd, addr, bin, assigns, assigns-last, first, branches, skips, returns, enter, alloc1, alloc0, params1, pass1, pass0, free1, free0, exec, owns, Is, shows, mem}
-use Rattle.lent.proofs.Kit.{uint-vals, uint-tells, usize, RefT, MutRef, ptr-vals, mut-tells, row, place-is, elem-out, elem-put, plain, owned, nothing, onEntry, says, Stays, stay-dropped, walkOf, goes-dropped, ends-at, yes, set-out}
+use Rattle.walks.proofs.Kit.{_≡_, refl, sym, _∙_, ℕ, _<_, _^_, [], _∷_, List, ltb, length, set, length-set, URA, fullShare, named, mut, w64, tyPtr, tyBool, tyUnit, Val, vunit, vbool, vint, vptr, SProp, ent, emp, via, fst∗, Lft, Share, GName, ftrue, fat, froom, fdies}
+use Rattle.walks.proofs.Kit.{flft, fobs, fauth, fbor, fobor, Memory, Routine, Heap, Env, Calls, Loops, WpFn, Atoms, Fun, givenOf, tables, tablesOf, Given, Item, ‵, _⊛_, ⋆, runs, atRet, Sq, _$_, _∵_, !, qed, by, move, drop, split, join, rewrite, fsplit, fsplit3, fjoin, feqI, suffices}
+use Rattle.walks.proofs.Kit.{frame, done, look, init, store-raw, forget, stop, hop, from, load, lit, unit-lit, of-opd, addr, bin, assigns, assigns-last, first, branches, skips, returns, enter, alloc1, alloc0, params1, pass1, pass0, free1, free0, exec, owns, Is, shows, mem}
+use Rattle.walks.proofs.Kit.{uint-vals, uint-tells, usize, RefT, MutRef, ptr-vals, mut-tells, row, place-is, elem-out, elem-put, plain, owned, nothing, onEntry, says, Stays, stay-dropped, walkOf, goes-dropped, ends-at, yes, set-out}
 use types.Kit.{fjoin3}
 use types.SemTy.{Body}
 use denote.Struct.Laws as LL
@@ -13,7 +13,7 @@ use Rattle.tables.specs.declared.ike.IkeRecord.{IkeRecord}
 use Rattle.tables.proofs.ike.IkeRecord as S
 use Rattle.tables.proofs.ike.IkeRecord.Laws as S′
 use Rattle.lent.proofs.Arrays.{opens-array, closes-array}
-use Rattle.lent.proofs.Walk.{closes}
+use Rattle.walks.proofs.Walk.{closes}
 use Rattle.lent.proofs.IkeTable.{R, Q, word, table, table-slot, rec-vals, rec-val, at-fits, within, past}
 use Rattle.lent.proofs.ike.ike_store.Key.{name as #lent·ike-store}
 use Rattle.lent.proofs.ike.ike_store as f

@@ -1,11 +1,11 @@
 -- `lent::places::ipsec_place` meets its contract: a walk of its MIR, by hand. The slice is looked into once, before the loop, and shut at each of the two ways out. A turn reads one field of element i.
 -- Assumes nothing.
-use Rattle.lent.proofs.Kit.{_≡_, refl, sym, ℕ, _+_, _-_, _≤_, _<_, _^_, zero-le, lt-of-le-of-lt, zero-add, add-one-le, add-one-dec, arith, Bool, true, false, not, WellFounded, InvImage·wf, [], _∷_, List, Nat·lt-wfRel, T, ltb, eqb, eqb→eq, ltb→lt, nltb→le, lit<, length, getD, URA}
-use Rattle.lent.proofs.Kit.{fullShare, eqb-no, Ty, Body, named, imm, w32, w64, tyPtr, tyInt, tyBool, tyRef, place, unsigned, copy, int, assign, op2, add, Val, vbool, vint, vptr, SProp, ent, emp, via, fst∗, Lft, Share, GName, ftrue, fat, froom, fdies, flft, fobor, Memory, Routine, Heap}
-use Rattle.lent.proofs.Kit.{Out, Env, afterSeq, afterBlock, afterTurn, Calls, Loops, Wp, atReturn, WpFn, Tables, Atoms, Fun, givenOf, tables, tablesOf, Given, Item, ‵, _⊛_, ⋆, runs, anyQ, atRet, Sq, _$_, _∵_, !, qed, by, move, drop, split, join, rewrite, fsplit, fjoin, suffices, frame}
-use Rattle.lent.proofs.Kit.{done, look, init, store, forget, stop, hop, fld, from, load, lit, of-opd, bin, assigns, assigns-last, first, blocks, branches, skips, stays, leaves-loop, returns, returns-within, enter, alloc1, alloc0, params1, pass1, pass0, free1, free0, exec, Below, again}
-use Rattle.lent.proofs.Kit.{loops, whole, sub, look-in, arr-parts, owns, Is, shows, pointee, mem, shares, uint-makes, uint-vals, uint-tells, u32, usize, RefT, sliceTy, sliceVal, slice-vals, shr-slice-tells, ShrSlice, Room, row, place-is, elem-out, elem-back, plain, shrSliceOf}
-use Rattle.lent.proofs.Kit.{owned, nothing, onEntry, says, Stays, stay-dropped, walkOf, goes-dropped, ends-at, yes}
+use Rattle.walks.proofs.Kit.{_≡_, refl, sym, ℕ, _+_, _-_, _≤_, _<_, _^_, zero-le, lt-of-le-of-lt, zero-add, add-one-le, add-one-dec, arith, Bool, true, false, not, WellFounded, InvImage·wf, [], _∷_, List, Nat·lt-wfRel, T, ltb, eqb, eqb→eq, ltb→lt, nltb→le, lit<, length, getD, URA}
+use Rattle.walks.proofs.Kit.{fullShare, eqb-no, Ty, Body, named, imm, w32, w64, tyPtr, tyInt, tyBool, tyRef, place, unsigned, copy, int, assign, op2, add, Val, vbool, vint, vptr, SProp, ent, emp, via, fst∗, Lft, Share, GName, ftrue, fat, froom, fdies, flft, fobor, Memory, Routine, Heap}
+use Rattle.walks.proofs.Kit.{Out, Env, afterSeq, afterBlock, afterTurn, Calls, Loops, Wp, atReturn, WpFn, Tables, Atoms, Fun, givenOf, tables, tablesOf, Given, Item, ‵, _⊛_, ⋆, runs, anyQ, atRet, Sq, _$_, _∵_, !, qed, by, move, drop, split, join, rewrite, fsplit, fjoin, suffices, frame}
+use Rattle.walks.proofs.Kit.{done, look, init, store, forget, stop, hop, fld, from, load, lit, of-opd, bin, assigns, assigns-last, first, blocks, branches, skips, stays, leaves-loop, returns, returns-within, enter, alloc1, alloc0, params1, pass1, pass0, free1, free0, exec, Below, again}
+use Rattle.walks.proofs.Kit.{loops, whole, sub, look-in, arr-parts, owns, Is, shows, pointee, mem, shares, uint-makes, uint-vals, uint-tells, u32, usize, RefT, sliceTy, sliceVal, slice-vals, shr-slice-tells, ShrSlice, Room, row, place-is, elem-out, elem-back, plain, shrSliceOf}
+use Rattle.walks.proofs.Kit.{owned, nothing, onEntry, says, Stays, stay-dropped, walkOf, goes-dropped, ends-at, yes}
 use lib.ListN.{drop as drop-list}
 use denote.Index.{looks-slice, shuts-slice}
 use denote.Struct.Laws as LL
@@ -16,7 +16,7 @@ use Rattle.tables.specs.declared.ipsec.IpsecRecord.{IpsecRecord}
 use Rattle.tables.proofs.ipsec.IpsecRecord as S
 use Rattle.tables.proofs.ipsec.IpsecRecord.Laws as S′
 use Rattle.lent.proofs.IpsecTable.{R, rec-vals}
-use Rattle.lent.proofs.Walk.{closes, offset-fits, tested}
+use Rattle.walks.proofs.Walk.{closes, offset-fits, tested}
 use Rattle.lent.proofs.places.ipsec_place.Key.{name as #ipsec-place}
 use Rattle.lent.proofs.places.ipsec_place as f
 use Rattle.lent.proofs.places.ipsec_place.Statement as stated

@@ -1,16 +1,16 @@
 -- `lent::places::ipsec_store` meets its contract: a walk of its MIR, by hand. Where the place is within the list its record is replaced; then the slice is given up, at the list that it holds.
 -- Assumes nothing.
-use Rattle.lent.proofs.Kit.{_≡_, refl, sym, ap, _∙_, ℕ, _<_, _^_, [], _∷_, List, ltb, ltb→lt, nltb→le, length, set, length-set, set-out, URA, fullShare, named, w64, tyPtr, tyInt, tyBool, tyUnit, Val, vunit, vbool, vint, vptr, SProp, ent, emp, via, fst∗, Lft, Share, GName, ftrue, fat}
-use Rattle.lent.proofs.Kit.{flft, fbor, Memory, Routine, Heap, Env, Calls, Loops, WpFn, Atoms, Fun, givenOf, tables, tablesOf, Given, ‵, _⊛_, ⋆, runs, atRet, Sq, _$_, _∵_, !, qed, by, move, keep, drop, use1, split, join, rewrite, fsplit, fjoin, feqI, suffices, frame, done, look, init}
-use Rattle.lent.proofs.Kit.{store-raw, forget, stop, hop, fld, from, load, lit, unit-lit, of-opd, bin, assigns, assigns-last, first, branches, skips, returns, enter, alloc1, alloc0, params1, pass1, pass0, free1, free0, exec, whole, sub, look-in, owns, Is, shows, mem, uint-vals}
-use Rattle.lent.proofs.Kit.{uint-tells, usize, RefT, sliceVal, slice-vals, mut-slice-tells, MutSlice, Room, finally, Held, place-is, elem-out, elem-put, opens-slice, closes-slice, plain, owned, nothing, onEntry, says, Stays, stay-dropped, gave-slice, walkOf, goes-dropped, goes-gave-slice}
-use Rattle.lent.proofs.Kit.{ends-at, yes}
+use Rattle.walks.proofs.Kit.{_≡_, refl, sym, ap, _∙_, ℕ, _<_, _^_, [], _∷_, List, ltb, ltb→lt, nltb→le, length, set, length-set, set-out, URA, fullShare, named, w64, tyPtr, tyInt, tyBool, tyUnit, Val, vunit, vbool, vint, vptr, SProp, ent, emp, via, fst∗, Lft, Share, GName, ftrue, fat}
+use Rattle.walks.proofs.Kit.{flft, fbor, Memory, Routine, Heap, Env, Calls, Loops, WpFn, Atoms, Fun, givenOf, tables, tablesOf, Given, ‵, _⊛_, ⋆, runs, atRet, Sq, _$_, _∵_, !, qed, by, move, keep, drop, use1, split, join, rewrite, fsplit, fjoin, feqI, suffices, frame, done, look, init}
+use Rattle.walks.proofs.Kit.{store-raw, forget, stop, hop, fld, from, load, lit, unit-lit, of-opd, bin, assigns, assigns-last, first, branches, skips, returns, enter, alloc1, alloc0, params1, pass1, pass0, free1, free0, exec, whole, sub, look-in, owns, Is, shows, mem, uint-vals}
+use Rattle.walks.proofs.Kit.{uint-tells, usize, RefT, sliceVal, slice-vals, mut-slice-tells, MutSlice, Room, finally, Held, place-is, elem-out, elem-put, opens-slice, closes-slice, plain, owned, nothing, onEntry, says, Stays, stay-dropped, gave-slice, walkOf, goes-dropped, goes-gave-slice}
+use Rattle.walks.proofs.Kit.{ends-at, yes}
 use denote.Struct.Laws as LL
 use Rattle.tables.specs.Records.{noIpsec}
 use Rattle.tables.specs.declared.ipsec.IpsecRecord.{IpsecRecord}
 use Rattle.tables.proofs.ipsec.IpsecRecord as S
 use Rattle.tables.proofs.ipsec.IpsecRecord.Laws as S′
-use Rattle.lent.proofs.Walk.{closes, offset-fits}
+use Rattle.walks.proofs.Walk.{closes, offset-fits}
 use Rattle.lent.proofs.IpsecTable.{R, rec-vals, rec-val, slice-of, Obs, holds, empty, given-up}
 use Rattle.lent.proofs.places.ipsec_store.Key.{name as #ipsec-store}
 use Rattle.lent.proofs.places.ipsec_store as f

@@ -1,8 +1,8 @@
 -- `lent::rules::policy_store` meets its contract: a walk of its MIR, by hand. The borrow is opened, the policy stored whole, and it is closed at the new one.
 -- Assumes nothing.
-use Rattle.lent.proofs.Kit.{refl, ℕ, [], _∷_, List, URA, named, Val, vunit, vptr, SProp, ent, emp, via, fst∗, Lft, Share, GName, ftrue, flft, fobs, fbor, Memory, Routine, Heap, Calls, Loops, WpFn, Atoms, Fun, givenOf, tables, tablesOf, Given, ‵, _⊛_, ⋆, _$_, _∵_, !, qed, by, move, drop, split, join}
-use Rattle.lent.proofs.Kit.{fsplit, fsplit3, fjoin, feqI, suffices, frame, done, look, init, store-raw, stop, hop, from, of-opd, unit-lit, assigns, returns, enter, alloc1, alloc0, params1, pass1, pass0, free0, owns, mem, Is, RefT, MutRef, ptr-vals, mut-tells, plain, owned, nothing, onEntry}
-use Rattle.lent.proofs.Kit.{says, Stays, stay-dropped, walkOf, goes-dropped, ends-at, yes, only}
+use Rattle.walks.proofs.Kit.{refl, ℕ, [], _∷_, List, URA, named, Val, vunit, vptr, SProp, ent, emp, via, fst∗, Lft, Share, GName, ftrue, flft, fobs, fbor, Memory, Routine, Heap, Calls, Loops, WpFn, Atoms, Fun, givenOf, tables, tablesOf, Given, ‵, _⊛_, ⋆, _$_, _∵_, !, qed, by, move, drop, split, join}
+use Rattle.walks.proofs.Kit.{fsplit, fsplit3, fjoin, feqI, suffices, frame, done, look, init, store-raw, stop, hop, from, of-opd, unit-lit, assigns, returns, enter, alloc1, alloc0, params1, pass1, pass0, free0, owns, mem, Is, RefT, MutRef, ptr-vals, mut-tells, plain, owned, nothing, onEntry}
+use Rattle.walks.proofs.Kit.{says, Stays, stay-dropped, walkOf, goes-dropped, ends-at, yes, only}
 use types.Kit.{fjoin3}
 use types.SemTy.{Body}
 use denote.Steps.{closes as closes-whole}
@@ -12,8 +12,8 @@ use Rattle.policy.specs.declared.rules.Policy.{Policy}
 use Rattle.policy.proofs.rules.Policy as Y
 use Rattle.policy.proofs.rules.Policy.Laws as Y′
 use Rattle.lent.proofs.Whole.{opens-whole}
-use Rattle.lent.proofs.Walk.{closes}
-use Rattle.lent.proofs.Calls.{copied, ends-local}
+use Rattle.walks.proofs.Walk.{closes}
+use Rattle.walks.proofs.Calls.{copied, ends-local}
 use Rattle.lent.proofs.PolicyTypes.{R, policy-vals}
 use Rattle.lent.proofs.rules.policy_store.Key as key
 use Rattle.lent.proofs.rules.policy_store as f

@@ -1,8 +1,8 @@
 -- `lent::rules::rules_of` meets its contract: a walk of its MIR, by hand. The reference is looked into, its rules copied, and it is shut.
 -- Assumes nothing.
-use Rattle.lent.proofs.Kit.{refl, ℕ, [], _∷_, List, URA, named, Val, vptr, SProp, ent, emp, via, fst∗, Lft, Share, GName, ftrue, flft, Memory, Routine, Heap, Calls, Loops, WpFn, Atoms, Fun, givenOf, tables, tablesOf, Given, ‵, _⊛_, ⋆, _$_, _∵_, !, qed, by, move, drop, split, join}
-use Rattle.lent.proofs.Kit.{fsplit, fsplit3, fjoin, suffices, frame, done, look, look-raw, init, stop, hop, from, load, of-opd, assigns, returns, enter, alloc1, alloc0, params1, pass1, pass0, free0, owns, Is, RefT, ShrRef, ptr-vals, shr-tells, plain, shrRefTo, owned, nothing, onEntry}
-use Rattle.lent.proofs.Kit.{says, Stays, stay-dropped, walkOf, goes-dropped, ends-at, yes, only, ArrayOf}
+use Rattle.walks.proofs.Kit.{refl, ℕ, [], _∷_, List, URA, named, Val, vptr, SProp, ent, emp, via, fst∗, Lft, Share, GName, ftrue, flft, Memory, Routine, Heap, Calls, Loops, WpFn, Atoms, Fun, givenOf, tables, tablesOf, Given, ‵, _⊛_, ⋆, _$_, _∵_, !, qed, by, move, drop, split, join}
+use Rattle.walks.proofs.Kit.{fsplit, fsplit3, fjoin, suffices, frame, done, look, look-raw, init, stop, hop, from, load, of-opd, assigns, returns, enter, alloc1, alloc0, params1, pass1, pass0, free0, owns, Is, RefT, ShrRef, ptr-vals, shr-tells, plain, shrRefTo, owned, nothing, onEntry}
+use Rattle.walks.proofs.Kit.{says, Stays, stay-dropped, walkOf, goes-dropped, ends-at, yes, only, ArrayOf}
 use denote.Array.{array-lawful, array-copy, array-makes}
 use denote.Steps.{shuts}
 use denote.Struct.Laws as LL
@@ -10,8 +10,8 @@ use Rattle.policy.specs.declared.rules.Rule.{Rule}
 use Rattle.policy.proofs.rules.Rule as X
 use Rattle.policy.proofs.rules.Rule.Laws as X′
 use Rattle.lent.proofs.Whole.{looks-whole}
-use Rattle.lent.proofs.Walk.{closes}
-use Rattle.lent.proofs.Calls.{ends-local}
+use Rattle.walks.proofs.Walk.{closes}
+use Rattle.walks.proofs.Calls.{ends-local}
 use Rattle.lent.proofs.PolicyTypes.{Q, rules-vals, rules-tells}
 use Rattle.lent.proofs.rules.rules_of.Key as key
 use Rattle.lent.proofs.rules.rules_of as f

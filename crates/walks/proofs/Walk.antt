@@ -4,8 +4,8 @@
 --     tested           the two answers of a test
 --     answered         what a covered callee answers, if its `ensures` says so
 -- `closes` is for every `Model` and every `Running`. The rest assumes nothing.
-use Rattle.lent.proofs.Kit.{_≡_, refl, ℕ, _<_, _*_, _^_, arith, Bool, true, false, not, T, URA, ent, sep, Heap, WpFn, Lfts, Shares, givenOf, tables, tablesOf, RattleType, flat, mem, Room, Are, Ises, Spells, valss, typesAt, typeAt, Args, onEntry, Res, Triple, tripleOf, Clauses, Ended}
-use Rattle.lent.proofs.Kit.{closing, Lasts, atExit, lasts, Stays, walkOf, [], _∷_, Val, Atoms, sem, fact, Given, ‵, raw, _⊛_, some, later, _$_, _∵_, !, qed, move, drop, use1, split, pick, rewrite, await, done, heard}
+use Rattle.walks.proofs.Kit.{_≡_, refl, ℕ, _<_, _*_, _^_, arith, Bool, true, false, not, T, URA, ent, sep, Heap, WpFn, Lfts, Shares, givenOf, tables, tablesOf, RattleType, flat, mem, Room, Are, Ises, Spells, valss, typesAt, typeAt, Args, onEntry, Res, Triple, tripleOf, Clauses, Ended}
+use Rattle.walks.proofs.Kit.{closing, Lasts, atExit, lasts, Stays, walkOf, [], _∷_, Val, Atoms, sem, fact, Given, ‵, raw, _⊛_, some, later, _$_, _∵_, !, qed, move, drop, use1, split, pick, rewrite, await, done, heard}
 use native.Mathlib.Nat.{le-of-lt, mul-le-mul-right}
 use mir.Syntax.{Fn}
 use prog.Model.{Model}
