@@ -110,7 +110,7 @@ mod tests {
     #[test]
     fn a_part_that_ends_inside_is_handed_out() {
         assert_eq!(octets(8, 2), [8, 9]);
-        assert_eq!(octets(1, 9), BODY[1..]);
+        assert_eq!(octets(1, 9), &BODY[1..]);
         assert_eq!(hand_out(&BODY, 3, 4, Faults::NONE), Place::in_body(&BODY, 3, 4));
     }
 

@@ -34,7 +34,7 @@ pub extern "C" fn unmavreth_cookie<'s, 'a>(out: &'s mut &'a [u8], body: &'a [u8]
 pub extern "C" fn unmavreth_nat_value<'s, 'a>(out: &'s mut &'a [u8], body: &'a [u8], at: u16)
     ensures { λ _. ⌜ PartOf (body .entry) at natLength (now (out .exit)) ⌝ }
 {
-    *out = parts::data_at(body, at, 20);
+    *out = parts::nat_value(body, at);
 }
 
 // What NO_NATS_ALLOWED held, by the place and the length that a reading told; family 0 if there is none.

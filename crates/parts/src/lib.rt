@@ -1,7 +1,7 @@
 // A thin payload reader: the lent body and a place in it; the data that stands there comes back as a part of the body.
 use values::part;
 ghost use mathlib.Core.Path.{_≡_};
-ghost use Rattle.values.specs.Values.{PartOf};
+ghost use Rattle.values.specs.Values.{PartOf, natLength};
 
 // A body and the place in it at which a payload's data begins.
 pub struct PayloadReader<'a> {
@@ -27,4 +27,11 @@ pub fn data_at<'a>(body: &'a [u8], at: u16, len: u16) -> &'a [u8]
     ensures { λ s. ⌜ PartOf (body .entry) at len s ⌝ }
 {
     octets(reader_at(body, at), len)
+}
+
+// The NAT detection value at a place, as a part of the body that was read; empty if there is none.
+pub fn nat_value<'a>(body: &'a [u8], at: u16) -> &'a [u8]
+    ensures { λ s. ⌜ PartOf (body .entry) at natLength s ⌝ }
+{
+    data_at(body, at, 20)
 }

@@ -1,6 +1,7 @@
 -- A call of a function that is known by its contract, as a step of a walk, whatever the function. The callee requires nothing; x is what its triple binds; the tokens of its lifetimes and what its arguments own stand at the head.
 --     Told             the function's contract.        tokens           the tokens of a signature's lifetimes, as an entry of the context.        plainly       plain arguments are owned for nothing.        beside, gives      the same beside a reference; its token goes along
 --     calls-for        a call whose contract fixes its result r₀: the tokens are back, and r₀'s machine value is stored
+--     calls-told       a call whose contract says φ of its result: the caller has what the result owns, and the tokens
 --     calls-both       a call whose contract fixes its result and says φ of the last values: the caller has what says them, and the tokens
 --     calls-to, calls-to-last      a call that returns nothing, and whose contract says φ of the last values: the caller has what says them, and the tokens; the latter ends a block
 --     Token, token, no-token       the tokens of one lifetime, put together and taken apart.        list-last, ref-last      after a call that a `&mut [T]` or a `&mut T` went to for good: what says its last value, and its token
@@ -9,7 +10,7 @@
 -- Assumes `Given`, and that the table of calls is monotone under a frame.
 use Rattle.walks.proofs.Kit.{_≡_, refl, ap, sym, subst, _∙_, ℕ, zero, suc, List, [], _∷_, URA, fullShare, Name, Place, Body, Ty, seq, call, copy, place, Val, vunit, SProp, ent, sep, emp, id⊢, via, Lft, Share, Fml, ftrue, flft, fsep, fat, fdies, Heap, Env, Calls, Loops, spotOf, Atoms, FmC}
 use Rattle.walks.proofs.Kit.{Lfts, Shares, fact, Goal, Soaks, Post, Given, Item, ‵, raw, _⊛_, some, later, prop, runs, lands, frees, Seq, Step, step, _$_, move, use0, use1, split, join, pick, drop, fsplit, fjoin, feqL, await, Opds, look, stop, from, load, forget, free1, RattleType, Denots}
-use Rattle.walks.proofs.Kit.{Valss, owns, Is, Are, Ises, Makess, Tells, shows, typeAt, typesAt, facts, heard, only, Res, Contract, Triple, calls-at, calls-at-last, tripleOf, Clauses, Ended, Lasts, atExit, lasts, closing}
+use Rattle.walks.proofs.Kit.{Valss, owns, Is, Are, Ises, Makess, Tells, shows, typeAt, typesAt, facts, peeks, heard, only, Res, Contract, Triple, calls-at, calls-at-last, tripleOf, Clauses, Ended, Lasts, atExit, lasts, closing}
 use mir.Syntax.{Opd as Operand}
 use base.Logic.{monoL, monoR, comm∗, assoc∗, assoc′, emp∗}
 use ghost.Atoms.{sem}
@@ -158,6 +159,12 @@ module _ {M : Type 1} {𝓤 : URA M} {H : Heap 𝓤} {A : Atoms 𝓤} {K : Type 
     pub calls-for : {rest : Body} (vals : Of 𝓤 H A T c x .Denot → List Val) → Tells (Of 𝓤 H A T c x) (Is (Of 𝓤 H A T c x)) vals → (r₀ : Of 𝓤 H A T c x .Denot) → ((r : Of 𝓤 H A T c x .Denot) (ws : Ends 𝓤 H A T c x) → ent 𝓤 (Ensures 𝓤 H A T c x r ws) (fact 𝓤 (r ≡ r₀)))
         → (Is (Of 𝓤 H A T c x) r₀ (vals r₀) → Seq K W (Toks 𝓤 H A T c x ∷ Γ) (lands C Λ E d (only (vals r₀)) rest p)) → Seq K W (Toks 𝓤 H A T c x ∷ ‵ (Argued 𝓤 H A T c x) ∷ Γ) (runs C Λ E (seq (call f xs d) rest) p)
     calls-for {rest} vals tl r₀ said k = asked t T c x req $ calls-at t fm (Told 𝓤 H A T c) known x os (fixed t T c x (λ v. lands C Λ E d v rest p) (λ v. tt) vals tl r₀ said k)
+
+    pub calls-told : {rest : Body} (φ : Of 𝓤 H A T c x .Denot → Type 0) → ((r : Of 𝓤 H A T c x .Denot) (ws : Ends 𝓤 H A T c x) → ent 𝓤 (Ensures 𝓤 H A T c x r ws) (fact 𝓤 (φ r)))
+        → ((v : Val) (r : Of 𝓤 H A T c x .Denot) → φ r → Is (Of 𝓤 H A T c x) r (v ∷ []) → Seq K W (‵ (Of 𝓤 H A T c x .own r (v ∷ [])) ∷ Toks 𝓤 H A T c x ∷ Γ) (lands C Λ E d v rest p)) → Seq K W (Toks 𝓤 H A T c x ∷ ‵ (Argued 𝓤 H A T c x) ∷ Γ) (runs C Λ E (seq (call f xs d) rest) p)
+    calls-told {rest} φ said k =
+        asked t T c x req $ calls-at t fm (Told 𝓤 H A T c) known x os (λ v. told t T c x tt v (λ r ws. move t (3 ∷ []) $ use1 W (raw (fact 𝓤 (φ r))) (said r ws) $ heard t (φ r) (λ e.
+        move t (2 ∷ []) $ drop t $ move t (1 ∷ []) $ peeks t (Of 𝓤 H A T c x) (Is (Of 𝓤 H A T c x)) (shows 𝓤 H A (Of 𝓤 H A T c x)) r (v ∷ []) (λ is. k v r e is))))
 
     pub calls-both : {rest : Body} (vals : Of 𝓤 H A T c x .Denot → List Val) → Tells (Of 𝓤 H A T c x) (Is (Of 𝓤 H A T c x)) vals → (r₀ : Of 𝓤 H A T c x .Denot) (φ : Ends 𝓤 H A T c x → Type 0)
         → ((r : Of 𝓤 H A T c x .Denot) (ws : Ends 𝓤 H A T c x) → ent 𝓤 (Ensures 𝓤 H A T c x r ws) (and 𝓤 H A (r ≡ r₀) (fact 𝓤 (φ ws)))) → (Is (Of 𝓤 H A T c x) r₀ (vals r₀) → (ws : Ends 𝓤 H A T c x) → φ ws → Seq K W (‵ (Last 𝓤 H A T c x ws) ∷ Toks 𝓤 H A T c x ∷ Γ) (lands C Λ E d (only (vals r₀)) rest p))

@@ -9,7 +9,7 @@ pub use contract.Running.{givenOf, tables}
 unfoldable pub use contract.Running.{tablesOf}
 pub use denote.Array.{Array}
 pub use denote.ArrayMemory.{Single}
-pub use denote.Builtin.{u32, u64, usize, ArrayOf, bool, unit, u8}
+pub use denote.Builtin.{u32, u64, usize, ArrayOf, bool, unit, u8, u16}
 pub use denote.Exit.{yes}
 pub use denote.Index.{row, place-is, elem-out, elem-put, closes-slice, opens-slice, elem-back}
 pub use denote.Laws.{Is, shows, Are, Ises, Makess, Tells, Copy, Spells, valss}
@@ -17,10 +17,10 @@ pub use denote.Lend.{Held}
 pub use denote.Memory.{pointee, mem, shares, partAt}
 pub use denote.Plain.{uint-makes, uint-vals, uint-tells, nothing-tells, bool-vals, bool-tells, nothing-lawful, bool-makes}
 pub use denote.RattleType.{RattleType, Denots, Valss, owns, flat}
-pub use denote.Ref.{RefT, MutRef, ShrRef, ptr-vals, shr-copy, mut-tells, shr-tells}
-pub use denote.Signature.{typeAt, typesAt, Slot, plain, shrSliceOf, shrRefTo}
-pub use denote.Slice.{sliceTy, sliceVal, Room, heres, codedHoleys, finally, res-finally, MutSlice, ShrSlice, slice-vals, shr-slice-tells, mut-slice-tells}
-pub use denote.Steps.{facts, heard, only, owned, nothing}
+pub use denote.Ref.{RefT, NamedLft, MutRef, ShrRef, ptr-vals, shr-copy, mut-tells, shr-tells}
+pub use denote.Signature.{typeAt, typesAt, Slot, plain, shrSliceOf, shrRefTo, namedLft}
+pub use denote.Slice.{sliceTy, sliceVal, Room, heres, codedHoleys, finally, res-finally, MutSlice, ShrSlice, slice-vals, shr-slice-tells, mut-slice-tells, shr-slice-lawful}
+pub use denote.Steps.{facts, peeks, heard, only, owned, nothing}
 pub use denote.Triple.Call.{calls-at, calls-at-last}
 pub use denote.Triple.Clauses.{Clauses, Ended, Lasts, atExit, lasts, closing, ensured}
 pub use denote.Triple.Entry.{Res, Args, onEntry, Vals}
@@ -40,8 +40,8 @@ pub use mathlib.Core.List.{[], _∷_, List, map}
 pub use mathlib.Core.Path.{_≡_, refl, sym, subst, ap, _∙_}
 pub use mathlib.Core.WellFounded.{WellFounded, InvImage·wf}
 pub use mir.Facts.{eqb-no}
-pub use mir.Syntax.{Name, Ty, Body, copy, int, op2, add, unsigned, place, seq, assign, call, named, mut, w64, tyPtr, tyInt, tyBool, tyRef, Place, erased, w32, imm, tyUnit, w8}
-pub use mir.Val.{Val, vbool, vint, vptr, vunit}
+pub use mir.Syntax.{Name, Ty, Body, copy, int, op2, add, unsigned, place, seq, assign, call, named, mut, w64, tyPtr, tyInt, tyBool, tyRef, Place, erased, w32, imm, tyUnit, w8, w16}
+pub use mir.Val.{Val, vbool, vint, vptr, vunit, WT, hasTy}
 pub use native.Mathlib.Nat.{lt-of-le-of-lt, zero-add}
 pub use native.Mathlib.Numerals.{add-one-le, add-one-dec}
 pub use native.Mathlib.Omega.{arith}
@@ -50,7 +50,7 @@ pub use prog.Routine.{Routine}
 pub use prog.Wp.{Heap, Out, Env, spotOf, afterSeq, afterBlock, Wp, atReturn, Tables, Calls, Loops, WpFn}
 unfoldable pub use prog.Wp.{afterTurn}
 pub use sound.WpLaws.{fmOf, FmC}
-pub use types.Kit.{Given, Item, ‵, raw, ⋆, later, runs, anyQ, atRet, Sq, _$_, !, move, drop, use0, use1, rewrite, await, Goal, Soaks, Post, _⊛_, some, prop, lands, frees, Seq, Step, step, split, join, pick, fsplit, fjoin, feqL, use2, feqI, fsplit3, _∵_, qed, done, by, suffices, frame, keep}
+pub use types.Kit.{Given, given, learn, Item, ‵, raw, ⋆, later, runs, anyQ, atRet, Sq, _$_, !, move, drop, use0, use1, rewrite, await, Goal, Soaks, Post, _⊛_, some, prop, lands, frees, Seq, Step, step, split, join, pick, fsplit, fjoin, feqL, use2, feqI, fsplit3, _∵_, qed, done, by, suffices, frame, keep}
 pub use types.Part.{whole, sub, look-in, agg}
 pub use types.Run.{Opds, look, look-raw, init, store, store-raw, forget, stop, hop, fld, load, lit, of-opd, bin, assigns, assigns-last, land, first, blocks, stays, leaves-loop, exec, Below, again, loops, from, free1, branches, skips, returns, returns-within, enter, alloc1, alloc0, params1, pass1, pass0, free0, unit-lit, addr, no-more, and-then, land-last}
 pub use types.Share.{arr-parts}
