@@ -1,6 +1,6 @@
 // The calls that a host links: each hands its arguments to a proved function and gives back what that says.
+pub mod calls;
 pub mod chain;
 pub mod handler;
-pub mod records;
 pub mod responses;
 pub mod writer;

@@ -1,4 +1,4 @@
--- `host::records::unmavreth_acceptable` meets its contract: a walk of its MIR, by hand. The policy is read by `policy_of`, and the covered `is_acceptable` decides.
+-- `host::calls::unmavreth_acceptable` meets its contract: a walk of its MIR, by hand. The policy is read by `policy_of`, and the covered `is_acceptable` decides.
 -- Assumes nothing.
 use Rattle.walks.proofs.Kit.{refl, [], _∷_, List, URA, named, Val, vbool, SProp, ent, emp, via, id⊢, fst∗, flft, Memory, Routine, Heap, Calls, Loops, WpFn, Atoms, Lfts, Shares, Fun, givenOf, tables, tablesOf, Given, ‵, ⋆, _$_, _∵_, !, qed, by, move, drop, join, keep, fsplit, fjoin, suffices, frame, done, look, init, stop, from}
 use Rattle.walks.proofs.Kit.{and-then, no-more, land, returns, enter, alloc1, alloc0, params1, pass1, pass0, free0, FmC, fmOf, owns, flat, Is, Spells, valss, bool-makes, bool-vals, bool-tells, bool, RefT, ptr-vals, shr-tells, plain, shrRefTo, typesAt, owned, nothing, Triple, Args, Vals, onEntry, cited, says, Stays, stay-dropped, walkOf, goes-dropped, ends-at, yes}
@@ -20,10 +20,10 @@ use Rattle.lent_policy.proofs.PolicyTypes.{R, policy-vals}
 use Rattle.lent_policy.proofs.rules.policy_of as read
 use Rattle.lent_policy.proofs.rules.policy_of.Symbol as read-def
 use Rattle.lent_policy.proofs.rules.policy_of.Met as read-thm
-use Rattle.host.proofs.records.unmavreth_acceptable.Key as key
-use Rattle.host.proofs.records.unmavreth_acceptable as f
-use Rattle.host.proofs.records.unmavreth_acceptable.Statement as stated
-use Rattle.host.proofs.records.unmavreth_acceptable.Code as code
+use Rattle.host.proofs.calls.unmavreth_acceptable.Key as key
+use Rattle.host.proofs.calls.unmavreth_acceptable as f
+use Rattle.host.proofs.calls.unmavreth_acceptable.Statement as stated
+use Rattle.host.proofs.calls.unmavreth_acceptable.Code as code
 
 abbrev stayed : Stays (f.ended .signature .params) (f.ended .kept)
 stayed = (stay-dropped (shrRefTo (0 ∷ []) tt (plain (λ _. R))) yes, (stay-dropped (plain (λ _. P.the-row)) yes, tt))

@@ -1,4 +1,4 @@
--- `host::records::unmavreth_open_ipsec` meets its contract: a walk of its MIR, by hand. The list is lent to `ipsec_count` and `ipsec_place`, the table goes to `ike_place` and `ike_at`, the covered `ipsec_opening` decides, and the list is passed for good to `ipsec_store`.
+-- `host::calls::unmavreth_open_ipsec` meets its contract: a walk of its MIR, by hand. The list is lent to `ipsec_count` and `ipsec_place`, the table goes to `ike_place` and `ike_at`, the covered `ipsec_opening` decides, and the list is passed for good to `ipsec_store`.
 -- Assumes nothing.
 use Rattle.walks.proofs.Kit.{_≡_, refl, ℕ, _<_, _^_, [], _∷_, List, lit<, length, getD, set, URA, named, w8, w32, w64, Val, vint, SProp, ent, emp, via, id⊢, fst∗, flft, Memory, Routine, Heap, Calls, Loops, WpFn, Atoms, Lfts, Shares, Fun, givenOf, tables, tablesOf, Given, ‵, ⋆, _$_, _∵_, ! }
 use Rattle.walks.proofs.Kit.{qed, by, move, keep, drop, split, join, fsplit, fjoin, suffices, frame, done, look, init, stop, hop, fld, from, load, lit, of-opd, addr, assigns, and-then, no-more, land, returns, enter, alloc1, alloc0, params1, pass1, pass0, free0, whole, sub, look-in, agg}
@@ -40,10 +40,10 @@ use Rattle.lent_ipsec.proofs.places.ipsec_place.Met as place-thm
 use Rattle.lent_ipsec.proofs.places.ipsec_store as store
 use Rattle.lent_ipsec.proofs.places.ipsec_store.Symbol as store-def
 use Rattle.lent_ipsec.proofs.places.ipsec_store.Met as store-thm
-use Rattle.host.proofs.records.unmavreth_open_ipsec.Key as key
-use Rattle.host.proofs.records.unmavreth_open_ipsec as f
-use Rattle.host.proofs.records.unmavreth_open_ipsec.Statement as stated
-use Rattle.host.proofs.records.unmavreth_open_ipsec.Code as code
+use Rattle.host.proofs.calls.unmavreth_open_ipsec.Key as key
+use Rattle.host.proofs.calls.unmavreth_open_ipsec as f
+use Rattle.host.proofs.calls.unmavreth_open_ipsec.Statement as stated
+use Rattle.host.proofs.calls.unmavreth_open_ipsec.Code as code
 
 abbrev table : Slot 2
 table = ArrayOf (plain (λ _. Rₖ)) (λ κs. tt) 32

@@ -1,4 +1,4 @@
--- `host::records::unmavreth_set_policy` meets its contract: a walk of its MIR, by hand. The policy is lent to `policy_of` and the rules read by `rules_of`, the covered `set_policy` decides, and the policy is passed for good to `policy_store`.
+-- `host::calls::unmavreth_set_policy` meets its contract: a walk of its MIR, by hand. The policy is lent to `policy_of` and the rules read by `rules_of`, the covered `set_policy` decides, and the policy is passed for good to `policy_store`.
 -- Assumes nothing.
 use Rattle.walks.proofs.Kit.{_≡_, refl, ℕ, _<_, _^_, [], _∷_, List, URA, named, w8, Val, vint, SProp, ent, emp, via, id⊢, fst∗, flft, fres, Memory, Routine, Heap, Calls, Loops, WpFn, Atoms, Lfts, Shares, Fun, givenOf, tables, tablesOf, Given, ‵, ⋆, _$_, _∵_, !, qed, by, move, drop, join, split, keep}
 use Rattle.walks.proofs.Kit.{fsplit, fjoin, suffices, frame, done, look, init, stop, hop, fld, from, load, of-opd, addr, assigns, and-then, no-more, land, returns, enter, alloc1, alloc0, params1, pass1, pass0, free0, whole, sub, look-in, FmC, fmOf, owns, flat, Is, Spells, valss, uint-makes, uint-vals, uint-tells, u8, RefT, ptr-vals}
@@ -33,10 +33,10 @@ use Rattle.lent_policy.proofs.rules.rules_of.Met as list-thm
 use Rattle.lent_policy.proofs.rules.policy_store as store
 use Rattle.lent_policy.proofs.rules.policy_store.Symbol as store-def
 use Rattle.lent_policy.proofs.rules.policy_store.Met as store-thm
-use Rattle.host.proofs.records.unmavreth_set_policy.Key as key
-use Rattle.host.proofs.records.unmavreth_set_policy as f
-use Rattle.host.proofs.records.unmavreth_set_policy.Statement as stated
-use Rattle.host.proofs.records.unmavreth_set_policy.Code as code
+use Rattle.host.proofs.calls.unmavreth_set_policy.Key as key
+use Rattle.host.proofs.calls.unmavreth_set_policy as f
+use Rattle.host.proofs.calls.unmavreth_set_policy.Statement as stated
+use Rattle.host.proofs.calls.unmavreth_set_policy.Code as code
 
 abbrev kept : Slot 2
 kept = plain (λ _. R)

@@ -1,4 +1,4 @@
--- `host::records::unmavreth_close_ike` meets its contract: a walk of its MIR, by hand. The list is lent to `ipsec_count` and the table to `ike_place`, the covered `ike_closing` decides, and then the table is passed for good to `ike_store`, and the list to `release_if`.
+-- `host::calls::unmavreth_close_ike` meets its contract: a walk of its MIR, by hand. The list is lent to `ipsec_count` and the table to `ike_place`, the covered `ike_closing` decides, and then the table is passed for good to `ike_store`, and the list to `release_if`.
 -- Assumes nothing.
 use Rattle.walks.proofs.Kit.{_≡_, refl, ℕ, _<_, _^_, cond, [], _∷_, List, map, eqb, length, set, URA, named, w8, w64, Val, vint, SProp, ent, emp, via, id⊢, fst∗, flft, fres, Memory, Routine, Heap, Calls, Loops, WpFn, Atoms, Lfts, Shares, Fun, givenOf, tables, tablesOf, Given, ‵, ⋆, _$_}
 use Rattle.walks.proofs.Kit.{_∵_, !, qed, by, move, drop, split, join, fsplit, fjoin, suffices, frame, done, look, init, stop, hop, fld, from, load, lit, of-opd, bin, addr, assigns, and-then, no-more, land, returns, enter, alloc1, alloc0, params1, pass1, pass0, free0, whole, sub, look-in}
@@ -35,10 +35,10 @@ use Rattle.lent_ipsec.proofs.owned.ipsec_count.Met as count-thm
 use Rattle.lent_ipsec.proofs.owned.release_if as release
 use Rattle.lent_ipsec.proofs.owned.release_if.Symbol as release-def
 use Rattle.lent_ipsec.proofs.owned.release_if.Met as release-thm
-use Rattle.host.proofs.records.unmavreth_close_ike.Key as key
-use Rattle.host.proofs.records.unmavreth_close_ike as f
-use Rattle.host.proofs.records.unmavreth_close_ike.Statement as stated
-use Rattle.host.proofs.records.unmavreth_close_ike.Code as code
+use Rattle.host.proofs.calls.unmavreth_close_ike.Key as key
+use Rattle.host.proofs.calls.unmavreth_close_ike as f
+use Rattle.host.proofs.calls.unmavreth_close_ike.Statement as stated
+use Rattle.host.proofs.calls.unmavreth_close_ike.Code as code
 
 abbrev table : Slot 2
 table = ArrayOf (plain (λ _. Rₖ)) (λ κs. tt) 32

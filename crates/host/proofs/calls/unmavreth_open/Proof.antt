@@ -1,4 +1,4 @@
--- `host::records::unmavreth_open` meets its contract: a walk of its MIR, by hand. The list is lent to `ipsec_count`, the table twice to `ike_place` and the list twice to `ipsec_place`, the covered `both_opening` decides, and then the table is passed for good to `ike_store`, and the list to `ipsec_store`.
+-- `host::calls::unmavreth_open` meets its contract: a walk of its MIR, by hand. The list is lent to `ipsec_count`, the table twice to `ike_place` and the list twice to `ipsec_place`, the covered `both_opening` decides, and then the table is passed for good to `ike_store`, and the list to `ipsec_store`.
 -- Assumes nothing.
 use Rattle.walks.proofs.Kit.{_≡_, refl, ℕ, _<_, _^_, [], _∷_, List, lit<, length, set, URA, named, w8, w64, Val, vint, SProp, ent, emp, via, id⊢, fst∗, flft, fres, Memory, Routine, Heap, Calls, Loops, WpFn, Atoms, Lfts, Shares, Fun, givenOf, tables, tablesOf, Given, ‵, ⋆, _$_}
 use Rattle.walks.proofs.Kit.{_∵_, !, qed, by, move, drop, split, join, fsplit, fjoin, suffices, frame, done, look, init, stop, hop, fld, from, load, lit, of-opd, addr, assigns, and-then, no-more, land, returns, enter, alloc1, alloc0, params1, pass1, pass0, free0, whole, sub, look-in}
@@ -41,10 +41,10 @@ use Rattle.lent_ipsec.proofs.places.ipsec_place.Met as place-thm
 use Rattle.lent_ipsec.proofs.places.ipsec_store as store
 use Rattle.lent_ipsec.proofs.places.ipsec_store.Symbol as store-def
 use Rattle.lent_ipsec.proofs.places.ipsec_store.Met as store-thm
-use Rattle.host.proofs.records.unmavreth_open.Key as key
-use Rattle.host.proofs.records.unmavreth_open as f
-use Rattle.host.proofs.records.unmavreth_open.Statement as stated
-use Rattle.host.proofs.records.unmavreth_open.Code as code
+use Rattle.host.proofs.calls.unmavreth_open.Key as key
+use Rattle.host.proofs.calls.unmavreth_open as f
+use Rattle.host.proofs.calls.unmavreth_open.Statement as stated
+use Rattle.host.proofs.calls.unmavreth_open.Code as code
 
 abbrev val : RattleType → Slot 2
 val T = plain (λ _. T)
