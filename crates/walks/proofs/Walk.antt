@@ -2,9 +2,10 @@
 --     closes           a walk of a function's MIR, from the parameters' machine values on, gives the function's contract at its entry of the table
 --     offset-fits      the offset of an element of a slice fits its word
 --     tested           the two answers of a test
+--     local            where a local stands
 --     answered         what a covered callee answers, if its `ensures` says so
 -- `closes` is for every `Model` and every `Running`. The rest assumes nothing.
-use Rattle.walks.proofs.Kit.{_≡_, refl, ℕ, _<_, _*_, _^_, arith, Bool, true, false, not, T, URA, ent, sep, Heap, WpFn, Lfts, Shares, givenOf, tables, tablesOf, RattleType, flat, mem, Room, Are, Ises, Spells, valss, typesAt, typeAt, Args, onEntry, Res, Triple, tripleOf, Clauses, Ended}
+use Rattle.walks.proofs.Kit.{_≡_, refl, ℕ, _+_, _-_, _<_, _*_, _^_, arith, Bool, true, false, not, T, URA, ent, sep, Heap, WpFn, Lfts, Shares, givenOf, tables, tablesOf, RattleType, flat, mem, Room, Are, Ises, Spells, valss, typesAt, typeAt, Args, onEntry, Res, Triple, tripleOf, Clauses, Ended}
 use Rattle.walks.proofs.Kit.{closing, Lasts, atExit, lasts, Stays, walkOf, [], _∷_, Val, Atoms, sem, fact, Given, ‵, raw, _⊛_, some, later, _$_, _∵_, !, qed, move, drop, use1, split, pick, rewrite, await, done, heard}
 use native.Mathlib.Nat.{le-of-lt, mul-le-mul-right}
 use mir.Syntax.{Fn}
@@ -20,6 +21,10 @@ use denote.Triple.Entry.{alive}
 use denote.Triple.Table.{entered}
 use denote.Triple.Walked.{AllGo, walked, walk-meets}
 use types.Kit.{updating, now as at-once}
+
+-- the place of local i, of 0 to `last`, in a walk's context, behind `front` entries that are no locals: each local has two
+abbrev pub local : ℕ → ℕ → ℕ → ℕ
+local last front i = front + 2 * (last - i)
 
 pub tested : (y : Bool) {X : Type 1} → (T y → y ≡ true → X) → (T (not y) → y ≡ false → X) → X
 tested true held failed = held tt refl

@@ -16,7 +16,7 @@ use Rattle.tables.proofs.calls.IpsecChange.Laws as D′
 use Rattle.tables.proofs.calls.ipsec_closing as closing
 use Rattle.tables.proofs.calls.ipsec_closing.Symbol as closing-def
 use Rattle.tables.proofs.calls.ipsec_closing.Met as closing-thm
-use Rattle.walks.proofs.Walk.{closes}
+use Rattle.walks.proofs.Walk.{closes, local}
 use Rattle.walks.proofs.Calls.{_&_, tokens, Told, no-token, plainly, calls-for, copied, ends-local}
 use Rattle.lent.proofs.Asked.{counts, finds-ipsec, stores-ipsec}
 use Rattle.lent_ipsec.proofs.IpsecTable.{R}
@@ -33,6 +33,9 @@ use Rattle.host.proofs.calls.unmavreth_close_ipsec.Key as key
 use Rattle.host.proofs.calls.unmavreth_close_ipsec as f
 use Rattle.host.proofs.calls.unmavreth_close_ipsec.Statement as stated
 use Rattle.host.proofs.calls.unmavreth_close_ipsec.Code as code
+-- where parameter i stands among what is had, behind so many entries that are no locals
+abbrev param : ℕ → ℕ → ℕ
+param = local 12
 
 abbrev stayed : Stays (f.ended .signature .params) (f.ended .kept)
 stayed = (gave-slice (0 ∷ []) tt (plain (λ _. R)), (stay-dropped (plain (λ _. u32)) yes, tt))
@@ -72,21 +75,21 @@ module _ {M : Type 1} (𝓤 : URA M) (H : Heap 𝓤) (A : Atoms 𝓤) (W : Given
     walk =
         qed W (tokens 𝓤 1 κs qs ∷ ‵ (owns (typesAt (f.signature .params) κs) a vals) ∷ []) ∵ enter ! C Λ code.function (flat (typesAt (f.signature .params) κs) vals) _ $
         alloc1 ! (λ l₀. alloc1 ! (λ l₁. alloc1 ! (λ l₂. alloc1 ! (λ l₃. alloc1 ! (λ l₄. alloc1 ! (λ l₅. alloc1 ! (λ l₆. alloc1 ! (λ l₇. alloc1 ! (λ l₈. alloc1 ! (λ l₉. alloc1 ! (λ l₁₀. alloc1 ! (λ l₁₁. alloc1 ! (λ l₁₂. alloc0 ! $ params1 ! $
-        pass1 ! (init ! 22 refl (tt, (tt, (record { fits = room .0 }, tt)))) $ pass1 ! (init ! 20 refl (tt, record { fits = k-fits })) $ pass0 ! $
+        pass1 ! (init ! (param 0 1) refl (tt, (tt, (record { fits = room .0 }, tt)))) $ pass1 ! (init ! (param 0 2) refl (tt, record { fits = k-fits })) $ pass0 ! $
         move ! (27 ∷ []) $ fsplit ! $ move ! (1 ∷ []) $ drop ! $ move ! (27 ∷ []) $ no-token ! $ move ! (1 ∷ []) $
         -- [the list; its token; _12 at 2; …; _i at 26 - 2 i; …; _0 at 26; …]
-        assigns ! (addr ! (from ! (fld ! refl (hop ! (look-in ! 24 (sub ! 0 refl (whole !))) (stop !))))) (from ! (stop !)) (init ! 14 refl (tt, tt)) $
-        assigns ! (agg ! (and-then ! (copied ! 14 refl) (and-then ! (load ! (from ! (fld ! refl (stop !))) (look-in ! 24 (sub ! 1 refl (whole !)))) (no-more !)))) (from ! (stop !)) (init ! 12 refl (tt, (tt, (record { fits = room .0 }, tt)))) $
+        assigns ! (addr ! (from ! (fld ! refl (hop ! (look-in ! (param 2 1) (sub ! 0 refl (whole !))) (stop !))))) (from ! (stop !)) (init ! 14 refl (tt, tt)) $
+        assigns ! (agg ! (and-then ! (copied ! 14 refl) (and-then ! (load ! (from ! (fld ! refl (stop !))) (look-in ! (param 2 1) (sub ! 1 refl (whole !)))) (no-more !)))) (from ! (stop !)) (init ! 12 refl (tt, (tt, (record { fits = room .0 }, tt)))) $
         counts ! fm at-mem run x known-count room (λ i j. (and-then ! (copied ! 12 refl) (no-more !))) $ land ! (from ! (stop !)) (init ! 20 refl (tt, record { fits = room .0 })) $
-        assigns ! (addr ! (from ! (fld ! refl (hop ! (look-in ! 24 (sub ! 0 refl (whole !))) (stop !))))) (from ! (stop !)) (init ! 10 refl (tt, tt)) $
-        assigns ! (agg ! (and-then ! (copied ! 10 refl) (and-then ! (load ! (from ! (fld ! refl (stop !))) (look-in ! 24 (sub ! 1 refl (whole !)))) (no-more !)))) (from ! (stop !)) (init ! 8 refl (tt, (tt, (record { fits = room .0 }, tt)))) $
-        finds-ipsec ! fm at-mem run x known-place room k k-fits (λ i j. (and-then ! (copied ! 8 refl) (and-then ! (copied ! 22 refl) (no-more !)))) (λ found-fits. land ! (from ! (stop !)) (init ! 18 refl (tt, record { fits = found-fits })) $
+        assigns ! (addr ! (from ! (fld ! refl (hop ! (look-in ! (param 2 1) (sub ! 0 refl (whole !))) (stop !))))) (from ! (stop !)) (init ! 10 refl (tt, tt)) $
+        assigns ! (agg ! (and-then ! (copied ! 10 refl) (and-then ! (load ! (from ! (fld ! refl (stop !))) (look-in ! (param 2 1) (sub ! 1 refl (whole !)))) (no-more !)))) (from ! (stop !)) (init ! 8 refl (tt, (tt, (record { fits = room .0 }, tt)))) $
+        finds-ipsec ! fm at-mem run x known-place room k k-fits (λ i j. (and-then ! (copied ! 8 refl) (and-then ! (copied ! (param 2 2) refl) (no-more !)))) (λ found-fits. land ! (from ! (stop !)) (init ! 18 refl (tt, record { fits = found-fits })) $
         plainly ! (usize ∷ u32 ∷ usize ∷ []) (uint-makes 𝓤 H A W w64 & uint-makes 𝓤 H A W w32 & uint-makes 𝓤 H A W w64 & tt) (length (x .now), (k, (found, tt))) (uint-vals w64 (length (x .now)), (uint-vals w32 k, (uint-vals w64 found, tt))) ((refl, room .0), ((refl, k-fits), ((refl, found-fits), tt))) $
         calls-for ! fm closing.ended (closing.clauses 𝓤 H A at-mem run) known-closing ((tt, tt, tt, (length (x .now), (k, (found, tt))), (uint-vals w64 (length (x .now)), (uint-vals w32 k, (uint-vals w64 found, tt)))), tt) (id⊢ 𝓤 _)
-        (and-then ! (copied ! 21 refl) (and-then ! (copied ! 23 refl) (and-then ! (copied ! 19 refl) (no-more !)))) (LL.vals D.the-type D′.the-laws) (LL.tells D.the-type D′.the-laws) c (λ r ws. id⊢ 𝓤 _) (λ is. drop ! $
+        (and-then ! (copied ! 21 refl) (and-then ! (copied ! (param 3 2) refl) (and-then ! (copied ! 19 refl) (no-more !)))) (LL.vals D.the-type D′.the-laws) (LL.tells D.the-type D′.the-laws) c (λ r ws. id⊢ 𝓤 _) (λ is. drop ! $
         land ! (from ! (stop !)) (init ! 16 refl (LL.lawful D.the-type D′.the-laws 𝓤 H A W .typed c _ is .0)) $
-        assigns ! (addr ! (from ! (fld ! refl (hop ! (look-in ! 24 (sub ! 0 refl (whole !))) (stop !))))) (from ! (stop !)) (init ! 4 refl (tt, tt)) $
-        assigns ! (agg ! (and-then ! (copied ! 4 refl) (and-then ! (load ! (from ! (fld ! refl (stop !))) (look-in ! 24 (sub ! 1 refl (whole !)))) (no-more !)))) (from ! (stop !)) (init ! 2 refl (tt, (tt, (record { fits = room .0 }, tt)))) $
+        assigns ! (addr ! (from ! (fld ! refl (hop ! (look-in ! (param 2 1) (sub ! 0 refl (whole !))) (stop !))))) (from ! (stop !)) (init ! 4 refl (tt, tt)) $
+        assigns ! (agg ! (and-then ! (copied ! 4 refl) (and-then ! (load ! (from ! (fld ! refl (stop !))) (look-in ! (param 2 1) (sub ! 1 refl (whole !)))) (no-more !)))) (from ! (stop !)) (init ! 2 refl (tt, (tt, (record { fits = room .0 }, tt)))) $
         stores-ipsec ! fm at-mem run x known-store (c .place) (c .entry) (LL.owed D.the-type D′.the-laws c _ is .1 .0) (LL.owed D.the-type D′.the-laws c _ is .1 .1 .0) (λ j. (and-then ! (copied ! 1 refl) (and-then ! (load ! (from ! (fld ! refl (stop !))) (look-in ! 15 (sub ! 1 refl (whole !)))) (and-then ! (load ! (from ! (fld ! refl (stop !))) (look-in ! 15 (sub ! 2 refl (whole !)))) (no-more !))))) (λ zs e l.
         -- [what says the last list; the token; the locals as before]
         land ! (from ! (stop !)) (init ! 6 refl (tt, tt)) $

@@ -19,7 +19,7 @@ use Rattle.tables.proofs.calls.IpsecChange.Laws as D′
 use Rattle.tables.proofs.calls.ipsec_opening as opening
 use Rattle.tables.proofs.calls.ipsec_opening.Symbol as opening-def
 use Rattle.tables.proofs.calls.ipsec_opening.Met as opening-thm
-use Rattle.walks.proofs.Walk.{closes}
+use Rattle.walks.proofs.Walk.{closes, local}
 use Rattle.walks.proofs.Calls.{_&_, tokens, Told, no-token, plainly, calls-for, copied, ends-local}
 use Rattle.lent.proofs.Asked.{counts, finds-ipsec, stores-ipsec}
 use Rattle.walks.proofs.Loans.{array-long, copies-ref}
@@ -44,6 +44,9 @@ use Rattle.host.proofs.calls.unmavreth_open_ipsec.Key as key
 use Rattle.host.proofs.calls.unmavreth_open_ipsec as f
 use Rattle.host.proofs.calls.unmavreth_open_ipsec.Statement as stated
 use Rattle.host.proofs.calls.unmavreth_open_ipsec.Code as code
+-- where parameter i stands among what is had, behind so many entries that are no locals
+abbrev param : ℕ → ℕ → ℕ
+param = local 19
 
 abbrev table : Slot 2
 table = ArrayOf (plain (λ _. Rₖ)) (λ κs. tt) 32
@@ -96,30 +99,30 @@ module _ {M : Type 1} (𝓤 : URA M) (H : Heap 𝓤) (A : Atoms 𝓤) (W : Given
     walk =
         qed W (tokens 𝓤 2 κs qs ∷ ‵ (owns (typesAt (f.signature .params) κs) a vals) ∷ []) ∵ enter ! C Λ code.function (flat (typesAt (f.signature .params) κs) vals) _ $
         alloc1 ! (λ l₀. alloc1 ! (λ l₁. alloc1 ! (λ l₂. alloc1 ! (λ l₃. alloc1 ! (λ l₄. alloc1 ! (λ l₅. alloc1 ! (λ l₆. alloc1 ! (λ l₇. alloc1 ! (λ l₈. alloc1 ! (λ l₉. alloc1 ! (λ l₁₀. alloc1 ! (λ l₁₁. alloc1 ! (λ l₁₂. alloc1 ! (λ l₁₃. alloc1 ! (λ l₁₄. alloc1 ! (λ l₁₅. alloc1 ! (λ l₁₆. alloc1 ! (λ l₁₇. alloc1 ! (λ l₁₈. alloc1 ! (λ l₁₉. alloc0 ! $ params1 ! $
-        pass1 ! (init ! 36 refl (tt, tt)) $ pass1 ! (init ! 34 refl (tt, (tt, (record { fits = room .0 }, tt)))) $ pass1 ! (init ! 32 refl (tt, record { fits = k-fits })) $ pass1 ! (init ! 30 refl (tt, record { fits = n-fits })) $ pass0 ! $
+        pass1 ! (init ! (param 0 1) refl (tt, tt)) $ pass1 ! (init ! (param 0 2) refl (tt, (tt, (record { fits = room .0 }, tt)))) $ pass1 ! (init ! (param 0 3) refl (tt, record { fits = k-fits })) $ pass1 ! (init ! (param 0 4) refl (tt, record { fits = n-fits })) $ pass0 ! $
         move ! (41 ∷ []) $ fsplit ! $ move ! (1 ∷ []) $ fsplit ! $ move ! (1 ∷ []) $ drop ! $ move ! (42 ∷ []) $ split ! $ move ! (1 ∷ []) $ no-token ! $ move ! (3 ∷ 1 ∷ 2 ∷ 0 ∷ []) $
         array-long ! tt Rₖ y 32 tt ike-vals (LL.tells I.the-type I′.the-laws) (LL.copy I.the-type I′.the-copy 𝓤 H A W) (λ long. move ! (2 ∷ 3 ∷ []) $
         -- [the list; its token; the table; its token; _19 at 4; …; _i at 42 - 2 i; …; _0 at 42; …]
-        assigns ! (addr ! (from ! (fld ! refl (hop ! (look-in ! 38 (sub ! 0 refl (whole !))) (stop !))))) (from ! (stop !)) (init ! 20 refl (tt, tt)) $
-        assigns ! (agg ! (and-then ! (copied ! 20 refl) (and-then ! (load ! (from ! (fld ! refl (stop !))) (look-in ! 38 (sub ! 1 refl (whole !)))) (no-more !)))) (from ! (stop !)) (init ! 18 refl (tt, (tt, (record { fits = room .0 }, tt)))) $
+        assigns ! (addr ! (from ! (fld ! refl (hop ! (look-in ! (param 4 2) (sub ! 0 refl (whole !))) (stop !))))) (from ! (stop !)) (init ! 20 refl (tt, tt)) $
+        assigns ! (agg ! (and-then ! (copied ! 20 refl) (and-then ! (load ! (from ! (fld ! refl (stop !))) (look-in ! (param 4 2) (sub ! 1 refl (whole !)))) (no-more !)))) (from ! (stop !)) (init ! 18 refl (tt, (tt, (record { fits = room .0 }, tt)))) $
         counts ! fm at-mem run x known-count room (λ i j. (and-then ! (copied ! 18 refl) (no-more !))) $ land ! (from ! (stop !)) (init ! 32 refl (tt, record { fits = room .0 })) $
         move ! (2 ∷ 3 ∷ []) $ copies-ref ! tt Q y (u64 ∷ []) (uint-makes 𝓤 H A W w64, tt) (n, tt) (uint-vals w64 n, tt) ((refl, n-fits), tt) $ calls-for ! fm home-of.ended (home-of.clauses 𝓤 H A at-mem run) known-home-of (((κs .0, tt), (qs .0, tt), tt, (y, (n, tt)), (ptr-vals y, (uint-vals w64 n, tt))), tt) (id⊢ 𝓤 _)
-        (and-then ! (copied ! 40 refl) (and-then ! (copied ! 34 refl) (no-more !))) (uint-vals w64) (uint-tells w64) home (λ r ws. id⊢ 𝓤 _) (λ home-is. no-token ! $ move ! (1 ∷ []) $ land ! (from ! (stop !)) (init ! 30 refl (tt, record { fits = home-is .1 })) $
+        (and-then ! (copied ! (param 4 1) refl) (and-then ! (copied ! (param 4 4) refl) (no-more !))) (uint-vals w64) (uint-tells w64) home (λ r ws. id⊢ 𝓤 _) (λ home-is. no-token ! $ move ! (1 ∷ []) $ land ! (from ! (stop !)) (init ! 30 refl (tt, record { fits = home-is .1 })) $
         copies-ref ! tt Q y (u64 ∷ []) (uint-makes 𝓤 H A W w64, tt) (home, tt) (uint-vals w64 home, tt) (home-is, tt) $ calls-for ! fm record-at.ended (record-at.clauses 𝓤 H A at-mem run) known-record-at (((κs .0, tt), (qs .0, tt), tt, (y, (home, tt)), (ptr-vals y, (uint-vals w64 home, tt))), tt) (id⊢ 𝓤 _)
-        (and-then ! (copied ! 40 refl) (and-then ! (copied ! 30 refl) (no-more !))) ike-vals (LL.tells I.the-type I′.the-laws) owner (λ r ws. id⊢ 𝓤 _) (λ owner-is. no-token ! $ move ! (1 ∷ []) $ land ! (from ! (stop !)) (init ! 28 refl (LL.lawful I.the-type I′.the-laws 𝓤 H A W .typed owner _ owner-is .0)) $ move ! (2 ∷ 3 ∷ []) $
-        assigns ! (addr ! (from ! (fld ! refl (hop ! (look-in ! 38 (sub ! 0 refl (whole !))) (stop !))))) (from ! (stop !)) (init ! 16 refl (tt, tt)) $
-        assigns ! (agg ! (and-then ! (copied ! 16 refl) (and-then ! (load ! (from ! (fld ! refl (stop !))) (look-in ! 38 (sub ! 1 refl (whole !)))) (no-more !)))) (from ! (stop !)) (init ! 14 refl (tt, (tt, (record { fits = room .0 }, tt)))) $
-        finds-ipsec ! fm at-mem run x known-place room k k-fits (λ i j. (and-then ! (copied ! 14 refl) (and-then ! (copied ! 36 refl) (no-more !)))) (λ taken-fits. land ! (from ! (stop !)) (init ! 26 refl (tt, record { fits = taken-fits })) $
-        assigns ! (addr ! (from ! (fld ! refl (hop ! (look-in ! 38 (sub ! 0 refl (whole !))) (stop !))))) (from ! (stop !)) (init ! 12 refl (tt, tt)) $
-        assigns ! (agg ! (and-then ! (copied ! 12 refl) (and-then ! (load ! (from ! (fld ! refl (stop !))) (look-in ! 38 (sub ! 1 refl (whole !)))) (no-more !)))) (from ! (stop !)) (init ! 10 refl (tt, (tt, (record { fits = room .0 }, tt)))) $
+        (and-then ! (copied ! (param 4 1) refl) (and-then ! (copied ! 30 refl) (no-more !))) ike-vals (LL.tells I.the-type I′.the-laws) owner (λ r ws. id⊢ 𝓤 _) (λ owner-is. no-token ! $ move ! (1 ∷ []) $ land ! (from ! (stop !)) (init ! 28 refl (LL.lawful I.the-type I′.the-laws 𝓤 H A W .typed owner _ owner-is .0)) $ move ! (2 ∷ 3 ∷ []) $
+        assigns ! (addr ! (from ! (fld ! refl (hop ! (look-in ! (param 4 2) (sub ! 0 refl (whole !))) (stop !))))) (from ! (stop !)) (init ! 16 refl (tt, tt)) $
+        assigns ! (agg ! (and-then ! (copied ! 16 refl) (and-then ! (load ! (from ! (fld ! refl (stop !))) (look-in ! (param 4 2) (sub ! 1 refl (whole !)))) (no-more !)))) (from ! (stop !)) (init ! 14 refl (tt, (tt, (record { fits = room .0 }, tt)))) $
+        finds-ipsec ! fm at-mem run x known-place room k k-fits (λ i j. (and-then ! (copied ! 14 refl) (and-then ! (copied ! (param 4 3) refl) (no-more !)))) (λ taken-fits. land ! (from ! (stop !)) (init ! 26 refl (tt, record { fits = taken-fits })) $
+        assigns ! (addr ! (from ! (fld ! refl (hop ! (look-in ! (param 4 2) (sub ! 0 refl (whole !))) (stop !))))) (from ! (stop !)) (init ! 12 refl (tt, tt)) $
+        assigns ! (agg ! (and-then ! (copied ! 12 refl) (and-then ! (load ! (from ! (fld ! refl (stop !))) (look-in ! (param 4 2) (sub ! 1 refl (whole !)))) (no-more !)))) (from ! (stop !)) (init ! 10 refl (tt, (tt, (record { fits = room .0 }, tt)))) $
         finds-ipsec ! fm at-mem run x known-place room 0 (lit< tt) (λ i j. (and-then ! (copied ! 10 refl) (and-then ! (lit ! tt) (no-more !)))) (λ free-fits. land ! (from ! (stop !)) (init ! 24 refl (tt, record { fits = free-fits })) $
         plainly ! (usize ∷ u32 ∷ u64 ∷ usize ∷ Rₖ ∷ usize ∷ usize ∷ []) (uint-makes 𝓤 H A W w64 & uint-makes 𝓤 H A W w32 & uint-makes 𝓤 H A W w64 & uint-makes 𝓤 H A W w64 & LL.makes I.the-type I′.the-plain 𝓤 H A & uint-makes 𝓤 H A W w64 & uint-makes 𝓤 H A W w64 & tt) (length (x .now), (k, (n, (home, (owner, (taken, (free, tt)))))))
         (uint-vals w64 (length (x .now)), (uint-vals w32 k, (uint-vals w64 n, (uint-vals w64 home, (ike-vals owner, (uint-vals w64 taken, (uint-vals w64 free, tt))))))) ((refl, room .0), ((refl, k-fits), ((refl, n-fits), (home-is, (owner-is, ((refl, taken-fits), ((refl, free-fits), tt))))))) $
         calls-for ! fm opening.ended (opening.clauses 𝓤 H A at-mem run) known-opening ((tt, tt, tt, (length (x .now), (k, (n, (home, (owner, (taken, (free, tt))))))), (uint-vals w64 (length (x .now)), (uint-vals w32 k, (uint-vals w64 n, (uint-vals w64 home, (ike-vals owner, (uint-vals w64 taken, (uint-vals w64 free, tt)))))))), tt) (id⊢ 𝓤 _)
-        (and-then ! (copied ! 33 refl) (and-then ! (copied ! 37 refl) (and-then ! (copied ! 35 refl) (and-then ! (copied ! 31 refl) (and-then ! (copied ! 29 refl) (and-then ! (copied ! 27 refl) (and-then ! (copied ! 25 refl) (no-more !)))))))) (LL.vals D.the-type D′.the-laws) (LL.tells D.the-type D′.the-laws) c (λ r ws. id⊢ 𝓤 _) (λ is. drop ! $
+        (and-then ! (copied ! 33 refl) (and-then ! (copied ! (param 5 3) refl) (and-then ! (copied ! (param 5 4) refl) (and-then ! (copied ! 31 refl) (and-then ! (copied ! 29 refl) (and-then ! (copied ! 27 refl) (and-then ! (copied ! 25 refl) (no-more !)))))))) (LL.vals D.the-type D′.the-laws) (LL.tells D.the-type D′.the-laws) c (λ r ws. id⊢ 𝓤 _) (λ is. drop ! $
         land ! (from ! (stop !)) (init ! 22 refl (LL.lawful D.the-type D′.the-laws 𝓤 H A W .typed c _ is .0)) $
-        assigns ! (addr ! (from ! (fld ! refl (hop ! (look-in ! 38 (sub ! 0 refl (whole !))) (stop !))))) (from ! (stop !)) (init ! 6 refl (tt, tt)) $
-        assigns ! (agg ! (and-then ! (copied ! 6 refl) (and-then ! (load ! (from ! (fld ! refl (stop !))) (look-in ! 38 (sub ! 1 refl (whole !)))) (no-more !)))) (from ! (stop !)) (init ! 4 refl (tt, (tt, (record { fits = room .0 }, tt)))) $
+        assigns ! (addr ! (from ! (fld ! refl (hop ! (look-in ! (param 4 2) (sub ! 0 refl (whole !))) (stop !))))) (from ! (stop !)) (init ! 6 refl (tt, tt)) $
+        assigns ! (agg ! (and-then ! (copied ! 6 refl) (and-then ! (load ! (from ! (fld ! refl (stop !))) (look-in ! (param 4 2) (sub ! 1 refl (whole !)))) (no-more !)))) (from ! (stop !)) (init ! 4 refl (tt, (tt, (record { fits = room .0 }, tt)))) $
         stores-ipsec ! fm at-mem run x known-store (c .place) (c .entry) (LL.owed D.the-type D′.the-laws c _ is .1 .0) (LL.owed D.the-type D′.the-laws c _ is .1 .1 .0) (λ j. (and-then ! (copied ! 3 refl) (and-then ! (load ! (from ! (fld ! refl (stop !))) (look-in ! 21 (sub ! 1 refl (whole !)))) (and-then ! (load ! (from ! (fld ! refl (stop !))) (look-in ! 21 (sub ! 2 refl (whole !)))) (no-more !))))) (λ zs e l.
         -- [what says the last list; its token; the table; its token; the locals as before]
         land ! (from ! (stop !)) (init ! 8 refl (tt, tt)) $

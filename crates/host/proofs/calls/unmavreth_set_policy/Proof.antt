@@ -20,7 +20,7 @@ use Rattle.policy.proofs.rules.PolicyAnswer.Laws as D′
 use Rattle.policy.proofs.rules.set_policy as decide
 use Rattle.policy.proofs.rules.set_policy.Symbol as decide-def
 use Rattle.policy.proofs.rules.set_policy.Met as decide-thm
-use Rattle.walks.proofs.Walk.{closes}
+use Rattle.walks.proofs.Walk.{closes, local}
 use Rattle.walks.proofs.Calls.{_&_, tokens, Told, no-token, plainly, calls-for, copied, ends-local}
 use Rattle.lent.proofs.Asked.{reads-lent, reads-rules, stores-policy}
 use Rattle.lent_policy.proofs.PolicyTypes.{R, Q, policy-vals, rules-vals}
@@ -37,6 +37,9 @@ use Rattle.host.proofs.calls.unmavreth_set_policy.Key as key
 use Rattle.host.proofs.calls.unmavreth_set_policy as f
 use Rattle.host.proofs.calls.unmavreth_set_policy.Statement as stated
 use Rattle.host.proofs.calls.unmavreth_set_policy.Code as code
+-- where parameter i stands among what is had, behind so many entries that are no locals
+abbrev param : ℕ → ℕ → ℕ
+param = local 9
 
 abbrev kept : Slot 2
 kept = plain (λ _. R)
@@ -79,17 +82,17 @@ module _ {M : Type 1} (𝓤 : URA M) (H : Heap 𝓤) (A : Atoms 𝓤) (W : Given
     walk =
         qed W (tokens 𝓤 2 κs qs ∷ ‵ (owns (typesAt (f.signature .params) κs) a vals) ∷ []) ∵ enter ! C Λ code.function (flat (typesAt (f.signature .params) κs) vals) _ $
         alloc1 ! (λ l₀. alloc1 ! (λ l₁. alloc1 ! (λ l₂. alloc1 ! (λ l₃. alloc1 ! (λ l₄. alloc1 ! (λ l₅. alloc1 ! (λ l₆. alloc1 ! (λ l₇. alloc1 ! (λ l₈. alloc1 ! (λ l₉. alloc0 ! $ params1 ! $
-        pass1 ! (init ! 16 refl (tt, tt)) $ pass1 ! (init ! 14 refl (tt, record { fits = n-fits })) $ pass1 ! (init ! 12 refl (tt, tt)) $ pass0 ! $
+        pass1 ! (init ! (param 0 1) refl (tt, tt)) $ pass1 ! (init ! (param 0 2) refl (tt, record { fits = n-fits })) $ pass1 ! (init ! (param 0 3) refl (tt, tt)) $ pass0 ! $
         move ! (21 ∷ []) $ fsplit ! $ move ! (1 ∷ []) $ fsplit ! $ drop ! $ fsplit ! $ move ! (1 ∷ []) $ drop ! $ move ! (22 ∷ []) $ split ! $ move ! (1 ∷ []) $ no-token ! $ move ! (3 ∷ 1 ∷ 2 ∷ 0 ∷ []) $
         -- [the policy; its token; the rules; their token; _9 at 4; …; _i at 22 - 2 i; …; room for _0 at 22; …]
-        assigns ! (addr ! (from ! (hop ! (look ! 20 refl) (stop !)))) (from ! (stop !)) (init ! 8 refl (tt, tt)) $
+        assigns ! (addr ! (from ! (hop ! (look ! (param 4 1) refl) (stop !)))) (from ! (stop !)) (init ! 8 refl (tt, tt)) $
         reads-lent ! fm at-mem run x known-read (λ i j. and-then ! (copied ! 8 refl) (no-more !)) (λ old-is. land ! (from ! (stop !)) (init ! 14 refl (LL.lawful Y.the-type Y′.the-laws 𝓤 H A W .typed (x .now) _ old-is .0)) $ move ! (2 ∷ 3 ∷ []) $
-        reads-rules ! fm at-mem run y known-list (λ i j. and-then ! (copied ! 16 refl) (no-more !)) (λ list-is. land ! (from ! (stop !)) (init ! 12 refl (array-lawful 𝓤 H A W X.the-row (LL.lawful X.the-type X′.the-laws 𝓤 H A W) 16 .typed (y .now) _ list-is .0)) $
+        reads-rules ! fm at-mem run y known-list (λ i j. and-then ! (copied ! (param 4 3) refl) (no-more !)) (λ list-is. land ! (from ! (stop !)) (init ! 12 refl (array-lawful 𝓤 H A W X.the-row (LL.lawful X.the-type X′.the-laws 𝓤 H A W) 16 .typed (y .now) _ list-is .0)) $
         plainly ! (R ∷ u16 ∷ Q ∷ []) (LL.makes Y.the-type Y′.the-plain 𝓤 H A & uint-makes 𝓤 H A W w16 & array-makes 𝓤 H A W X.the-row (LL.makes X.the-type X′.the-plain 𝓤 H A) 16 & tt) (x .now, (n, (y .now, tt))) (policy-vals (x .now), (uint-vals w16 n, (rules-vals (y .now), tt))) (old-is, ((refl, n-fits), (list-is, tt))) $
         calls-for ! fm decide.ended (decide.clauses 𝓤 H A at-mem run) known-decide ((tt, tt, tt, (x .now, (n, (y .now, tt))), (policy-vals (x .now), (uint-vals w16 n, (rules-vals (y .now), tt)))), tt) (id⊢ 𝓤 _)
-        (and-then ! (copied ! 15 refl) (and-then ! (copied ! 19 refl) (and-then ! (copied ! 13 refl) (no-more !)))) (LL.vals D.the-type D′.the-laws) (LL.tells D.the-type D′.the-laws) c (λ r ws. id⊢ 𝓤 _) (λ is. drop ! $
+        (and-then ! (copied ! 15 refl) (and-then ! (copied ! (param 5 2) refl) (and-then ! (copied ! 13 refl) (no-more !)))) (LL.vals D.the-type D′.the-laws) (LL.tells D.the-type D′.the-laws) c (λ r ws. id⊢ 𝓤 _) (λ is. drop ! $
         land ! (from ! (stop !)) (init ! 10 refl (LL.lawful D.the-type D′.the-laws 𝓤 H A W .typed c _ is .0)) $ move ! (2 ∷ 3 ∷ []) $
-        assigns ! (addr ! (from ! (hop ! (look ! 20 refl) (stop !)))) (from ! (stop !)) (init ! 4 refl (tt, tt)) $
+        assigns ! (addr ! (from ! (hop ! (look ! (param 4 1) refl) (stop !)))) (from ! (stop !)) (init ! 4 refl (tt, tt)) $
         stores-policy ! fm at-mem run x known-store (c .policy) (LL.owed D.the-type D′.the-laws c _ is .1 .0) (λ j. and-then ! (copied ! 3 refl) (and-then ! (load ! (from ! (fld ! refl (stop !))) (look-in ! 9 (sub ! 1 refl (whole !)))) (no-more !))) (λ z e.
         -- [what says the last policy; its token; the rules; their token; the locals as before]
         land ! (from ! (stop !)) (init ! 6 refl (tt, tt)) $

@@ -40,7 +40,7 @@ use Rattle.answering.proofs.core.Reply.Laws as Z′
 use Rattle.responder.proofs.handle.answer as answer
 use Rattle.responder.proofs.handle.answer.Symbol as answer-def
 use Rattle.responder.proofs.handle.answer.Met as answer-thm
-use Rattle.walks.proofs.Walk.{closes}
+use Rattle.walks.proofs.Walk.{closes, local}
 use Rattle.lent_ike.proofs.IkeTable.{R, Q, table-slot, rec-vals}
 use Rattle.lent_policy.proofs.PolicyTypes.{R as Rₚ, policy-vals}
 use Rattle.walks.proofs.Calls.{_&_, tokens, Told, plainly, gives, spares, spare-first, spare-next, list-last, calls-both, calls-for, calls-to, copied, ends-local}
@@ -67,6 +67,9 @@ use Rattle.host.proofs.handler.unmavreth_request.Key as key
 use Rattle.host.proofs.handler.unmavreth_request as f
 use Rattle.host.proofs.handler.unmavreth_request.Statement as stated
 use Rattle.host.proofs.handler.unmavreth_request.Code as code
+-- where parameter i stands among what is had, behind so many entries that are no locals
+abbrev param : ℕ → ℕ → ℕ
+param = local 27
 
 abbrev Rᵢ : RattleType
 Rᵢ = I.the-row
@@ -169,43 +172,43 @@ module _ {M : Type 1} (𝓤 : URA M) (H : Heap 𝓤) (A : Atoms 𝓤) (W : Given
     walk =
         qed W (tokens 𝓤 7 κs qs ∷ ‵ (owns (typesAt (f.signature .params) κs) a vals) ∷ []) ∵ enter ! C Λ code.function (flat (typesAt (f.signature .params) κs) vals) _ $
         alloc1 ! (λ l₀. alloc1 ! (λ l₁. alloc1 ! (λ l₂. alloc1 ! (λ l₃. alloc1 ! (λ l₄. alloc1 ! (λ l₅. alloc1 ! (λ l₆. alloc1 ! (λ l₇. alloc1 ! (λ l₈. alloc1 ! (λ l₉. alloc1 ! (λ l₁₀. alloc1 ! (λ l₁₁. alloc1 ! (λ l₁₂. alloc1 ! (λ l₁₃. alloc1 ! (λ l₁₄. alloc1 ! (λ l₁₅. alloc1 ! (λ l₁₆. alloc1 ! (λ l₁₇. alloc1 ! (λ l₁₈. alloc1 ! (λ l₁₉. alloc1 ! (λ l₂₀. alloc1 ! (λ l₂₁. alloc1 ! (λ l₂₂. alloc1 ! (λ l₂₃. alloc1 ! (λ l₂₄. alloc1 ! (λ l₂₅. alloc1 ! (λ l₂₆. alloc1 ! (λ l₂₇. alloc0 ! $ params1 ! $
-        pass1 ! (init ! 52 refl (tt, tt)) $ pass1 ! (init ! 50 refl (tt, (tt, (record { fits = ipsec-room .0 }, tt)))) $ pass1 ! (init ! 48 refl (tt, tt)) $ pass1 ! (init ! 46 refl (tt, record { fits = spi-fits })) $ pass1 ! (init ! 44 refl (tt, record { fits = id-fits })) $
-        pass1 ! (init ! 42 refl (LL.lawful P.the-type P′.the-laws 𝓤 H A W .typed pair _ pair-is .0)) $ pass1 ! (init ! 40 refl (tt, (tt, (record { fits = source-room .0 }, tt)))) $ pass1 ! (init ! 38 refl (tt, (tt, (record { fits = destination-room .0 }, tt)))) $
-        pass1 ! (init ! 36 refl (tt, record { fits = first-fits })) $ pass1 ! (init ! 34 refl (tt, (tt, (record { fits = body-room .0 }, tt)))) $ pass1 ! (init ! 32 refl (tt, (tt, (record { fits = out-room .0 }, tt)))) $ pass0 ! $
+        pass1 ! (init ! (param 0 1) refl (tt, tt)) $ pass1 ! (init ! (param 0 2) refl (tt, (tt, (record { fits = ipsec-room .0 }, tt)))) $ pass1 ! (init ! (param 0 3) refl (tt, tt)) $ pass1 ! (init ! (param 0 4) refl (tt, record { fits = spi-fits })) $ pass1 ! (init ! (param 0 5) refl (tt, record { fits = id-fits })) $
+        pass1 ! (init ! (param 0 6) refl (LL.lawful P.the-type P′.the-laws 𝓤 H A W .typed pair _ pair-is .0)) $ pass1 ! (init ! (param 0 7) refl (tt, (tt, (record { fits = source-room .0 }, tt)))) $ pass1 ! (init ! (param 0 8) refl (tt, (tt, (record { fits = destination-room .0 }, tt)))) $
+        pass1 ! (init ! (param 0 9) refl (tt, record { fits = first-fits })) $ pass1 ! (init ! (param 0 10) refl (tt, (tt, (record { fits = body-room .0 }, tt)))) $ pass1 ! (init ! (param 0 11) refl (tt, (tt, (record { fits = out-room .0 }, tt)))) $ pass0 ! $
         move ! (57 ∷ []) $ fsplit ! $ move ! (1 ∷ []) $ fsplit ! $ move ! (1 ∷ []) $ fsplit ! $ move ! (60 ∷ []) $ split ! $ move ! (1 ∷ []) $ split ! $ move ! (1 ∷ []) $ split ! $ move ! (6 ∷ 2 ∷ 7 ∷ 3 ∷ 4 ∷ 0 ∷ 1 ∷ 5 ∷ []) $
         -- [the list; its token; the table; its token; the policy; its token; the other tokens; what the rest of the parameters owns; _27 at 8; …; _i at 62 - 2 i; …; room for _0 at 62; …]
-        assigns ! (addr ! (from ! (fld ! refl (hop ! (look-in ! 58 (sub ! 0 refl (whole !))) (stop !))))) (from ! (stop !)) (init ! 26 refl (tt, tt)) $
-        assigns ! (agg ! (and-then ! (copied ! 26 refl) (and-then ! (load ! (from ! (fld ! refl (stop !))) (look-in ! 58 (sub ! 1 refl (whole !)))) (no-more !)))) (from ! (stop !)) (init ! 24 refl (tt, (tt, (record { fits = ipsec-room .0 }, tt)))) $
+        assigns ! (addr ! (from ! (fld ! refl (hop ! (look-in ! (param 8 2) (sub ! 0 refl (whole !))) (stop !))))) (from ! (stop !)) (init ! 26 refl (tt, tt)) $
+        assigns ! (agg ! (and-then ! (copied ! 26 refl) (and-then ! (load ! (from ! (fld ! refl (stop !))) (look-in ! (param 8 2) (sub ! 1 refl (whole !)))) (no-more !)))) (from ! (stop !)) (init ! 24 refl (tt, (tt, (record { fits = ipsec-room .0 }, tt)))) $
         counts ! fm at-mem run ipsec known-count ipsec-room (λ i j. and-then ! (copied ! 24 refl) (no-more !)) $ land ! (from ! (stop !)) (init ! 38 refl (tt, record { fits = ipsec-room .0 })) $ move ! (2 ∷ 3 ∷ []) $
-        assigns ! (addr ! (from ! (hop ! (look ! 60 refl) (stop !)))) (from ! (stop !)) (init ! 22 refl (tt, tt)) $
-        finds-ike ! fm at-mem run ike known-place-of spi spi-fits (λ i j. and-then ! (copied ! 22 refl) (and-then ! (copied ! 54 refl) (no-more !))) (λ long place-fits. land ! (from ! (stop !)) (init ! 36 refl (tt, record { fits = place-fits })) $
-        assigns ! (addr ! (from ! (hop ! (look ! 60 refl) (stop !)))) (from ! (stop !)) (init ! 20 refl (tt, tt)) $
+        assigns ! (addr ! (from ! (hop ! (look ! (param 8 1) refl) (stop !)))) (from ! (stop !)) (init ! 22 refl (tt, tt)) $
+        finds-ike ! fm at-mem run ike known-place-of spi spi-fits (λ i j. and-then ! (copied ! 22 refl) (and-then ! (copied ! (param 8 4) refl) (no-more !))) (λ long place-fits. land ! (from ! (stop !)) (init ! 36 refl (tt, record { fits = place-fits })) $
+        assigns ! (addr ! (from ! (hop ! (look ! (param 8 1) refl) (stop !)))) (from ! (stop !)) (init ! 20 refl (tt, tt)) $
         reads-ike ! fm at-mem run ike known-at-place place place-fits (λ i j. and-then ! (copied ! 20 refl) (and-then ! (copied ! 36 refl) (no-more !))) (λ old-is. land ! (from ! (stop !)) (init ! 34 refl (LL.lawful S.the-type S′.the-laws 𝓤 H A W .typed old _ old-is .0)) $
         plainly ! (R ∷ []) (LL.makes S.the-type S′.the-plain 𝓤 H A, tt) (old, tt) (rec-vals old, tt) (old-is, tt) $ calls-for ! fm marks.ended (marks.clauses 𝓤 H A at-mem run) known-marks ((tt, tt, tt, (old, tt), (rec-vals old, tt)), tt) (id⊢ 𝓤 _)
         (and-then ! (copied ! 35 refl) (no-more !)) (LL.vals N.the-type N′.the-laws) (LL.tells N.the-type N′.the-laws) (marksIn old) (λ r ws. id⊢ 𝓤 _) (λ marks-is. drop ! $ land ! (from ! (stop !)) (init ! 32 refl (LL.lawful N.the-type N′.the-laws 𝓤 H A W .typed (marksIn old) _ marks-is .0)) $ move ! (4 ∷ 5 ∷ []) $
-        reads-policy ! fm at-mem run policy known-rules (λ i j. and-then ! (copied ! 56 refl) (no-more !)) (λ policy-is. land ! (from ! (stop !)) (init ! 30 refl (LL.lawful Y.the-type Y′.the-laws 𝓤 H A W .typed (policy .now) _ policy-is .0)) $
-        assigns ! (addr ! (from ! (fld ! refl (hop ! (look-in ! 40 (sub ! 0 refl (whole !))) (stop !))))) (from ! (stop !)) (init ! 18 refl (tt, tt)) $
-        assigns ! (agg ! (and-then ! (copied ! 18 refl) (and-then ! (load ! (from ! (fld ! refl (stop !))) (look-in ! 40 (sub ! 1 refl (whole !)))) (no-more !)))) (from ! (stop !)) (init ! 16 refl (tt, (tt, (record { fits = out-room .0 }, tt)))) $
+        reads-policy ! fm at-mem run policy known-rules (λ i j. and-then ! (copied ! (param 8 3) refl) (no-more !)) (λ policy-is. land ! (from ! (stop !)) (init ! 30 refl (LL.lawful Y.the-type Y′.the-laws 𝓤 H A W .typed (policy .now) _ policy-is .0)) $
+        assigns ! (addr ! (from ! (fld ! refl (hop ! (look-in ! (param 8 11) (sub ! 0 refl (whole !))) (stop !))))) (from ! (stop !)) (init ! 18 refl (tt, tt)) $
+        assigns ! (agg ! (and-then ! (copied ! 18 refl) (and-then ! (load ! (from ! (fld ! refl (stop !))) (look-in ! (param 8 11) (sub ! 1 refl (whole !)))) (no-more !)))) (from ! (stop !)) (init ! 16 refl (tt, (tt, (record { fits = out-room .0 }, tt)))) $
         -- the body goes to `answer` and to `ike_change`
         move ! (7 ∷ []) $ spares ! (spare-next 𝓤 H A (spare-next 𝓤 H A (spare-next 𝓤 H A (spare-next 𝓤 H A (spare-next 𝓤 H A (spare-next 𝓤 H A (spare-first 𝓤 H A (shr-slice-copy 𝓤 H A W (named 5) (κs .1 .1 .1 .1 .1 .0) u8 .twice body (slice-vals body))))))))) $
         owned ! Rₚ (Is Rₚ) (LL.makes Y.the-type Y′.the-plain 𝓤 H A) (policy .now) _ policy-is $ fjoin ! $ owned ! N.the-row (Is N.the-row) (LL.makes N.the-type N′.the-plain 𝓤 H A) (marksIn old) _ marks-is $ fjoin ! $
         owned ! usize (Is usize) (uint-makes 𝓤 H A W w64) place _ (refl, place-fits) $ fjoin ! $ owned ! usize (Is usize) (uint-makes 𝓤 H A W w64) size _ (refl, ipsec-room .0) $ fjoin ! $ move ! (8 ∷ 0 ∷ []) $
         calls-both ! fm answer.ended (answer.clauses 𝓤 H A at-mem run) known-answer ((κs .1 .1 .1, qs .1 .1 .1, tt, (size, (place, (marksIn old, (policy .now, a .1 .1 .1)))), (uint-vals w64 size, (uint-vals w64 place, (LL.vals N.the-type N′.the-laws (marksIn old), (policy-vals (policy .now), vals .1 .1 .1))))), tt) (id⊢ 𝓤 _)
-        (and-then ! (copied ! 38 refl) (and-then ! (copied ! 36 refl) (and-then ! (copied ! 32 refl) (and-then ! (copied ! 30 refl) (and-then ! (copied ! 54 refl) (and-then ! (copied ! 52 refl) (and-then ! (copied ! 50 refl) (and-then ! (copied ! 48 refl) (and-then ! (copied ! 46 refl) (and-then ! (copied ! 44 refl) (and-then ! (copied ! 42 refl) (and-then ! (copied ! 16 refl) (no-more !))))))))))))) (LL.vals D.the-type D′.the-laws) (LL.tells D.the-type D′.the-laws) c (λ ws. ws .1 .1 .1 .1 .1 .1 .1 .1 .1 .1 .1 .0 ≡ response) (λ r ws. id⊢ 𝓤 _) (λ is ws e₃.
+        (and-then ! (copied ! 38 refl) (and-then ! (copied ! 36 refl) (and-then ! (copied ! 32 refl) (and-then ! (copied ! 30 refl) (and-then ! (copied ! (param 8 4) refl) (and-then ! (copied ! (param 8 5) refl) (and-then ! (copied ! (param 8 6) refl) (and-then ! (copied ! (param 8 7) refl) (and-then ! (copied ! (param 8 8) refl) (and-then ! (copied ! (param 8 9) refl) (and-then ! (copied ! (param 8 10) refl) (and-then ! (copied ! 16 refl) (no-more !))))))))))))) (LL.vals D.the-type D′.the-laws) (LL.tells D.the-type D′.the-laws) c (λ ws. ws .1 .1 .1 .1 .1 .1 .1 .1 .1 .1 .1 .0 ≡ response) (λ r ws. id⊢ 𝓤 _) (λ is ws e₃.
         fsplit ! $ drop ! $ fsplit ! $ drop ! $ fsplit ! $ drop ! $ fsplit ! $ drop ! $ fsplit ! $ drop ! $ fsplit ! $ drop ! $ fsplit ! $ drop ! $ fsplit ! $ drop ! $ fsplit ! $ drop ! $ fsplit ! $ drop ! $ fsplit ! $ drop ! $ fsplit ! $ fsplit ! $ move ! (1 ∷ []) $ feqL ! (λ lₒ. move ! (1 ∷ []) $ drop ! $
         -- [what says the output's last list; the other tokens; the body; the policy; its token; the table; its token; the list; its token; _27 at 9; …]
         land ! (from ! (stop !)) (init ! 29 refl (LL.lawful D.the-type D′.the-laws 𝓤 H A W .typed c _ is .0)) $
         move ! (3 ∷ []) $ drop ! $ move ! (1 ∷ []) $ split ! $ move ! (1 ∷ []) $ split ! $ move ! (1 ∷ []) $ split ! $ move ! (7 ∷ 8 ∷ 5 ∷ 0 ∷ []) $
         -- [the table; its token; the body; its token; the output's; the destination's; the source's; what says the output's last list; the policy's token; the list; its token; _27 at 11; …]
-        assigns ! (addr ! (from ! (hop ! (look ! 63 refl) (stop !)))) (from ! (stop !)) (init ! 15 refl (tt, tt)) $
-        changes-ike ! fm at-mem run ike known-change place c pair body (refl, place-fits) is pair-is (λ j. and-then ! (copied ! 12 refl) (and-then ! (copied ! 36 refl) (and-then ! (copied ! 28 refl) (and-then ! (copied ! 50 refl) (and-then ! (copied ! 42 refl) (no-more !)))))) (λ zs e₁. land ! (from ! (stop !)) (init ! 16 refl (tt, tt)) $
+        assigns ! (addr ! (from ! (hop ! (look ! (param 11 1) refl) (stop !)))) (from ! (stop !)) (init ! 15 refl (tt, tt)) $
+        changes-ike ! fm at-mem run ike known-change place c pair body (refl, place-fits) is pair-is (λ j. and-then ! (copied ! 12 refl) (and-then ! (copied ! 36 refl) (and-then ! (copied ! 28 refl) (and-then ! (copied ! (param 8 6) refl) (and-then ! (copied ! (param 8 10) refl) (no-more !)))))) (λ zs e₁. land ! (from ! (stop !)) (init ! 16 refl (tt, tt)) $
         move ! (2 ∷ 3 ∷ []) $ join ! $ move ! (3 ∷ 0 ∷ []) $ join ! $ move ! (3 ∷ 0 ∷ []) $ join ! $ move ! (4 ∷ 0 ∷ []) $ join ! $ move ! (1 ∷ 2 ∷ []) $
         -- [what says the table's last value; its token; the other tokens; what says the output's last list; the list; its token; _27 at 6; …; _i at 60 - 2 i; …]
-        assigns ! (addr ! (from ! (fld ! refl (hop ! (look-in ! 56 (sub ! 0 refl (whole !))) (stop !))))) (from ! (stop !)) (init ! 8 refl (tt, tt)) $
-        assigns ! (agg ! (and-then ! (copied ! 8 refl) (and-then ! (load ! (from ! (fld ! refl (stop !))) (look-in ! 56 (sub ! 1 refl (whole !)))) (no-more !)))) (from ! (stop !)) (init ! 6 refl (tt, (tt, (record { fits = ipsec-room .0 }, tt)))) $
+        assigns ! (addr ! (from ! (fld ! refl (hop ! (look-in ! (param 6 2) (sub ! 0 refl (whole !))) (stop !))))) (from ! (stop !)) (init ! 8 refl (tt, tt)) $
+        assigns ! (agg ! (and-then ! (copied ! 8 refl) (and-then ! (load ! (from ! (fld ! refl (stop !))) (look-in ! (param 6 2) (sub ! 1 refl (whole !)))) (no-more !)))) (from ! (stop !)) (init ! 6 refl (tt, (tt, (record { fits = ipsec-room .0 }, tt)))) $
         move ! (4 ∷ 5 ∷ []) $ gives ! (bool ∷ u64 ∷ P.the-row ∷ []) (bool-makes 𝓤 H A W & uint-makes 𝓤 H A W w64 & LL.makes P.the-type P′.the-plain 𝓤 H A & tt) (c .moves, (spi, (pair, tt))) (bool-vals (c .moves), (uint-vals w64 spi, (pair-vals pair, tt))) (refl, ((refl, spi-fits), (pair-is, tt))) $
         calls-to ! fm follow.ended (follow.clauses 𝓤 H A at-mem run) known-follow (((κs .1 .0, tt), (qs .1 .0, tt), tt, (ipsec, (c .moves, (spi, (pair, tt)))), (slice-vals ipsec, (bool-vals (c .moves), (uint-vals w64 spi, (pair-vals pair, tt))))), tt) (id⊢ 𝓤 _)
-        (and-then ! (copied ! 5 refl) (and-then ! (load ! (from ! (fld ! refl (stop !))) (look-in ! 25 (sub ! 2 refl (whole !)))) (and-then ! (copied ! 51 refl) (and-then ! (copied ! 47 refl) (no-more !))))) nothing-tells (λ us. us .0 ≡ cond (c .moves) (map (follows spi pair) (ipsec .now)) (ipsec .now)) (λ r ws. id⊢ 𝓤 _) (λ us e₂. list-last ! (λ lᵢ.
+        (and-then ! (copied ! 5 refl) (and-then ! (load ! (from ! (fld ! refl (stop !))) (look-in ! 25 (sub ! 2 refl (whole !)))) (and-then ! (copied ! (param 5 4) refl) (and-then ! (copied ! (param 5 6) refl) (no-more !))))) nothing-tells (λ us. us .0 ≡ cond (c .moves) (map (follows spi pair) (ipsec .now)) (ipsec .now)) (λ r ws. id⊢ 𝓤 _) (λ us e₂. list-last ! (λ lᵢ.
         -- [what says the list's last list; its token; what says the table's last value; its token; the other tokens; what says the output's last list; _27 at 6; …]
         forget ! 12 refl $ land ! (from ! (stop !)) (init ! 12 refl (tt, tt)) $
         assigns ! (of-opd ! (load ! (from ! (fld ! refl (stop !))) (look-in ! 26 (sub ! 0 refl (whole !))))) (from ! (stop !)) (init ! 60 refl (LL.lawful Z.the-type Z′.the-laws 𝓤 H A W .typed (c .reply) _ (LL.owed D.the-type D′.the-laws c _ is .0) .0)) $ returns ! (look ! 60 refl) $
