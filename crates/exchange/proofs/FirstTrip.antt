@@ -1,6 +1,6 @@
 -- The first round trip: reading a written request gives back what was asked for.
 use Prim.Native.Nat.{ℕ, _≤_}
-use mathlib.Core.Path.{_≡_, refl, _∙_}
+use mathlib.Core.Path.{_≡_, refl, ap, _∙_}
 use mathlib.Core.List.{List, []}
 use mathlib.Core.Bool.{Bool, true, false, cond}
 use native.Mathlib.Nat.{zero-add}
@@ -9,38 +9,41 @@ use borrow.Author.Tests.{le-ltb, ltb-false}
 use lib.Dec.{eqb, ltb}
 use lib.ListN.{length}
 use Rattle.findings.specs.Seen.{nothingSeen}
+use Rattle.values.specs.Values.{addressesIn}
 use Rattle.writing.specs.Notify.{firstType}
 use Rattle.reader.specs.Chain.{scanned, answer, reading}
 use Rattle.reader.specs.declared.read.Outcome.the-variants.{Whole}
 use Rattle.asking.specs.Request.{Request, requested, requestOctets, requestFits}
 use Rattle.requests.specs.Written.{writeNumber, writtenOctets, complete, notWritten, written}
-use Rattle.exchange.specs.RoundTrips.{givenBy, Sized, GivenBack, ReadingWritten}
+use Rattle.exchange.specs.RoundTrips.{givenBy, askedFor, Sized, GivenBack, ReadingWritten}
 use Rattle.exchange.proofs.Notifies.{notifyChain}
 use Rattle.exchange.proofs.Payloads.{chain-of}
-use Rattle.exchange.proofs.Gathered.{Clear}
+use Rattle.exchange.proofs.Structs.{structs-back}
 use Rattle.exchange.proofs.Reading.{scan-gives}
-use Rattle.exchange.proofs.Staged.{upTo, request-leads, request-length}
+use Rattle.exchange.proofs.Staged.{request-leads, request-length}
 
 module _ (q : Request) (z : Sized q) (fits : requestFits q ≡ true) where
   abbrev Body : List ℕ
   Body = requestOctets q
 
-  -- before anything is seen nothing was asked for
-  start : givenBy Body nothingSeen ≡ upTo q false false false false false 0 []
-  start = refl
-
   pub given-back : GivenBack q (firstType (requested q) 0) Body
   unfolding reading
   given-back =
+      -- before anything is seen nothing was asked for
       let leads = request-leads q z fits in
-      let clear : Clear (givenBy Body nothingSeen) (requested q) = rw start (leads .clear) in
-      let found = scan-gives Body (requested q) [] refl (leads .fits) nothingSeen 0 clear refl (λ e. refl) (refl, refl) in
-      let read : reading (firstType (requested q) 0) Body ≡ answer Whole (scanned nothingSeen (notifyChain 0 (requested q)) .seen) =
+      let found = scan-gives Body (requested q) [] refl (leads .fits) nothingSeen 0 (leads .clear) refl (λ e. refl) (refl, refl) in
+      let seen = scanned nothingSeen (notifyChain 0 (requested q)) .seen in
+      let same : givenBy Body seen ≡ askedFor q = found .values ∙ leads .gives in
+      let read : reading (firstType (requested q) 0) Body ≡ answer Whole seen =
       rw (le-ltb 4096 (length Body) (omega (arith, request-length q z fits)), chain-of (requested q) (leads .fits) [], found .whole) in
       record {
         number = rw read;
         tally = rw (read, found .tally, zero-add);
-        values = rw read (found .values ∙ rw start (leads .gives));
+        values = rw read same;
+        addresses =
+            λ l f o. rw read
+            (structs-back (addressesIn Body (seen .list)) l (q .ask .count) (ap (λ (r : Request). r .families) same ∙ rw f)
+            (ap (λ (r : Request). r .addresses) same ∙ rw o));
       }
 
 -- The writer's answer, by whether the request fits.

@@ -1,14 +1,15 @@
 -- The address structs that a reading hands out, taken apart as the writer takes them: their families, and their octets.
 use Prim.Native.Nat.{ℕ, zero, suc, _-_, _≤_, min}
-use mathlib.Core.Path.{_≡_, refl, sym, ap, _∙_}
+use mathlib.Core.Path.{_≡_, refl, sym, ap, ap₂, _∙_}
 use mathlib.Core.List.{List, [], _∷_, _++_, map, zipWith}
 use native.Mathlib.Omega.{arith}
-use lib.ListN.{length, take, replicate}
+use lib.ListN.{length, getD, take, drop, replicate}
 use lib.Seq.{take-at, length-take-le}
 use Rattle.octets.specs.Lists.{firstOnly}
 use Rattle.octets.proofs.Pad.{length-copied}
 use Rattle.octets.proofs.Zip.{length-zip}
-use Rattle.address.specs.Address.{addressOf, familiesOf, octetsOf}
+use Rattle.address.specs.Address.{addressOf, noAddress, familiesOf, octetsOf}
+use Rattle.address.specs.declared.address.Address.{Address}
 use Rattle.findings.specs.declared.seen.Places.{Places}
 use Rattle.values.specs.Values.{addressAt, additionalOf, addressesIn}
 
@@ -37,6 +38,21 @@ octets-back [] [] e = refl
 octets-back [] (o ∷ os) e = absurd (omega arith)
 octets-back (f ∷ fs) [] e = absurd (omega arith)
 octets-back (f ∷ fs) (o ∷ os) e = ap (λ l. o ∷ l) (octets-back fs os (omega arith))
+
+-- and are all that a struct has
+same-structs : (x y : List Address) → familiesOf x ≡ familiesOf y → octetsOf x ≡ octetsOf y → x ≡ y
+same-structs [] [] f o = refl
+same-structs [] (b ∷ y) f o = absurd (omega (arith, ap length f))
+same-structs (a ∷ x) [] f o = absurd (omega (arith, ap length f))
+same-structs (a ∷ x) (b ∷ y) f o =
+    ap₂ _∷_ (ap₂ addressOf (ap (λ (l : List ℕ). getD l 0 0) f) (ap (λ (l : List (List ℕ)). getD l 0 []) o))
+    (same-structs x y (ap (λ (l : List ℕ). drop 1 l) f) (ap (λ (l : List (List ℕ)). drop 1 l) o))
+
+pub structs-back : (x l : List Address) (n : ℕ) → familiesOf x ≡ firstOnly 0 n (familiesOf l) → octetsOf x ≡ firstOnly (replicate 16 0) n (octetsOf l)
+    → x ≡ firstOnly noAddress n l
+structs-back x l n f o =
+    same-structs x (firstOnly noAddress n l) (f ∙ sym (map-run (λ (a : Address). a .family) noAddress n (16 - n) l))
+    (o ∙ sym (map-run (λ (a : Address). a .octets) noAddress n (16 - n) l))
 
 -- what is cut off once stays as it is
 cut-again : {A : Type 0} (z : A) (n : ℕ) (xs : List A) → n ≤ length xs → firstOnly z n (firstOnly z n xs) ≡ firstOnly z n xs

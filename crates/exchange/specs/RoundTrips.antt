@@ -7,7 +7,8 @@ use mathlib.Core.Bool.{true, cond, not}
 use lib.Dec.{eqb}
 use lib.ListN.{length, getD, replicate}
 use Rattle.octets.specs.Lists.{firstOnly}
-use Rattle.address.specs.Address.{noPair, familiesOf, octetsOf}
+use Rattle.address.specs.Address.{noAddress, noPair, familiesOf, octetsOf}
+use Rattle.address.specs.declared.address.Address.{Address}
 use Rattle.address.specs.declared.pair.Pair.{Pair}
 use Rattle.findings.specs.declared.seen.Seen.{Seen}
 use Rattle.findings.specs.declared.seen.Tally.{Tally}
@@ -74,11 +75,14 @@ pub record Sized (q : Request) : Type 0 where
 abbrev pub allKnown : ℕ → Tally
 allKnown n = record { payloads = n; «unknown_payloads» = 0; «unknown_notifies» = 0; errors = 0; «first_error» = 0 }
 
--- "Reading a written request gives back what was asked for": every argument asked for, each value, and nothing else.
+-- "Reading a written request gives back what was asked for": every argument asked for, each value, and nothing else. The address
+-- structs that the writer took apart come back as they were.
 pub record GivenBack (q : Request) (first : ℕ) (body : List ℕ) : Type 0 where
   pub number : reading first body .number ≡ 0
   pub tally : reading first body .seen .tally ≡ allKnown (length (requested q))
   pub values : given first body ≡ askedFor q
+  pub addresses : (l : List Address) → q .families ≡ familiesOf l → q .addresses ≡ octetsOf l
+      → addressesIn body (reading first body .seen .list) ≡ firstOnly noAddress (q .ask .count) l
 
 abbrev pub ReadingWritten : Type 0
 ReadingWritten =
