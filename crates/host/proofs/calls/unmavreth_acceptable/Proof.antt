@@ -24,6 +24,7 @@ use Rattle.host.proofs.calls.unmavreth_acceptable.Key as key
 use Rattle.host.proofs.calls.unmavreth_acceptable as f
 use Rattle.host.proofs.calls.unmavreth_acceptable.Statement as stated
 use Rattle.host.proofs.calls.unmavreth_acceptable.Code as code
+
 -- where parameter i stands among what is had, behind so many entries that are no locals
 abbrev param : ℕ → ℕ → ℕ
 param = local 3

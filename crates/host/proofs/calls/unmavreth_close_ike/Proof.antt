@@ -39,6 +39,7 @@ use Rattle.host.proofs.calls.unmavreth_close_ike.Key as key
 use Rattle.host.proofs.calls.unmavreth_close_ike as f
 use Rattle.host.proofs.calls.unmavreth_close_ike.Statement as stated
 use Rattle.host.proofs.calls.unmavreth_close_ike.Code as code
+
 -- where parameter i stands among what is had, behind so many entries that are no locals
 abbrev param : ℕ → ℕ → ℕ
 param = local 14

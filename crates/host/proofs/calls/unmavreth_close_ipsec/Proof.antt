@@ -33,6 +33,7 @@ use Rattle.host.proofs.calls.unmavreth_close_ipsec.Key as key
 use Rattle.host.proofs.calls.unmavreth_close_ipsec as f
 use Rattle.host.proofs.calls.unmavreth_close_ipsec.Statement as stated
 use Rattle.host.proofs.calls.unmavreth_close_ipsec.Code as code
+
 -- where parameter i stands among what is had, behind so many entries that are no locals
 abbrev param : ℕ → ℕ → ℕ
 param = local 12

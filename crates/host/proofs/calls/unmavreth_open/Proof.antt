@@ -45,6 +45,7 @@ use Rattle.host.proofs.calls.unmavreth_open.Key as key
 use Rattle.host.proofs.calls.unmavreth_open as f
 use Rattle.host.proofs.calls.unmavreth_open.Statement as stated
 use Rattle.host.proofs.calls.unmavreth_open.Code as code
+
 -- where parameter i stands among what is had, behind so many entries that are no locals
 abbrev param : ℕ → ℕ → ℕ
 param = local 21

@@ -37,6 +37,7 @@ use Rattle.host.proofs.calls.unmavreth_set_policy.Key as key
 use Rattle.host.proofs.calls.unmavreth_set_policy as f
 use Rattle.host.proofs.calls.unmavreth_set_policy.Statement as stated
 use Rattle.host.proofs.calls.unmavreth_set_policy.Code as code
+
 -- where parameter i stands among what is had, behind so many entries that are no locals
 abbrev param : ℕ → ℕ → ℕ
 param = local 9

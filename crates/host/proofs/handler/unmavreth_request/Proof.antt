@@ -67,6 +67,7 @@ use Rattle.host.proofs.handler.unmavreth_request.Key as key
 use Rattle.host.proofs.handler.unmavreth_request as f
 use Rattle.host.proofs.handler.unmavreth_request.Statement as stated
 use Rattle.host.proofs.handler.unmavreth_request.Code as code
+
 -- where parameter i stands among what is had, behind so many entries that are no locals
 abbrev param : ℕ → ℕ → ℕ
 param = local 27
