@@ -15,8 +15,7 @@ use Rattle.payload.specs.declared.payload.Fault.the-variants.{Conflict}
 use Rattle.findings.specs.Seen.{nothingSeen, counted, withTally, noted, contentNoted, repeats}
 use Rattle.findings.specs.declared.seen.Seen.{Seen}
 use Rattle.writing.specs.Notify.{Notification, firstType}
-use Rattle.reader.specs.Chain.{chainAt, stopped, scanned, reading}
-use Rattle.reader.specs.declared.read.Scan.{Scan}
+use Rattle.reader.specs.Chain.{Scan, chainAt, stopped, scanned, reading}
 use Rattle.reader.specs.declared.read.Outcome.the-variants.{Whole, Broken}
 use Rattle.reader.proofs.Whole.{read-whole}
 use Rattle.asking.specs.Request.{Request, requested, requestOctets, requestFits}

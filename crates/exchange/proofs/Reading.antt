@@ -23,8 +23,7 @@ use Rattle.findings.specs.declared.seen.Seen.{Seen}
 use Rattle.findings.specs.declared.seen.Tally.{Tally}
 use Rattle.writing.specs.Notify.{Notification, notifyOctets, firstType, chained}
 use Rattle.writing.proofs.Placed.{length-notify}
-use Rattle.reader.specs.Chain.{scanned}
-use Rattle.reader.specs.declared.read.Scan.{Scan}
+use Rattle.reader.specs.Chain.{Scan, scanned}
 use Rattle.reader.specs.declared.read.Outcome.the-variants.{Whole}
 use Rattle.asking.specs.Request.{Request}
 use Rattle.exchange.specs.RoundTrips.{givenBy, allKnown}

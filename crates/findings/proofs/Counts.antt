@@ -1,6 +1,6 @@
 -- What a payload adds to the counts: one to the payloads, and one at most to each other.
 use Prim.Native.Nat.{ℕ, _+_, _≤_}
-use mathlib.Core.Path.{_≡_, refl}
+use mathlib.Core.Path.{_≡_, refl, ap}
 use mathlib.Core.Bool.{Bool, true, false, cond}
 use native.Mathlib.Omega.{arith}
 use Rattle.payload.specs.Notify.{isUnknown}
@@ -15,6 +15,31 @@ use Rattle.findings.specs.declared.seen.Seen.{Seen}
 either-tally : (b : Bool) (t u : Tally) → t .payloads ≡ u .payloads → cond b t u .payloads ≡ u .payloads
 either-tally true t u e = e
 either-tally false t u e = refl
+
+-- a notification adds nothing to the counts of payloads
+pub tally-same : (s : Seen) (k : NotifyKind) (number place len : ℕ)
+    → let t = noted s k number place len in
+    (t .tally .payloads ≡ s .tally .payloads) × (t .tally .«unknown_payloads» ≡ s .tally .«unknown_payloads»)
+unfolding noted
+tally-same s k number place len = go (isUnknown k)
+  where
+    go : (b : Bool) → let t = cond b (unknownNotify (s .tally) k number) (s .tally) in
+        (t .payloads ≡ s .tally .payloads) × (t .«unknown_payloads» ≡ s .tally .«unknown_payloads»)
+    go true = (refl, refl)
+    go false = (refl, refl)
+
+-- so a notification may be noted first and counted after
+pub payload-last : (s : Seen) (k : NotifyKind) (number place len : ℕ)
+    → let t = noted s k number place len in
+    withTally t (counted (t .tally) 0) ≡ noted (withTally s (counted (s .tally) 0)) k number place len
+unfolding noted
+payload-last s k number place len = ap (withTally (noted s k number place len)) (go (isUnknown k))
+  where
+    go : (b : Bool)
+        → counted (cond b (unknownNotify (s .tally) k number) (s .tally)) 0
+        ≡ cond b (unknownNotify (counted (s .tally) 0) k number) (counted (s .tally) 0)
+    go true = refl
+    go false = refl
 
 -- a payload of any content is counted as one
 pub one : (s : Seen) (content : Content) (place : ℕ) → contentNoted s content place .tally .payloads ≡ s .tally .payloads + 1

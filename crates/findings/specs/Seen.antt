@@ -138,12 +138,6 @@ contentNoted s Skipped place = withTally s (counted (s .tally) 0)
 contentNoted s UnknownPayload place = withTally s (counted (s .tally) 1)
 contentNoted s (Notify k number len) place = noted (withTally s (counted (s .tally) 0)) k number place len
 
--- What a payload adds to the list, which the code keeps apart (`apart` in proofs/Apart.antt).
-abbrev pub listNoted : Places → Content → ℕ → Places
-listNoted l Skipped place = l
-listNoted l UnknownPayload place = l
-listNoted l (Notify k number len) place = notifyListed l k place
-
 -- 01: "a second UPDATE_SA_ADDRESSES, NO_ADDITIONAL_ADDRESSES, COOKIE2, NO_NATS_ALLOWED or NAT_DETECTION_DESTINATION_IP;
 -- NO_ADDITIONAL_ADDRESSES together with an ADDITIONAL address".
 abbrev pub repeats : Seen → NotifyKind → Bool

@@ -1,7 +1,7 @@
 -- One payload of a chain, as 01's "The payload chain" reads it.
 use Prim.Native.Nat.{ℕ, _+_, _-_}
 use mathlib.Core.List.{List}
-use mathlib.Core.Bool.{Bool, cond, _&&_, _||_}
+use mathlib.Core.Bool.{Bool, cond, _&&_, _||_, not}
 use lib.ListN.{length, getD}
 use lib.Dec.{eqb, leb, ltb}
 use Rattle.octets.specs.Octets.{be16}
@@ -15,6 +15,10 @@ use Rattle.payload.specs.declared.payload.Found.the-variants.{Payload, F
 -- 01: "or an SPI size there other than 0": a type of the table has no SPI, any other may have one.
 abbrev pub spiFits : NotifyKind → ℕ → Bool
 spiFits kind spi = eqb spi 0 || isUnknown kind
+
+-- 01: "or its SPI past its length": both that the code asks of an SPI in one.
+abbrev pub spiInside : NotifyKind → ℕ → ℕ → Bool
+spiInside kind spi size = not (ltb (size - 8) spi) && spiFits kind spi
 
 -- A Notify with its SPI size, its notify type and its kind read off.
 abbrev pub notified : NotifyKind → ℕ → ℕ → ℕ → Found

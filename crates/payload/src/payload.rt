@@ -4,9 +4,10 @@ use crate::notify::NotifyType;
 use crate::notify::data_fits;
 use octets::be16_at;
 ghost use mathlib.Core.Path.{_≡_};
-ghost use Prim.Native.Nat.{_+_, _≤_};
+ghost use Prim.Native.Nat.{_+_, _≤_, _<_};
 ghost use lib.ListN.{length};
-ghost use Rattle.payload.specs.Payload.{spiFits, notifyAt, payloadAt};
+ghost use Rattle.payload.specs.Payload.{spiInside, notifyAt, payloadAt};
+ghost use Rattle.payload.specs.Notify.{kindOf};
 
 // The type of a Notify payload, and the first and last of the types that are known.
 pub const NOTIFY: u8 = 41;
@@ -46,39 +47,40 @@ pub enum Content {
 
 pub enum Found {
     // A payload of so many octets, its header counted.
-    Payload(u16, Content),
+    Payload(usize, Content),
     Faulty(Fault),
 }
 
-// Whether a Notify of this kind may have an SPI of so many octets.
-pub fn spi_fits(kind: NotifyKind, spi: u16) -> bool
-    ensures { λ r. ⌜ r ≡ spiFits kind spi ⌝ }
+// Whether a Notify of this type and of `size` octets may have an SPI of so many. Most have none, so that is asked first.
+pub fn spi_fits(number: u16, spi: usize, size: usize) -> bool
+    requires { ⌜ spi < 256 ⌝ }
+    ensures { λ r. ⌜ r ≡ spiInside (kindOf number) spi size ⌝ }
 {
     if spi == 0 {
         return true;
     }
-    kind.is_unknown()
+    if size < 8 + spi {
+        return false;
+    }
+    NotifyType { number }.kind().is_unknown()
 }
 
 // The Notify at `at`, of `size` octets. Its data, which starts in the middle of the body, is passed on as a part.
-pub fn notify_at(body: &[u8], at: usize, size: u16) -> Found
-    requires { ⌜ at + size ≤ length (now body) ⌝ }
+pub fn notify_at(body: &[u8], at: usize, size: usize) -> Found
+    requires { ⌜ (at + size ≤ length (now body)) × (size < 65536) ⌝ }
     ensures { λ r. ⌜ r ≡ notifyAt (now (body .entry)) at size ⌝ }
 {
     if size < 8 {
         return Found::Faulty(Fault::NotifyShape);
     }
-    let spi = body[at + 5] as u16;
-    if size - 8 < spi {
-        return Found::Faulty(Fault::NotifyShape);
-    }
+    let spi = body[at + 5] as usize;
     let number = be16_at(body, at + 6);
-    let kind = NotifyType { number }.kind();
-    if spi_fits(kind, spi) {
-        let start = at + 8 + spi as usize;
-        let end = at + size as usize;
+    if spi_fits(number, spi, size) {
+        let kind = NotifyType { number }.kind();
+        let start = at + 8 + spi;
+        let end = at + size;
         if data_fits(kind, &body[start..end]) {
-            Found::Payload(size, Content::Notify(kind, number, size - 8 - spi))
+            Found::Payload(size, Content::Notify(kind, number, (size - 8 - spi) as u16))
         } else {
             Found::Faulty(Fault::DataSize)
         }
@@ -96,11 +98,11 @@ pub fn payload_at(first: u8, body: &[u8], at: usize) -> Found
     if left < 4 {
         return Found::Faulty(Fault::ChainLength);
     }
-    let size = be16_at(body, at + 2);
+    let size = be16_at(body, at + 2) as usize;
     if size < 4 {
         return Found::Faulty(Fault::ChainLength);
     }
-    if left < size as usize {
+    if left < size {
         return Found::Faulty(Fault::ChainLength);
     }
     if first == NOTIFY {

@@ -5,11 +5,10 @@ use mathlib.Core.List.{List}
 use mathlib.Core.Bool.{Bool, true, false, cond}
 use native.Mathlib.Omega.{arith}
 use Rattle.findings.specs.Seen.{nothingSeen, contentNoted, conflicts}
-use Rattle.reader.specs.Chain.{Chain, ends, faulty, payload, count, chainAt, stopped, scanned, reading, ReadAs}
+use Rattle.reader.specs.Chain.{Scan, Chain, ends, faulty, payload, count, chainAt, stopped, scanned, reading, ReadAs}
 use Rattle.payload.specs.declared.payload.Fault.the-variants.{Conflict}
 use Rattle.findings.specs.declared.seen.Seen.{Seen}
 use Rattle.findings.proofs.Counts.{one}
-use Rattle.reader.specs.declared.read.Scan.{Scan}
 use Rattle.reader.specs.declared.read.Outcome.the-variants.{Whole, Broken}
 use Rattle.reader.specs.declared.read.Reading.{Reading}
 use Rattle.reader.proofs.Whole.{read-whole}

@@ -9,10 +9,9 @@ use Rattle.payload.specs.declared.payload.Fault.the-variants.{Conflict}
 use Rattle.payload.specs.declared.payload.Content.{Content}
 use Rattle.findings.specs.Seen.{nothingSeen, contentNoted, conflicts}
 use Rattle.findings.specs.declared.seen.Seen.{Seen}
-use Rattle.reader.specs.Chain.{Chain, ends, faulty, payload, chainAt, stopped, scanned, answer, answered, refused, reading}
+use Rattle.reader.specs.Chain.{Scan, Chain, ends, faulty, payload, chainAt, stopped, scanned, answer, answered, refused, reading}
 use Rattle.reader.specs.declared.read.Outcome.{Outcome}
 use Rattle.reader.specs.declared.read.Outcome.the-variants.{Whole, Broken}
-use Rattle.reader.specs.declared.read.Scan.{Scan}
 use Rattle.reader.proofs.Chain.{DataFits, AllFit, chain-fits}
 
 module _ (P : Seen → Type 0) (start : P nothingSeen)

@@ -1,7 +1,7 @@
 -- Laws that belong to no one function.
 pub mod Chain
 pub mod Scan
-pub mod Run
+pub mod Step
 pub mod Whole
 pub mod Count
 pub mod Kept

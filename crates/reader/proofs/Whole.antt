@@ -10,8 +10,7 @@ use Rattle.payload.specs.declared.payload.Fault.{Fault}
 use Rattle.payload.specs.declared.payload.Fault.the-variants.{ChainLength, NotifyShape, DataSize, Conflict, Leftover, Critical}
 use Rattle.findings.specs.Seen.{nothingSeen}
 use Rattle.findings.specs.declared.seen.Seen.{Seen}
-use Rattle.reader.specs.Chain.{chainAt, stopped, scanned, numberOf, answer, answered, refused, reading}
-use Rattle.reader.specs.declared.read.Scan.{Scan}
+use Rattle.reader.specs.Chain.{Scan, chainAt, stopped, scanned, numberOf, answer, answered, refused, reading}
 use Rattle.reader.specs.declared.read.Outcome.{Outcome}
 use Rattle.reader.specs.declared.read.Outcome.the-variants.{Whole, Broken}
 

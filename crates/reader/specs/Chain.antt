@@ -13,7 +13,6 @@ use Rattle.payload.specs.declared.payload.Content.{Content}
 use Rattle.payload.specs.declared.payload.Found.{Found}
 use Rattle.payload.specs.declared.payload.Found.the-variants.{Payload, Faulty}
 use Rattle.findings.specs.declared.seen.Seen.{Seen}
-use Rattle.reader.specs.declared.read.Scan.{Scan}
 use Rattle.reader.specs.declared.read.Outcome.{Outcome}
 use Rattle.reader.specs.declared.read.Outcome.the-variants.{Whole, Broken}
 use Rattle.reader.specs.declared.read.Reading.{Reading}
@@ -57,6 +56,10 @@ abbrev pub endOf : List ℕ → ℕ → Outcome
 endOf body at = cond (eqb at (length body)) Whole (Broken Leftover at)
 
 -- how a scan ended, and what was seen up to there
+pub record Scan : Type 0 where
+  pub outcome : Outcome
+  pub seen : Seen
+
 abbrev pub stopped : Outcome → Seen → Scan
 stopped outcome s = record { outcome = outcome; seen = s }
 

@@ -1,29 +1,24 @@
 // The reader: a chain is checked payload by payload, from its front, to its end or its first fault.
-use findings::seen::Places;
 use findings::seen::Seen;
-use findings::seen::content_noted;
-use findings::seen::in_conflict;
-use findings::seen::list_noted;
 use findings::seen::nothing_seen;
-use findings::seen::with_list;
+use findings::state::OFFSET;
+use findings::state::State;
+use findings::state::content_noted;
+use findings::state::seen_of;
 use payload::payload::Fault;
 use payload::payload::Found;
 use payload::payload::payload_at;
 ghost use mathlib.Core.Path.{_≡_};
-ghost use Prim.Native.Nat.{_≤_};
-ghost use Rattle.findings.specs.Seen.{withList};
-ghost use Rattle.reader.specs.Chain.{chainAt, endOf, stopped, scanned, numberOf, typeOf, refused, ReadAs, Scanning};
+ghost use Prim.Native.Nat.{_<_, _≤_};
+ghost use lib.ListN.{length};
+ghost use Rattle.findings.specs.State.{seenOf};
+ghost use Rattle.reader.specs.Chain.{chainAt, stopped, scanned, numberOf, typeOf, refused, ReadAs, Scanning};
+ghost use Rattle.reader.specs.Codes.{faultOf, outcomeOf, Ends};
 
 // How scanning a chain ends: at its end, or at a fault and its offset.
 pub enum Outcome {
     Whole,
     Broken(Fault, u16),
-}
-
-// The outcome, with what was seen up to there.
-pub struct Scan {
-    pub outcome: Outcome,
-    pub seen: Seen,
 }
 
 // What a reading gives: 01's number, the offset of a fault, and what the payloads said.
@@ -36,66 +31,75 @@ pub struct Reading {
     pub seen: Seen,
 }
 
-// How many payloads one call of `scan_from` checks. A body has room for 1,024 at most, so at most 33 calls stand on the
-// stack.
-pub const RUN: usize = 32;
-
-// The scan that stops with `outcome`, after what was seen with `list` for its list.
-pub fn stop(outcome: Outcome, seen: Seen, list: Places) -> Scan
-    ensures { λ r. ⌜ r ≡ stopped outcome (withList seen list) ⌝ }
+// A fault as a number, which a scan can hand back in a register: the type of a critical payload stands in the low octet.
+pub fn fault_code(f: Fault) -> u16
+    ensures { λ r. ⌜ (0 < r) × (faultOf r ≡ f) ⌝ }
 {
-    Scan {
-        outcome,
-        seen: with_list(seen, list),
+    match f {
+        Fault::ChainLength => 1,
+        Fault::NotifyShape => 2,
+        Fault::DataSize => 3,
+        Fault::Conflict => 4,
+        Fault::Leftover => 5,
+        Fault::Critical(t) => 256 + t as u16,
     }
 }
 
-// How a chain ends whose last payload ends at `place`.
-pub fn end_at(body: &[u8], place: usize) -> Outcome
-    requires { ⌜ place ≤ 4096 ⌝ }
-    ensures { λ r. ⌜ r ≡ endOf (now (body .entry)) place ⌝ }
+pub fn fault_of(code: u16) -> Fault
+    ensures { λ r. ⌜ r ≡ faultOf code ⌝ }
 {
-    if place == body.len() {
+    match code {
+        1 => Fault::ChainLength,
+        2 => Fault::NotifyShape,
+        3 => Fault::DataSize,
+        4 => Fault::Conflict,
+        5 => Fault::Leftover,
+        _ => Fault::Critical((code % 256) as u8),
+    }
+}
+
+// How a scan ended that handed back a code, and an offset with a fault.
+pub fn outcome_of(code: u16, at: u16) -> Outcome
+    ensures { λ r. ⌜ r ≡ outcomeOf code at ⌝ }
+{
+    if code == 0 {
         Outcome::Whole
     } else {
-        Outcome::Broken(Fault::Leftover, place as u16)
+        Outcome::Broken(fault_of(code), at)
     }
 }
 
-// The chain from `at` on, where a payload of type `first` stands, after what was seen. The octets left fall by at least
-// four with each payload, so with each call.
-pub fn scan_from(first: u8, body: &[u8], at: usize, seen: Seen) -> Scan
-    requires { ⌜ Scanning (now body) at seen ⌝ }
-    ensures { λ r. ⌜ r ≡ scanned seen (chainAt (now (body .entry)) first at) ⌝ }
+// Stops a scan at a fault.
+fn stop(state: &mut State, f: Fault, at: usize) -> u16
+    requires { ⌜ (length (now state) ≡ 47) × (at ≤ 4096) ⌝ }
+    ensures { λ r. ⌜ Ends r (now (state .exit)) (stopped (Outcome.Broken f at) (seenOf (now (state .entry)))) ⌝ }
 {
-    let mut next = first;
-    let mut place = at;
-    // The list is most of what was seen: in a local of its own it is copied only where an address is added.
-    let mut so_far = seen;
-    let mut list = seen.list;
-    let mut n = 0;
-    while n < RUN {
-        if next == 0 {
-            return stop(end_at(body, place), so_far, list);
+    state[OFFSET] = at as u16;
+    fault_code(f)
+}
+
+// The chain from `at` on, where a payload of type `first` stands, after what the numbers say was seen: one call a payload, the octets
+// left falling by at least four. The code of its end.
+pub fn scan_from(first: u8, body: &[u8], at: usize, state: &mut State) -> u16
+    requires { ⌜ (length (now state) ≡ 47) × Scanning (now body) at (seenOf (now state)) ⌝ }
+    ensures { λ r. ⌜ Ends r (now (state .exit)) (scanned (seenOf (now (state .entry))) (chainAt (now (body .entry)) first at)) ⌝ }
+{
+    if first == 0 {
+        if at == body.len() {
+            return 0;
         }
-        let found = payload_at(next, body, place);
-        match found {
-            Found::Faulty(f) => {
-                return stop(Outcome::Broken(f, place as u16), so_far, list);
-            }
-            Found::Payload(size, content) => {
-                if in_conflict(with_list(so_far, list), content) {
-                    return stop(Outcome::Broken(Fault::Conflict, place as u16), so_far, list);
-                }
-                list = list_noted(list, content, (place + 8) as u16);
-                so_far = content_noted(so_far, content, (place + 8) as u16);
-                next = body[place];
-                place = place + size as usize;
-            }
-        }
-        n += 1;
+        return stop(state, Fault::Leftover, at);
     }
-    scan_from(next, body, place, with_list(so_far, list))
+    let found = payload_at(first, body, at);
+    match found {
+        Found::Faulty(f) => stop(state, f, at),
+        Found::Payload(size, content) => {
+            if content_noted(state, content, (at + 8) as u16) {
+                return stop(state, Fault::Conflict, at);
+            }
+            scan_from(body[at], body, at + size, state)
+        }
+    }
 }
 
 // The number that 01 gives a fault.
@@ -145,16 +149,15 @@ pub fn read(first: u8, body: &[u8]) -> Reading
     if 4096 < body.len() {
         return refuse(3, 0, 0);
     }
-    let start = nothing_seen();
-    let found = scan_from(first, body, 0, start);
-    let outcome = found.outcome;
-    let seen = found.seen;
+    let mut state = [0u16; 47];
+    let code = scan_from(first, body, 0, &mut state);
+    let outcome = outcome_of(code, state[OFFSET]);
     match outcome {
         Outcome::Whole => Reading {
             number: 0,
             critical: 0,
             offset: 0,
-            seen,
+            seen: seen_of(&state),
         },
         Outcome::Broken(f, at) => refuse(fault_number(f), fault_type(f), at),
     }

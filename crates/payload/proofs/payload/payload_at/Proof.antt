@@ -69,8 +69,8 @@ payload-at-spec =
     returns
     (λ c. search needs)
     (λ c κs. search needs)
-    returns-2
     (λ c. search needs)
+    returns-2
     returns-3
     (λ c κs. search needs)
     returns-4

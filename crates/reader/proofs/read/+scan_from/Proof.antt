@@ -1,5 +1,5 @@
--- The proof of the cycle of calls {scan_from}. The measure is the octets left, of which each payload takes four at least. The
--- loop's invariant, and each way that it goes on or ends, is in proofs/Run.antt.
+-- The proof of the cycle of calls {scan_from}. The measure is the octets left, of which each payload takes four at least. Each way that a
+-- call ends, and what it hands on, is in proofs/Step.antt.
 -- Assumes nothing.
 use Prim.Native.Nat.{ℕ, _-_, _<_}
 use mathlib.Core.Path.{sym, _∙_}
@@ -8,53 +8,35 @@ use borrow.Author.Needs.{needs}
 use lib.ListN.{length}
 use borrow.Fn.Kinds.{In}
 use borrow.Fn.PlainCycle.{Measures, is, falls, and}
-use Rattle.reader.proofs.Run.{Passed, none-passed, ended, faulted, room, conflicted, one-passed}
+use Rattle.reader.proofs.Step.{whole, leftover, faulted, conflicted, passed, room, goes-on}
 use Rattle.reader.proofs.read.scan_from.Reads as scan-from
 use Rattle.reader.proofs.read.scan_from.Kinds as scan-from-kinds
 use Rattle.reader.proofs.read.+scan_from.Lts-scan_from as scan-from-lts
-use Rattle.findings.proofs.seen.content_noted.Reads as content-noted-reads
-use Rattle.findings.proofs.seen.in_conflict.Reads as in-conflict-reads
-use Rattle.findings.proofs.seen.list_noted.Reads as list-noted-reads
-use Rattle.findings.proofs.seen.with_list.Reads as with-list-reads
+use Rattle.findings.proofs.state.content_noted.Reads as content-noted-reads
 use Rattle.payload.proofs.payload.payload_at.Reads as payload-at-reads
-use Rattle.reader.proofs.read.end_at.Reads as end-at-reads
 use Rattle.reader.proofs.read.stop.Reads as stop-reads
 use Rattle.reader.proofs.read.+scan_from.{statement}
 use Rattle.reader.proofs.read.+scan_from.Tie.{close}
 
-abbrev μ-scan-from : Measures 1 scan-from-kinds.ps ℕ
+abbrev μ-scan-from : Measures 2 scan-from-kinds.ps ℕ
 μ-scan-from κs a = length (a .1 .0 .now) - a .1 .1 .0
 
-abbrev scan-from-at : ℕ → In 1 scan-from-kinds.ps
-scan-from-at t = and 1 scan-from-kinds.ps (is 1 scan-from-kinds.ps μ-scan-from t) scan-from.Pre
+abbrev scan-from-at : ℕ → In 2 scan-from-kinds.ps
+scan-from-at t = and 2 scan-from-kinds.ps (is 2 scan-from-kinds.ps μ-scan-from t) scan-from.Pre
 
-abbrev scan-from-below : ℕ → In 1 scan-from-kinds.ps
+abbrev scan-from-below : ℕ → In 2 scan-from-kinds.ps
 scan-from-below t =
-    and 1 scan-from-kinds.ps (falls 1 scan-from-kinds.ps _<_ μ-scan-from t) scan-from.Pre
-
-abbrev Inv-loop : scan-from-lts.InvT-loop
-Inv-loop first body at next₀ place₀ so-far₀ list₀ n₀ next place so-far list n = Passed so-far₀ first body at so-far list next place n
-
-abbrev μ-loop : scan-from-lts.MeasureT-loop
-μ-loop first body at next₀ place₀ so-far₀ list₀ n₀ next place so-far list n = 32 - n
+    and 2 scan-from-kinds.ps (falls 2 scan-from-kinds.ps _<_ μ-scan-from t) scan-from.Pre
 
 pub +scan-from-spec : {M : Type 1} → statement M
 +scan-from-spec =
     close μ-scan-from
     (λ t.
     scan-from-lts.spec (
-      end-at-reads.Asked,
-      end-at-reads.Learnt,
       stop-reads.Asked,
       stop-reads.Learnt,
       payload-at-reads.Asked,
       payload-at-reads.Learnt,
-      with-list-reads.Asked,
-      with-list-reads.Learnt,
-      in-conflict-reads.Asked,
-      in-conflict-reads.Learnt,
-      list-noted-reads.Asked,
-      list-noted-reads.Learnt,
       content-noted-reads.Asked,
       content-noted-reads.Learnt,
       scan-from-below t,
@@ -62,69 +44,63 @@ pub +scan-from-spec : {M : Type 1} → statement M
     )
     (scan-from-at t)
     scan-from.Post
-    Inv-loop
-    μ-loop
-    (λ c. none-passed _ _ _ _ (c .before .before .pre .1))
-    (λ c κs.
-    let p = c .before .before .loop .inv .scanning in
-    omega arith)
-    (λ c κs. search needs)
     (λ c.
-    c .stop .ensures ∙ rw (c .before .end-at .ensures) (sym (ended (c .before .before .before .before .loop .inv) (c .before .before .if1 .taken))))
-    (λ c κs. c .before .before .loop .inv .scanning .inside)
+    let b = c .before .before .before in
+    whole (b .args .state .now) _ _ _ (b .pre .1 .1) (b .pre .1 .0) (c .before .if1 .taken) (c .if2 .taken))
+    (λ c κs. let b = c .before .before .before .before in let p = b .pre .1 .1 in (b .pre .1 .0, omega arith))
+    (λ c.
+    let d = c .before .before in
+    let b = d .before .before .before in
+    leftover (b .args .state .now) _ _ _ (b .pre .1 .1) _ _ (d .before .if1 .taken) (d .if2 .left) (c .stop .ensures))
+    (λ c κs. c .before .before .pre .1 .1 .inside)
     (λ c. search needs)
-    (λ c.
-    let p = c .before .before .before .before .before .before .loop .inv .scanning in
-    omega arith)
-    (λ c κs. search needs)
-    (λ c.
-    c .stop2 .ensures ∙ sym (faulted (c .before .before .before .before .before .before .before .loop .inv) (c .before .before .before .before .before .if1 .left) _ (sym (c .before .before .before .before .payload-at .ensures) ∙ c .before .before .found .given .1)))
+    (λ c κs. let b = c .before .before .before .before .before .before .before in let p = b .pre .1 .1 in (b .pre .1 .0, omega arith))
     (λ c. search needs)
-    (λ c κs. search needs)
-    (λ c κs. search needs)
+    (λ c. let p = c .before .before .before .before .before .before .before .pre .1 .1 in omega arith)
+    (λ c. let p = c .before .before .before .before .before .before .before .pre .1 .1 in omega arith)
+    (λ c κs. let b = c .before .before .before .before .before .before .before in let p = b .pre .1 .1 in (b .pre .1 .0, omega arith))
+    (λ c κs.
+    let p = c .before .before .before .before .before .before .before .before .before .before .pre .1 .1 in
+    (c .before .before .content-noted .ensures .1 .long, omega arith))
     (λ c.
-    let p = c .before .before .before .before .before .before .before .before .before .loop .inv .scanning in
+    let d = c .before .before .before in
+    let m = d .before .before .before in
+    let b = m .before .before .before .before .before in
+    let e = sym (m .before .before .payload-at .ensures) ∙ m .found2 .given .1 in
+    let y = c .before .before .if3 .taken in
+    conflicted (b .args .state .now) _ _ _ (b .pre .1 .1) _ _ (m .before .before .before .if1 .left) _ _ e _
+    (sym (d .content-noted .ensures .0) ∙ y) (rw y at (d .content-noted .ensures .1)) (c .stop3 .ensures))
+    (λ c.
+    let m = c .before .before .before .before .before in
+    let b = m .before .before .before .before .before in
+    let e = sym (m .before .before .payload-at .ensures) ∙ m .found2 .given .1 in
+    let w = room (b .args .state .now) (b .args .first) (b .args .body .now) (b .args .at) (b .pre .1 .1) _ _ e in
     omega arith)
-    (λ c κs. search needs)
     (λ c.
-    c .stop3 .ensures ∙ sym (conflicted (c .before .before .before .before .before .before .before .before .before .before .loop .inv) (c .before .before .before .before .before .before .before .before .if1 .left) _ _ (sym (c .before .before .before .before .before .before .before .payload-at .ensures) ∙ c .before .before .before .before .before .found2 .given .1) (sym (rw (← c .before .before .before .with-list .ensures) (c .before .before .in-conflict .ensures)) ∙ c .before .if2 .taken)))
-    (λ c.
-    let p = c .before .before .before .before .before .before .before .before .before .loop .inv .scanning in
-    omega arith)
-    (λ c.
-    let p = c .before .before .before .before .before .before .before .before .before .loop .inv .scanning in
+    let m = c .before .before .before .before .before in
+    let b = m .before .before .before .before .before in
+    let e = sym (m .before .before .payload-at .ensures) ∙ m .found2 .given .1 in
+    let w = room (b .args .state .now) (b .args .first) (b .args .body .now) (b .args .at) (b .pre .1 .1) _ _ e in
     omega arith)
     (λ c κs.
-    let p = c .before .before .before .before .before .before .before .before .before .loop .inv .scanning in
-    omega arith)
+    let d = c .before .before .before in
+    let m = d .before .before .before in
+    let b = m .before .before .before .before .before in
+    let e = sym (m .before .before .payload-at .ensures) ∙ m .found2 .given .1 in
+    let n = rw (c .before .before .if3 .left) at (d .content-noted .ensures .1) in
+    let w = room (b .args .state .now) (b .args .first) (b .args .body .now) (b .args .at) (b .pre .1 .1) _ _ e in
+    let on = goes-on (b .args .state .now) (b .args .first) (b .args .body .now) (b .args .at) (b .pre .1 .1) _ _ e _ n in
+    (omega arith, (n .long, on)))
     (λ c.
-    let p = c .before .before .before .before .before .before .before .before .before .before .loop .inv .scanning in
-    omega arith)
+    let m = c .before .before .before in
+    let b = m .before .before .before .before .before in
+    let e = sym (m .before .before .payload-at .ensures) ∙ m .found .given .1 in
+    faulted (b .args .state .now) _ _ _ (b .pre .1 .1) _ _ (m .before .before .before .if1 .left) _ e (c .stop2 .ensures))
     (λ c.
-    let p = c .before .before .before .before .before .before .before .before .before .before .loop .inv .scanning in
-    omega arith)
-    (λ c κs.
-    let p = c .before .before .before .before .before .before .before .before .before .before .loop .inv in
-    omega arith)
-    (λ c.
-    let p = c .before .before .before .before .before .before .before .before .before .before .before .before .loop .inv in
-    let w = room p (c .before .before .before .before .before .before .before .before .before .before .if1 .left) _ _ (sym (c .before .before .before .before .before .before .before .before .before .payload-at .ensures) ∙ c .before .before .before .before .before .before .before .found2 .given .1) in
-    omega arith)
-    (λ c.
-    let p = c .before .before .before .before .before .before .before .before .before .before .before .before .loop .inv in
-    let w = room p (c .before .before .before .before .before .before .before .before .before .before .if1 .left) _ _ (sym (c .before .before .before .before .before .before .before .before .before .payload-at .ensures) ∙ c .before .before .before .before .before .before .before .found2 .given .1) in
-    omega arith)
-    (λ c.
-    let p = c .before .before .before .before .before .before .before .before .before .before .before .before .loop .inv in
-    let w = room p (c .before .before .before .before .before .before .before .before .before .before .if1 .left) _ _ (sym (c .before .before .before .before .before .before .before .before .before .payload-at .ensures) ∙ c .before .before .before .before .before .before .before .found2 .given .1) in
-    omega arith)
-    (λ c. search needs)
-    (λ c. omega arith)
-    (λ c.
-    rw (c .before .content-noted .ensures, c .before .before .list-noted .ensures)
-    (one-passed (c .before .before .before .before .before .before .before .before .before .before .before .before .loop .inv) (c .before .before .before .before .before .before .before .before .before .before .if1 .left) _ _ (sym (c .before .before .before .before .before .before .before .before .before .payload-at .ensures) ∙ c .before .before .before .before .before .before .before .found2 .given .1) (sym (rw (← c .before .before .before .before .before .with-list .ensures) (c .before .before .before .before .in-conflict .ensures)) ∙ c .before .before .before .if2 .left)))
-    (λ c κs. search needs)
-    (λ c κs.
-    let p = c .before .before .loop .inv in
-    (omega arith, rw (c .with-list2 .ensures) (p .scanning)))
-    (λ c. c .scan-from .ensures ∙ rw (c .before .with-list2 .ensures) (sym (c .before .before .before .loop .inv .rest))))
+    let d = c .before .before .before .before in
+    let m = d .before .before .before in
+    let b = m .before .before .before .before .before in
+    let e = sym (m .before .before .payload-at .ensures) ∙ m .found2 .given .1 in
+    let y = c .before .before .before .if3 .left in
+    passed (b .args .state .now) _ _ _ (b .pre .1 .1) _ _ (m .before .before .before .if1 .left) _ _ e _
+    (sym (d .content-noted .ensures .0) ∙ y) (rw y at (d .content-noted .ensures .1)) (c .scan-from .ensures)))

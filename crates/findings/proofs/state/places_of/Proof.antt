@@ -1,0 +1,41 @@
+-- `findings::state::places_of` meets its contract. The loop's invariant: the first i places are copied.
+-- Assumes nothing.
+use borrow.Author.Needs.{needs}
+use Prim.Native.Nat.{_+_, _-_, _≤_}
+use mathlib.Core.Path.{_≡_, refl, _∙_}
+use native.Mathlib.Omega.{arith}
+use lib.ListN.{drop, length-drop}
+use lib.Seq.{getD-drop}
+use Rattle.octets.proofs.Pad.{copied, stored, copied-all}
+use Rattle.findings.proofs.state.places_of.Statement.{statement}
+use Rattle.findings.proofs.state.places_of.Tie as tie
+
+abbrev Inv-loop : tie.InvT-loop
+Inv-loop state out₀ i₀ out i = (i ≤ 16) × (out ≡ copied 0 (drop 14 state) 16 i)
+
+abbrev μ-loop : tie.MeasureT-loop
+μ-loop state out₀ i₀ out i = 16 - i
+
+pub places-of-spec : {M : Type 1} → statement M
+places-of-spec =
+    tie.close
+    (tie.spec
+    Inv-loop
+    μ-loop
+    (λ c. (search needs, refl))
+    (λ c. search needs)
+    (λ c. search needs)
+    (λ c. search needs)
+    (λ c. search needs)
+    (λ c. search needs)
+    (λ c. search needs)
+    (λ c. search needs)
+    (λ c.
+    let b = c .before .before .before in
+    let s = b .args .state .now in
+    let l = c .before .before .loop in (
+      omega arith,
+      rw (l .inv .1, ← getD-drop 14 s (l .i) 0)
+          (stored 0 (drop 14 s) 16 (l .i) (omega (arith, length-drop 14 s, b .pre)) (omega arith) 0),
+    ))
+    (λ c. c .before .loop .inv .1 ∙ copied-all 0 _ 16 (c .before .loop .i) (omega arith)))

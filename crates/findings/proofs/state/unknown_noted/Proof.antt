@@ -1,0 +1,32 @@
+-- `findings::state::unknown_noted` meets its contract.
+-- Assumes nothing.
+use borrow.Author.Needs.{needs}
+use native.Mathlib.Omega.{arith}
+use mathlib.Core.Path.{sym, _∙_}
+use Rattle.findings.proofs.Stored.{same, status-tallied, first-tallied, later-tallied}
+use Rattle.findings.proofs.state.unknown_noted.Statement.{statement}
+use Rattle.findings.proofs.state.unknown_noted.Tie as tie
+
+pub unknown-noted-spec : {M : Type 1} → statement M
+unknown-noted-spec =
+    tie.close
+    (tie.spec
+    (λ c. search needs)
+    (λ c. search needs)
+    (λ c. search needs)
+    (λ c κs. search needs)
+    (λ c. search needs)
+    (λ c. let b = c .before .before .before .before in omega (arith, same (b .args .state .now) (b .pre .0) (b .args .kind) (b .args .number)))
+    (λ c. search needs)
+    (λ c. search needs)
+    (λ c.
+    let d = c .before .before .before in
+    let b = d .before .before in
+    first-tallied _ (b .pre .0) (b .args .kind) (b .args .number) (sym (d .is-error .ensures) ∙ c .before .before .if1 .taken) (c .if2 .taken))
+    (λ c.
+    let d = c .before .before .before in
+    let b = d .before .before in
+    later-tallied _ (b .pre .0) (b .args .kind) (b .args .number) (sym (d .is-error .ensures) ∙ c .before .before .if1 .taken) (c .if2 .left))
+    (λ c.
+    let b = c .before .before .before in
+    status-tallied _ (b .pre .0) (b .args .kind) (b .args .number) (sym (c .before .is-error .ensures) ∙ c .if1 .left)))
