@@ -10,10 +10,9 @@ use Rattle.payload.specs.declared.payload.Fault.{Fault}
 use Rattle.payload.specs.declared.payload.Fault.the-variants.{ChainLength, NotifyShape, DataSize, Conflict, Leftover, Critical}
 use Rattle.findings.specs.Seen.{nothingSeen}
 use Rattle.findings.specs.declared.seen.Seen.{Seen}
-use Rattle.reader.specs.Chain.{chainAt, scanned, numberOf, answer, reading}
+use Rattle.reader.specs.Chain.{Scan, chainAt, scanned, numberOf, answer, reading}
 use Rattle.reader.specs.declared.read.Outcome.{Outcome}
 use Rattle.reader.specs.declared.read.Outcome.the-variants.{Whole, Broken}
-use Rattle.reader.specs.declared.read.Scan.{Scan}
 
 fault-number : (f : Fault) → (numberOf f ≡ 6) ⊎ (numberOf f ≡ 7)
 fault-number ChainLength = inl refl
