@@ -12,7 +12,8 @@ use Rattle.reader.specs.Chain.{reading}
 use Rattle.reader.specs.declared.read.Reading.{Reading}
 use Rattle.records.specs.declared.ike.Marks.{Marks}
 use Rattle.deciding.specs.Decide.{decided}
-use Rattle.answering.specs.Core.{Asked, wantsNats, cookieIn, chainError, refusalReply, decidedOctets, decidedAnswer, unchangedAnswer, coreAnswer, coreResponse}
+use Rattle.answering.specs.Core.{Asked, cookieIn, chainError, refusalReply, decidedAnswer, unchangedAnswer, coreAnswer, coreResponse}
+use Rattle.responding.specs.Respond.{wantsNats, decidedOctets}
 use Rattle.deciding.specs.declared.decide.Decision.{Decision}
 use Rattle.answering.specs.declared.core.Reply.{Reply}
 

@@ -1,7 +1,7 @@
 -- One request on the record that it means, after checks 1 to 5: reading, steps 1 to 4, all that is given back, and the record after it.
 use Prim.Native.Nat.{ℕ, min}
 use mathlib.Core.List.{List, [], _∷_}
-use mathlib.Core.Bool.{Bool, false, cond, _&&_, not}
+use mathlib.Core.Bool.{Bool, false, cond}
 use lib.Dec.{eqb}
 use lib.ListN.{length}
 use Rattle.address.specs.declared.pair.Pair.{Pair}
@@ -15,10 +15,9 @@ use Rattle.records.specs.Records.{marksIn, remarked, relisted}
 use Rattle.records.specs.declared.ike.IkeRecord.{IkeRecord}
 use Rattle.records.specs.declared.ike.Marks.{Marks}
 use Rattle.deciding.specs.Decide.{effectNumber, verdictNumber, isDone, decided}
-use Rattle.responding.specs.Respond.{errorResponse, doneResponse}
+use Rattle.responding.specs.Respond.{errorResponse, wantsNats, decidedOctets}
 use Rattle.deciding.specs.declared.decide.Decision.{Decision}
 use Rattle.deciding.specs.declared.decide.Verdict.{Verdict}
-use Rattle.deciding.specs.declared.decide.Verdict.the-variants.{Accepted, Altered, Unacceptable}
 use Rattle.answering.specs.declared.core.Reply.{Reply}
 use Rattle.answering.specs.declared.core.CoreAnswer.{CoreAnswer}
 
@@ -62,16 +61,6 @@ refusalReply number offset n =
 
 abbrev pub cookieIn : List ℕ → Seen → List ℕ
 cookieIn body s = partOf body (s .cookie) (s .«cookie_len»)
-
--- 01: "both NAT detection kinds"; E2: they are answered "in any INFORMATIONAL request", with an update or without.
-abbrev pub wantsNats : Seen → Bool
-wantsNats s = not (eqb (s .«nat_source») 0) && not (eqb (s .«nat_destination») 0)
-
--- 01, step 4: "UNEXPECTED_NAT_DETECTED (41)" for 8, "UNACCEPTABLE_ADDRESSES (40)" for 9, each with the cookie; else the done response.
-abbrev pub decidedOctets : Verdict → Bool → List ℕ → List ℕ → List ℕ → List ℕ
-decidedOctets Accepted wanted source destination cookie = doneResponse wanted source destination cookie
-decidedOctets Altered wanted source destination cookie = errorResponse 41 [] cookie
-decidedOctets Unacceptable wanted source destination cookie = errorResponse 40 [] cookie
 
 abbrev pub decidedResponse : Verdict → Asked → Seen → List ℕ
 decidedResponse v q s = decidedOctets v (wantsNats s) (q .nat-source) (q .nat-destination) (cookieIn (q .body) s)

@@ -1,7 +1,6 @@
 // One request by the marks of the record that it means: read, decide, respond.
 use address::pair::Pair;
 use deciding::decide::Decision;
-use deciding::decide::Verdict;
 use deciding::decide::decide;
 use deciding::decide::effect_number;
 use deciding::decide::is_done;
@@ -17,8 +16,9 @@ use records::ike::IkeRecord;
 use records::ike::Marks;
 use records::ike::relist;
 use records::ike::remark;
-use responding::respond::put_done;
 use responding::respond::put_error;
+use responding::respond::respond_decided;
+use responding::respond::wants_nats;
 use values::addresses_in;
 use values::cookie;
 use values::kept_count;
@@ -29,7 +29,7 @@ ghost use lib.ListN.{length};
 ghost use Rattle.values.specs.Values.{noNatsSeen};
 ghost use Rattle.deciding.specs.Decide.{decided};
 ghost use Rattle.writing.specs.Notify.{placed};
-ghost use Rattle.answering.specs.Core.{asked, firstOf, refusalReply, chainError, wantsNats, decidedOctets, decidedReply, decidedAnswer, unchangedAnswer, coreAnswer, coreResponse, changedBy};
+ghost use Rattle.answering.specs.Core.{asked, firstOf, refusalReply, chainError, decidedReply, decidedAnswer, unchangedAnswer, coreAnswer, coreResponse, changedBy};
 
 // All that a call gives back but the tables. The cookie is the part of the body at `cookie`.
 #[repr(C)]
@@ -95,36 +95,6 @@ pub fn refuse_chain(r: Reading, out: &mut [u8]) -> Reply
     }
     let n = put_error(out, NotifyType::INVALID_SYNTAX, &none, &none);
     refusal(r.number, r.offset, n as u16)
-}
-
-// Whether the response gives the two lent NAT detection values.
-pub fn wants_nats(seen: Seen) -> bool
-    ensures { λ r. ⌜ r ≡ wantsNats seen ⌝ }
-{
-    let source = seen.nat_source != 0;
-    let destination = seen.nat_destination != 0;
-    if source { destination } else { false }
-}
-
-// Step 4: the response to a request that was decided with this verdict.
-pub fn respond_decided(
-    verdict: Verdict,
-    wanted: bool,
-    source: &[u8],
-    destination: &[u8],
-    cookie: &[u8],
-    out: &mut [u8],
-) -> usize
-    requires { ⌜ (128 ≤ length (now out)) × (length (now source) ≡ 20) × (length (now destination) ≡ 20) × (length (now cookie) ≤ 64) ⌝ }
-    ensures { λ r. ⌜ r ≡ length (decidedOctets verdict wanted (now (source .entry)) (now (destination .entry)) (now (cookie .entry))) ⌝ }
-    ensures { λ _. ⌜ now (out .exit) ≡ placed (now (out .entry)) 0 (decidedOctets verdict wanted (now (source .entry)) (now (destination .entry)) (now (cookie .entry))) ⌝ }
-{
-    let none = [0u8; 0];
-    match verdict {
-        Verdict::Accepted => put_done(out, wanted, source, destination, cookie),
-        Verdict::Altered => put_error(out, NotifyType::UNEXPECTED_NAT_DETECTED, &none, cookie),
-        Verdict::Unacceptable => put_error(out, NotifyType::UNACCEPTABLE_ADDRESSES, &none, cookie),
-    }
 }
 
 // Steps 1 to 3 on what was read of a body.

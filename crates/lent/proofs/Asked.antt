@@ -39,8 +39,8 @@ use Rattle.lent_ike.proofs.ike.ike_place as home
 use Rattle.lent_ike.proofs.ike.ike_place.Symbol as home-def
 use Rattle.lent_ike.proofs.ike.ike_store as put
 use Rattle.lent_ike.proofs.ike.ike_store.Symbol as put-def
-use Rattle.lent_ipsec.proofs.owned.ipsec_count as count
-use Rattle.lent_ipsec.proofs.owned.ipsec_count.Symbol as count-def
+use Rattle.lent_owned.proofs.owned.ipsec_count as count
+use Rattle.lent_owned.proofs.owned.ipsec_count.Symbol as count-def
 use Rattle.lent_ipsec.proofs.places.ipsec_place as place
 use Rattle.lent_ipsec.proofs.places.ipsec_place.Symbol as place-def
 use Rattle.lent_ipsec.proofs.places.ipsec_store as store

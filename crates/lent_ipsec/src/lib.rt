@@ -1,3 +1,2 @@
-// The lent list of IPsec records: thin functions over the records that a host lends.
-pub mod owned;
+// The lent list of IPsec records: the lowest place with an SPI, and a record stored at a place.
 pub mod places;

@@ -17,7 +17,8 @@ use Rattle.records.specs.declared.ike.IkeRecord.{IkeRecord}
 use Rattle.writing.specs.Notify.{notifyOctets}
 use Rattle.deciding.specs.Decide.{tallied, hasList}
 use Rattle.responding.specs.Respond.{nextFor, cookieNotify, doneResponse}
-use Rattle.answering.specs.Core.{cookieIn, wantsNats}
+use Rattle.answering.specs.Core.{cookieIn}
+use Rattle.responding.specs.Respond.{wantsNats}
 use Rattle.responder.specs.Handle.{Request, meant, handled, handledResponse, seenIn, afterRequest}
 
 -- "if the ID doesn't exceed the update mark, the update is stale": a mark is kept as the least ID that exceeds it.

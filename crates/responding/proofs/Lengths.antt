@@ -8,7 +8,9 @@ use lib.Dec.{eqb, leb}
 use lib.ListN.{length, take, drop, length-append, length-take}
 use Rattle.writing.specs.Notify.{notifyOctets}
 use Rattle.writing.proofs.Placed.{length-notify}
-use Rattle.responding.specs.Respond.{nextFor, cookieNotify, errorResponse, doneResponse}
+use Rattle.deciding.specs.declared.decide.Verdict.{Verdict}
+use Rattle.deciding.specs.declared.decide.Verdict.the-variants.{Accepted, Altered, Unacceptable}
+use Rattle.responding.specs.Respond.{nextFor, cookieNotify, errorResponse, doneResponse, decidedOctets}
 
 pub cookie-length : (cookie : List ℕ) → length (cookieNotify cookie) ≤ 8 + length cookie
 unfolding cookieNotify
@@ -33,3 +35,9 @@ done-length true source destination cookie =
     rw (length-append first (second ++ cookieNotify cookie), length-append second (cookieNotify cookie))
     (omega (arith, length-notify 41 16388 source, length-notify (nextFor cookie) 16389 destination, cookie-length cookie))
 done-length false source destination cookie = omega (arith, cookie-length cookie)
+
+pub octets-length : (v : Verdict) (wanted : Bool) (source destination cookie : List ℕ) → length source ≡ 20 → length destination ≡ 20 → length cookie ≤ 64
+    → length (decidedOctets v wanted source destination cookie) ≤ 128
+octets-length Accepted wanted source destination cookie s d c = omega (arith, done-length wanted source destination cookie)
+octets-length Altered wanted source destination cookie s d c = omega (arith, error-length 41 [] cookie)
+octets-length Unacceptable wanted source destination cookie s d c = omega (arith, error-length 40 [] cookie)

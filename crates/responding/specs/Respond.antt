@@ -1,10 +1,13 @@
 -- The response payloads: 01's "One request, step by step", step 4, and the column "Response" of its table of numbers.
 use Prim.Native.Nat.{ℕ}
 use mathlib.Core.List.{List, [], _++_}
-use mathlib.Core.Bool.{Bool, cond}
+use mathlib.Core.Bool.{Bool, cond, _&&_, not}
 use lib.Dec.{eqb}
 use lib.ListN.{length}
 use Rattle.writing.specs.Notify.{notifyOctets}
+use Rattle.findings.specs.declared.seen.Seen.{Seen}
+use Rattle.deciding.specs.declared.decide.Verdict.{Verdict}
+use Rattle.deciding.specs.declared.decide.Verdict.the-variants.{Accepted, Altered, Unacceptable}
 
 abbrev pub nextFor : List ℕ → ℕ
 nextFor cookie = cond (eqb (length cookie) 0) 0 41
@@ -24,3 +27,13 @@ doneResponse wanted source destination cookie =
     cond wanted
     (notifyOctets 41 16388 source ++ (notifyOctets (nextFor cookie) 16389 destination ++ cookieNotify cookie))
     (cookieNotify cookie)
+
+-- 01: "both NAT detection kinds"; E2: they are answered "in any INFORMATIONAL request", with an update or without.
+abbrev pub wantsNats : Seen → Bool
+wantsNats s = not (eqb (s .«nat_source») 0) && not (eqb (s .«nat_destination») 0)
+
+-- 01, step 4: "UNEXPECTED_NAT_DETECTED (41)" for 8, "UNACCEPTABLE_ADDRESSES (40)" for 9, each with the cookie; else the done response.
+abbrev pub decidedOctets : Verdict → Bool → List ℕ → List ℕ → List ℕ → List ℕ
+decidedOctets Accepted wanted source destination cookie = doneResponse wanted source destination cookie
+decidedOctets Altered wanted source destination cookie = errorResponse 41 [] cookie
+decidedOctets Unacceptable wanted source destination cookie = errorResponse 40 [] cookie

@@ -1,11 +1,13 @@
 // The response payloads, written from the output's start.
+use deciding::decide::Verdict;
+use findings::seen::Seen;
 use payload::notify::NotifyType;
 use writing::put_notify;
 ghost use mathlib.Core.Path.{_≡_};
 ghost use Prim.Native.Nat.{_+_, _≤_};
 ghost use lib.ListN.{length};
 ghost use Rattle.writing.specs.Notify.{placed};
-ghost use Rattle.responding.specs.Respond.{nextFor, cookieNotify, errorResponse, doneResponse};
+ghost use Rattle.responding.specs.Respond.{nextFor, cookieNotify, errorResponse, doneResponse, wantsNats, decidedOctets};
 
 // The type of what follows: a Notify where there is a cookie to copy.
 pub fn next_for(cookie: &[u8]) -> u8
@@ -62,4 +64,34 @@ pub fn put_done(
         return put_cookie(out, end, cookie);
     }
     put_cookie(out, 0, cookie)
+}
+
+// Whether the response gives the two lent NAT detection values.
+pub fn wants_nats(seen: Seen) -> bool
+    ensures { λ r. ⌜ r ≡ wantsNats seen ⌝ }
+{
+    let source = seen.nat_source != 0;
+    let destination = seen.nat_destination != 0;
+    if source { destination } else { false }
+}
+
+// Step 4: the response to a request that was decided with this verdict.
+pub fn respond_decided(
+    verdict: Verdict,
+    wanted: bool,
+    source: &[u8],
+    destination: &[u8],
+    cookie: &[u8],
+    out: &mut [u8],
+) -> usize
+    requires { ⌜ (128 ≤ length (now out)) × (length (now source) ≡ 20) × (length (now destination) ≡ 20) × (length (now cookie) ≤ 64) ⌝ }
+    ensures { λ r. ⌜ r ≡ length (decidedOctets verdict wanted (now (source .entry)) (now (destination .entry)) (now (cookie .entry))) ⌝ }
+    ensures { λ _. ⌜ now (out .exit) ≡ placed (now (out .entry)) 0 (decidedOctets verdict wanted (now (source .entry)) (now (destination .entry)) (now (cookie .entry))) ⌝ }
+{
+    let none = [0u8; 0];
+    match verdict {
+        Verdict::Accepted => put_done(out, wanted, source, destination, cookie),
+        Verdict::Altered => put_error(out, NotifyType::UNEXPECTED_NAT_DETECTED, &none, cookie),
+        Verdict::Unacceptable => put_error(out, NotifyType::UNACCEPTABLE_ADDRESSES, &none, cookie),
+    }
 }

@@ -8,7 +8,8 @@ use lib.ListN.{length}
 use Rattle.writing.specs.Notify.{placed}
 use Rattle.reader.specs.declared.read.Reading.{Reading}
 use Rattle.answering.specs.Core.{asked}
-use Rattle.answering.proofs.Lengths.{cookie-part, octets-length}
+use Rattle.responding.proofs.Lengths.{octets-length}
+use Rattle.answering.proofs.Lengths.{cookie-part}
 use Rattle.answering.proofs.Ways.{done-response, done-result, refused-response, refused-result}
 use Rattle.answering.proofs.core.respond_to.Statement.{statement}
 use Rattle.answering.proofs.core.respond_to.Tie as tie

@@ -1,4 +1,4 @@
--- `lent_ipsec::owned::follow_if` meets its contract: a walk of its MIR, by hand. Where the owner moved the slice goes to `follow_all` for good, which is known by its contract alone; else it is given up at the list passed.
+-- `lent_owned::owned::follow_if` meets its contract: a walk of its MIR, by hand. Where the owner moved the slice goes to `follow_all` for good, which is known by its contract alone; else it is given up at the list passed.
 -- Assumes nothing.
 use Rattle.walks.proofs.Kit.{_≡_, refl, _∙_, ℕ, _<_, _^_, Bool, cond, [], _∷_, List, map, length, URA, named, erased, w64, tyInt, tyBool, tyUnit, Val, vunit, vbool, vint, SProp, ent, emp, via, id⊢, fst∗, Lft, Share, ftrue, flft, Memory, Routine, Heap, Env, Calls, Loops, WpFn, Atoms, Fun}
 use Rattle.walks.proofs.Kit.{fact, givenOf, tables, tablesOf, Given, ‵, raw, _⊛_, ⋆, some, later, runs, atRet, Sq, _$_, _∵_, !, qed, by, move, drop, use1, use2, split, join, pick, fsplit, fjoin, feqL, feqI, suffices, frame, await, done, look, init, forget, stop, hop, fld, from, load}
@@ -12,17 +12,17 @@ use Rattle.address.proofs.pair.Pair.Laws as P′
 use Rattle.records.specs.Records.{follows}
 use Rattle.records.specs.declared.ipsec.IpsecRecord.{IpsecRecord}
 use Rattle.walks.proofs.Walk.{closes}
 use Rattle.lent_ipsec.proofs.IpsecTable.{R, slice-of, ptr-mut, val-of, gives-up}
 use Rattle.walks.proofs.Locals.{holds, empty, chosen, left}
-use Rattle.lent_ipsec.proofs.owned.follow_all as g
-use Rattle.lent_ipsec.proofs.owned.follow_all.Symbol as g-def
-use Rattle.lent_ipsec.proofs.owned.follow_all.Symbol.{name as #follow-all}
-use Rattle.lent_ipsec.proofs.owned.follow_all.Met as g-thm
-use Rattle.lent_ipsec.proofs.owned.follow_if.Key.{name as #follow-if}
-use Rattle.lent_ipsec.proofs.owned.follow_if as f
-use Rattle.lent_ipsec.proofs.owned.follow_if.Statement as stated
-use Rattle.lent_ipsec.proofs.owned.follow_if.Code as code
-use Rattle.lent_ipsec.proofs.owned.follow_if.Code.Mir as mir′
+use Rattle.lent_owned.proofs.owned.follow_all as g
+use Rattle.lent_owned.proofs.owned.follow_all.Symbol as g-def
+use Rattle.lent_owned.proofs.owned.follow_all.Symbol.{name as #follow-all}
+use Rattle.lent_owned.proofs.owned.follow_all.Met as g-thm
+use Rattle.lent_owned.proofs.owned.follow_if.Key.{name as #follow-if}
+use Rattle.lent_owned.proofs.owned.follow_if as f
+use Rattle.lent_owned.proofs.owned.follow_if.Statement as stated
+use Rattle.lent_owned.proofs.owned.follow_if.Code as code
+use Rattle.lent_owned.proofs.owned.follow_if.Code.Mir as mir′
 
 abbrev pair-val : Pair → Val
 pair-val = LL.val P.the-type P′.the-laws
@@ -112,4 +112,4 @@ follow-if-spec 𝓤 H 𝓜 𝓖 𝓡 =
     (λ κs. (slice-vals, (bool-vals, (uint-vals w64, (LL.vals P.the-type P′.the-laws, tt))))) (λ κs. (mut-slice-tells (named 0) (κs .0) R, (bool-tells, (uint-tells w64, (LL.tells P.the-type P′.the-laws, tt)))))
     (λ κs qs bounds a g are. via 𝓤 _ (fst∗ 𝓤 _ (emp 𝓤))
     (walk 𝓤 H (𝓖 .A) W (𝓜 .mem) (𝓡 .run) (κs .0) (qs .0) (a .0) (a .1 .0) (a .1 .1 .0) (a .1 .1 .1 .0) (are .0 .0 .1) (are .1 .1 .0 .1) (are .1 .1 .1 .0) (Ts .C) (Ts .Λ) (fmOf 𝓤 H (W .laws) (tablesOf 𝓤 H 𝓜 Ts))
-    (cited 𝓤 H (FollowAll 𝓤 H (𝓖 .A) (𝓜 .mem) (𝓡 .run)) 𝓜 𝓡 code.env #follow-all g-def.routine code.calls-lent-ipsec·owned·follow-all (g-thm.met 𝓤 H 𝓜 𝓖 𝓡))))
+    (cited 𝓤 H (FollowAll 𝓤 H (𝓖 .A) (𝓜 .mem) (𝓡 .run)) 𝓜 𝓡 code.env #follow-all g-def.routine code.calls-lent-owned·owned·follow-all (g-thm.met 𝓤 H 𝓜 𝓖 𝓡))))

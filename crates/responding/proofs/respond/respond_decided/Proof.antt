@@ -1,10 +1,10 @@
--- `answering::core::respond_decided` meets its contract.
+-- `responding::respond::respond_decided` meets its contract.
 -- Assumes nothing.
 use borrow.Author.Needs.{needs}
 use borrow.Author.Tests.{eq-eqb, ne-eqb}
-use Rattle.answering.specs.Core.{decidedOctets}
-use Rattle.answering.proofs.core.respond_decided.Statement.{statement}
-use Rattle.answering.proofs.core.respond_decided.Tie as tie
+use Rattle.responding.specs.Respond.{decidedOctets}
+use Rattle.responding.proofs.respond.respond_decided.Statement.{statement}
+use Rattle.responding.proofs.respond.respond_decided.Tie as tie
 
 pub respond-decided-spec : {M : Type 1} → statement M
 respond-decided-spec =
