@@ -1,11 +1,11 @@
--- `findings::state::none_noted` meets its contract.
+-- `noting::note::none_noted` meets its contract.
 -- Assumes nothing.
 use borrow.Author.Needs.{needs}
 use borrow.Author.Tests.{eq-eqb, ne-eqb}
 use mathlib.Core.Path.{refl}
 use mathlib.Core.Bool.{or-true, or-false}
-use Rattle.findings.proofs.state.none_noted.Statement.{statement}
-use Rattle.findings.proofs.state.none_noted.Tie as tie
+use Rattle.noting.proofs.note.none_noted.Statement.{statement}
+use Rattle.noting.proofs.note.none_noted.Tie as tie
 
 pub none-noted-spec : {M : Type 1} → statement M
 none-noted-spec =

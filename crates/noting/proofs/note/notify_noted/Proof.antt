@@ -1,4 +1,4 @@
--- `findings::state::notify_noted` meets its contract: each arm stores what its kind adds.
+-- `noting::note::notify_noted` meets its contract: each arm stores what its kind adds.
 -- Assumes nothing.
 use borrow.Author.Needs.{needs}
 use Prim.Native.Nat.{ℕ}
@@ -12,12 +12,12 @@ use types.Run.{OneOf, miss}
 use Rattle.payload.specs.declared.notify.NotifyKind.{NotifyKind}
 use Rattle.payload.specs.declared.notify.NotifyKind.the-variants.{NatDetectionSource, NatDetectionDestination, MobikeSupported, AdditionalIp4, AdditionalIp6, NoAdditionalAddresses, UpdateSaAddresses, Cookie2, NoNatsAllowed, UnacceptableAddresses, UnexpectedNatDetected, OtherError, OtherStatus}
 use Rattle.payload.proofs.notify.NotifyKind as kind
 use Rattle.findings.specs.Seen.{unknownNotify, withTally, noted, repeats}
 use Rattle.findings.specs.State.{seenOf, Says}
 use Rattle.findings.specs.declared.seen.Seen.{Seen}
 use Rattle.findings.proofs.Stored.{either, updated, none-listed, source-seen, destination-seen, no-nats-seen, cookie-seen}
-use Rattle.findings.proofs.state.notify_noted.Statement.{statement}
-use Rattle.findings.proofs.state.notify_noted.Tie as tie
+use Rattle.noting.proofs.note.notify_noted.Statement.{statement}
+use Rattle.noting.proofs.note.notify_noted.Tie as tie
 
 -- the tags of the kinds that are tallied as unknown
 abbrev unknowns : List ℕ

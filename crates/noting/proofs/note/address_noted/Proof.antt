@@ -1,12 +1,12 @@
--- `findings::state::address_noted` meets its contract: past the sixteenth place nothing is stored.
+-- `noting::note::address_noted` meets its contract: past the sixteenth place nothing is stored.
 -- Assumes nothing.
 use borrow.Author.Needs.{needs}
 use borrow.Author.Tests.{eq-eqb, ne-eqb}
 use native.Mathlib.Omega.{arith}
 use mathlib.Core.Path.{refl}
 use Rattle.findings.proofs.Stored.{address-kept, address-left-off}
-use Rattle.findings.proofs.state.address_noted.Statement.{statement}
-use Rattle.findings.proofs.state.address_noted.Tie as tie
+use Rattle.noting.proofs.note.address_noted.Statement.{statement}
+use Rattle.noting.proofs.note.address_noted.Tie as tie
 
 pub address-noted-spec : {M : Type 1} → statement M
 address-noted-spec =

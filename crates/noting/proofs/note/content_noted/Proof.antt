@@ -1,4 +1,4 @@
--- `findings::state::content_noted` meets its contract: a notification is noted and then counted, which comes to the same.
+-- `noting::note::content_noted` meets its contract: a notification is noted and then counted, which comes to the same.
 -- Assumes nothing.
 use borrow.Author.Needs.{needs}
 use Prim.Native.Nat.{ℕ, _<_}
@@ -7,12 +7,12 @@ use mathlib.Core.List.{List}
 use native.Mathlib.Omega.{arith}
 use lib.ListN.{getD}
 use Rattle.payload.specs.declared.notify.NotifyKind.{NotifyKind}
 use Rattle.findings.specs.Seen.{counted, withTally, noted, contentNoted, Counted}
 use Rattle.findings.specs.State.{seenOf, Says}
 use Rattle.findings.specs.declared.seen.Seen.{Seen}
 use Rattle.findings.proofs.Counts.{tally-same, payload-last}
-use Rattle.findings.proofs.state.content_noted.Statement.{statement}
-use Rattle.findings.proofs.state.content_noted.Tie as tie
+use Rattle.noting.proofs.note.content_noted.Statement.{statement}
+use Rattle.noting.proofs.note.content_noted.Tie as tie
 
 -- after a notification that was noted
 module _ (s t : List ℕ) (k : NotifyKind) (number place len : ℕ) (w : Says t (noted (seenOf s) k number place len)) where

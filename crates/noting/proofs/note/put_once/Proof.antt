@@ -1,10 +1,10 @@
--- `findings::state::put_once` meets its contract.
+-- `noting::note::put_once` meets its contract.
 -- Assumes nothing.
 use borrow.Author.Needs.{needs}
 use borrow.Author.Tests.{eq-eqb, ne-eqb}
 use mathlib.Core.Path.{refl}
-use Rattle.findings.proofs.state.put_once.Statement.{statement}
-use Rattle.findings.proofs.state.put_once.Tie as tie
+use Rattle.noting.proofs.note.put_once.Statement.{statement}
+use Rattle.noting.proofs.note.put_once.Tie as tie
 
 pub put-once-spec : {M : Type 1} → statement M
 put-once-spec =

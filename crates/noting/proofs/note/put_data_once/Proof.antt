@@ -1,9 +1,9 @@
--- `findings::state::put_data_once` meets its contract.
+-- `noting::note::put_data_once` meets its contract.
 -- Assumes nothing.
 use borrow.Author.Needs.{needs}
 use mathlib.Core.Path.{sym, _∙_}
-use Rattle.findings.proofs.state.put_data_once.Statement.{statement}
-use Rattle.findings.proofs.state.put_data_once.Tie as tie
+use Rattle.noting.proofs.note.put_data_once.Statement.{statement}
+use Rattle.noting.proofs.note.put_data_once.Tie as tie
 
 pub put-data-once-spec : {M : Type 1} → statement M
 put-data-once-spec =

@@ -1,9 +1,9 @@
--- `findings::state::source_noted` meets its contract.
+-- `noting::note::source_noted` meets its contract.
 -- Assumes nothing.
 use borrow.Author.Needs.{needs}
 use borrow.Author.Tests.{eq-eqb, ne-eqb}
-use Rattle.findings.proofs.state.source_noted.Statement.{statement}
-use Rattle.findings.proofs.state.source_noted.Tie as tie
+use Rattle.noting.proofs.note.source_noted.Statement.{statement}
+use Rattle.noting.proofs.note.source_noted.Tie as tie
 
 pub source-noted-spec : {M : Type 1} → statement M
 source-noted-spec =
