@@ -8,7 +8,7 @@ use native.Mathlib.Nat.{mod-eq-of-lt}
 use borrow.Author.Tests.{eq-eqb, ne-eqb}
 use lib.Dec.{eqb}
 use lib.ListN.{length, getD, take, drop, set, length-take, length-drop, length-map, length-set, replicate}
-use lib.Seq.{drop-cons, take-set-le, take-set-lt, drop-set-add, drop-set-lt, set-out, getD-set-other}
+use lib.Seq.{drop-cons, take-set-le, take-set-lt, drop-set-add, drop-set-lt, set-out}
 use Rattle.octets.specs.Flags.{isYes}
 use Rattle.payload.specs.Notify.{isError}
 use Rattle.payload.specs.declared.notify.NotifyKind.{NotifyKind}
@@ -57,7 +57,7 @@ map-set f (x ∷ l) (suc i) v = ap (λ (r : List ℕ). f x ∷ r) (map-set f l i
 
 module _ (s : List ℕ) (long : length s ≡ 47) where
   pub payload-counted : (unknown : ℕ)
-      → Says (set (set s 0 (getD s 0 0 + 1)) 1 (getD (set s 0 (getD s 0 0 + 1)) 1 0 + unknown))
+      → Says (set (set s 0 (getD s 0 0 + 1)) 1 (getD s 1 0 + unknown))
       (withTally (seenOf s) (counted (seenOf s .tally) unknown))
   unfolding seenOf
   payload-counted unknown = record { long = simp length-set long; seen = rw (spread s long) }
@@ -118,24 +118,21 @@ module _ (s : List ℕ) (long : length s ≡ 47) where
     abbrev one-more : List ℕ
     one-more = set s 2 (getD s 2 0 + 1)
 
-    pub same : getD one-more 3 0 ≡ getD s 3 0
-    same = getD-set-other s 2 3 (getD s 2 0 + 1) 0 (λ e. omega arith)
-
     pub status-tallied : isError k ≡ false → Tallied one-more
     unfolding seenOf
     status-tallied f = record { long = simp length-set long; seen = rw (f, spread s long) }
 
     module _ (e : isError k ≡ true) where
       abbrev one-error : List ℕ
-      one-error = set one-more 3 (getD one-more 3 0 + 1)
+      one-error = set one-more 3 (getD s 3 0 + 1)
 
-      pub first-tallied : getD one-more 3 0 ≡ 0 → Tallied (set one-error 4 number)
+      pub first-tallied : getD s 3 0 ≡ 0 → Tallied (set one-error 4 number)
       unfolding seenOf
-      first-tallied z = record { long = simp length-set long; seen = rw (e, eq-eqb (getD s 3 0) 0 (sym same ∙ z), spread s long) }
+      first-tallied z = record { long = simp length-set long; seen = rw (e, eq-eqb (getD s 3 0) 0 z, spread s long) }
 
-      pub later-tallied : (getD one-more 3 0 ≡ 0 → ⊥) → Tallied one-error
+      pub later-tallied : (getD s 3 0 ≡ 0 → ⊥) → Tallied one-error
       unfolding seenOf
-      later-tallied z = record { long = simp length-set long; seen = rw (e, ne-eqb (getD s 3 0) 0 (λ y. z (same ∙ y)), spread s long) }
+      later-tallied z = record { long = simp length-set long; seen = rw (e, ne-eqb (getD s 3 0) 0 z, spread s long) }
 
 -- the list begins behind fourteen numbers, the families behind sixteen more
 behind : (n : ℕ) → 14 + n ≡ suc (suc (suc (suc (suc (suc (suc (suc (suc (suc (suc (suc (suc (suc n)))))))))))))

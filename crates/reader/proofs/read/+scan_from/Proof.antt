@@ -12,7 +12,7 @@ use Rattle.reader.proofs.Step.{whole, leftover, faulted, conflicted, pa
 use Rattle.reader.proofs.read.scan_from.Reads as scan-from
 use Rattle.reader.proofs.read.scan_from.Kinds as scan-from-kinds
 use Rattle.reader.proofs.read.+scan_from.Lts-scan_from as scan-from-lts
-use Rattle.findings.proofs.state.content_noted.Reads as content-noted-reads
+use Rattle.noting.proofs.note.content_noted.Reads as content-noted-reads
 use Rattle.payload.proofs.payload.payload_at.Reads as payload-at-reads
 use Rattle.reader.proofs.read.stop.Reads as stop-reads
 use Rattle.reader.proofs.read.+scan_from.{statement}

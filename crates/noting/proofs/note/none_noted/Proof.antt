@@ -1,0 +1,17 @@
+-- `noting::note::none_noted` meets its contract.
+-- Assumes nothing.
+use borrow.Author.Needs.{needs}
+use borrow.Author.Tests.{eq-eqb, ne-eqb}
+use mathlib.Core.Path.{refl}
+use mathlib.Core.Bool.{or-true, or-false}
+use Rattle.noting.proofs.note.none_noted.Statement.{statement}
+use Rattle.noting.proofs.note.none_noted.Tie as tie
+
+pub none-noted-spec : {M : Type 1} → statement M
+none-noted-spec =
+    tie.close
+    (tie.spec
+    (λ c. search needs)
+    (λ c. (rw (ne-eqb _ _ (c .if1 .taken), or-true), refl))
+    (λ c κs. search needs)
+    (λ c. (rw (eq-eqb _ _ (c .before .before .if1 .left), or-false) (c .put-once .ensures .0), c .put-once .ensures .1)))
