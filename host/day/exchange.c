@@ -2,6 +2,7 @@
 #include "exchange.h"
 
 #include <stdio.h>
+#include <string.h>
 
 #include "address.h"
 #include "words.h"
@@ -46,6 +47,15 @@ static void print_read(const message *m)
     }
 }
 
+static void print_part(const char *what, unmavreth_part part)
+{
+    if (part.octets == 0)
+        return;
+    printf("    %s: ", what);
+    print_octets(part.start, part.octets);
+    printf("\n");
+}
+
 static void print_reply(const unmavreth_reply *r, const message *request)
 {
     printf("  Gateway answers %u: %s", r->number, number_words(r->number));
@@ -55,11 +65,7 @@ static void print_reply(const unmavreth_reply *r, const message *request)
            r->list, list_words(r->list), r->left_off, r->payloads);
     unmavreth_part cookie = {request->octets, 0};
     unmavreth_cookie(&cookie, request->octets, request->length, r->cookie, r->cookie_len);
-    if (cookie.octets != 0) {
-        printf("    cookie handed out: ");
-        print_octets(cookie.start, cookie.octets);
-        printf("\n");
-    }
+    print_part("cookie handed out", cookie);
 }
 
 static void print_response(const message *m)
@@ -76,6 +82,26 @@ static void print_assessment(const unmavreth_assessment *a)
     printf("  Display's end answers %u: %s\n", a->number, number_words(a->number));
     printf("    outcome %u: %s; payloads %u, unknown %u\n", a->outcome, outcome_words(a->outcome), a->payloads,
            (unsigned)a->tally);
+}
+
+// What the display is handed out of the response: the cookie that came back and both NAT detection values, as parts of
+// the response's own octets.
+static void hand_out(checks *c, const exchange *x, const message *m, const unmavreth_assessment *a)
+{
+    unmavreth_part cookie = {m->octets, 0}, source = {m->octets, 0}, destination = {m->octets, 0};
+    unmavreth_reading r = unmavreth_read(m->first, m->octets, m->length);
+    unmavreth_cookie(&cookie, m->octets, m->length, a->cookie, a->cookie_len);
+    unmavreth_nat_value(&source, m->octets, m->length, r.seen.nat_source);
+    unmavreth_nat_value(&destination, m->octets, m->length, r.seen.nat_destination);
+    print_part("cookie that came back", cookie);
+    print_part("NAT detection source", source);
+    print_part("NAT detection destination", destination);
+    check_holds(c, "a part handed out lies elsewhere",
+                cookie.start == m->octets + a->cookie && source.start == m->octets + r.seen.nat_source &&
+                    destination.start == m->octets + r.seen.nat_destination);
+    check_holds(c, "another cookie came back",
+                cookie.octets == 0 || (cookie.octets == x->sent.cookie_octets &&
+                                       memcmp(cookie.start, x->sent.cookie, cookie.octets) == 0));
 }
 
 static void check_answers(checks *c, const exchange *x, const unmavreth_reply *r, const unmavreth_assessment *a)
@@ -104,6 +130,7 @@ void play(day *d, const exchange *x)
     print_reply(&reply, &x->sent.request);
     print_response(&response);
     print_assessment(&assessment);
+    hand_out(&d->checks, x, &response, &assessment);
     print_change(&before, &d->gateway.tables);
     check_answers(&d->checks, x, &reply, &assessment);
     check_holds(&d->checks, "the octets past the response changed", kept);

@@ -7,7 +7,7 @@
 //
 // What is lent (everything passed by pointer) must, for as long as the call runs:
 //   - be memory that the host owns, of the whole length that it passes; no pointer is null, not even with length 0;
-//   - hold valid values: a bool is 0 or 1 (only structs passed by value have one); any other octets are allowed;
+//   - hold any octets whatever: no argument and no struct that is lent or passed has a bool, so there is no wrong value;
 //   - not overlap anything else that is lent to the same call, if it is lent for writing (a pointer without const);
 //   - be left alone by everyone else: no other thread writes it, or reads it if it is lent for writing.
 // No call keeps a pointer to what it was lent; unmavreth_cookie and unmavreth_nat_value hand out a part of the body that
@@ -15,9 +15,8 @@
 //
 // The promises are about fields and octets, not about padding: compare records field by field, not with memcmp.
 //
-// Stack: reading a chain (unmavreth_read, unmavreth_request, unmavreth_response) calls itself once for each 32
-// payloads, at most 33 deep. How much stack that takes is not proved; a request with 1,024 payloads was measured to
-// take under 19,000 octets (./bench). Call from a thread with at least 64 KiB of stack.
+// Stack: reading a chain (unmavreth_read, unmavreth_request, unmavreth_response) calls itself once for each payload, at
+// most 1,024 deep. How much stack that takes is not proved; STACKWORDS
 #ifndef UNMAVRETH_H
 #define UNMAVRETH_H
 
