@@ -16,7 +16,8 @@
 // The promises are about fields and octets, not about padding: compare records field by field, not with memcmp.
 //
 // Stack: reading a chain (unmavreth_read, unmavreth_request, unmavreth_response) calls itself once for each payload, at
-// most 1,024 deep. How much stack that takes is not proved; STACKWORDS
+// most 1,024 deep. How much stack that takes is not proved; a request with 1,024 payloads was measured to
+// take under 35,000 octets (./bench). Call from a thread with at least 64 KiB of stack.
 #ifndef UNMAVRETH_H
 #define UNMAVRETH_H
 
