@@ -1,4 +1,15 @@
--- One payload of a chain, as 01's "The payload chain" reads it.
+-- One payload of a chain, as 01's "The payload chain" reads it. In the manner of RFC 7296, 3.2 and 3.10:
+--
+--                      1                   2                   3
+--  0 1 2 3 4 5 6 7 8 9 0 1 2 3 4 5 6 7 8 9 0 1 2 3 4 5 6 7 8 9 0 1
+-- +---------------+-+-------------+-------------------------------+
+-- | next type     |C| reserved    | length, header counted        |   at + 0: every payload; C is critical
+-- +---------------+-+-------------+-------------------------------+
+-- | protocol ID   | SPI size      | notify type                   |   at + 4: type 41, Notify
+-- +---------------+---------------+-------------------------------+
+-- | SPI, of SPI size octets; then data, to the payload's end      |   at + 8
+-- +---------------------------------------------------------------+
+--
 use Prim.Native.Nat.{ℕ, _+_, _-_}
 use mathlib.Core.List.{List}
 use mathlib.Core.Bool.{Bool, cond, _&&_, _||_, not}
