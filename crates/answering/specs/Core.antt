@@ -4,6 +4,8 @@ use mathlib.Core.List.{List, [], _∷_}
 use mathlib.Core.Bool.{Bool, false, cond}
 use lib.Dec.{eqb}
 use lib.ListN.{length}
+use Rattle.octets.specs.Limits.{addressesMost}
+use Rattle.octets.specs.Wire.{invalidSyntax, notifyPayload, unsupportedCriticalPayload}
 use Rattle.address.specs.declared.pair.Pair.{Pair}
 use Rattle.values.specs.Values.{partOf, noNatsSeen, addressesIn}
 use Rattle.findings.specs.Seen.{noPlaces}
@@ -37,11 +39,11 @@ asked id pair source destination first body =
 
 -- 01: "Its first type is 41, or 0 where nothing is written."
 abbrev pub firstOf : ℕ → ℕ
-firstOf n = cond (eqb n 0) 0 41
+firstOf n = cond (eqb n 0) 0 notifyPayload
 
 -- 01, the numbers 6 and 7: "INVALID_SYNTAX (7)", "UNSUPPORTED_CRITICAL_PAYLOAD (1), data: its type".
 unfoldable pub chainError : Reading → List ℕ
-chainError r = cond (eqb (r .number) 7) (errorResponse 1 (r .critical ∷ []) []) (errorResponse 7 [] [])
+chainError r = cond (eqb (r .number) 7) (errorResponse unsupportedCriticalPayload (r .critical ∷ []) []) (errorResponse invalidSyntax [] [])
 
 -- A refusal gives its number and its offset, and no more; the response is `n` octets long.
 abbrev pub refusalReply : ℕ → ℕ → ℕ → Reply
@@ -121,7 +123,7 @@ coreAnswer policy q m = cond (eqb (reading (q .first) (q .body) .number) 0) (who
 unfoldable pub changedBy : CoreAnswer → Pair → List ℕ → IkeRecord → IkeRecord
 changedBy a p body r =
     let new = remarked (a .marks) (a .moves) p r in
-    cond (a .relists) (relisted (min (a .list .count) 16) (addressesIn body (a .list)) new) new
+    cond (a .relists) (relisted (min (a .list .count) addressesMost) (addressesIn body (a .list)) new) new
 
 -- What a request comes to on its record: the reply, the record after it, and whether its IPsec records follow.
 pub record CoreResult : Type 0 where

@@ -4,6 +4,7 @@ use mathlib.Core.List.{List}
 use mathlib.Core.Bool.{Bool, cond, _&&_, not}
 use lib.Dec.{eqb, leb, ltb}
 use lib.ListN.{take, replicate}
+use Rattle.octets.specs.Limits.{rulesMost, addressOctets}
 use Rattle.octets.specs.Lists.{all, any, firstOnly}
 use Rattle.address.specs.Address.{widthOf, addressFits}
 use Rattle.address.specs.declared.pair.Pair.{Pair}
@@ -37,7 +38,7 @@ acceptable policy p = any (λ (r : Rule). ruleMatches r p) (take (policy .count)
 
 -- a place of the list that holds no rule
 abbrev pub noRule : Rule
-noRule = record { family = 0; source = replicate 16 0; destination = replicate 16 0; «source_len» = 0; «destination_len» = 0 }
+noRule = record { family = 0; source = replicate addressOctets 0; destination = replicate addressOctets 0; «source_len» = 0; «destination_len» = 0 }
 
 -- 01: "Places past a list's count ... aren't looked at; in a list newly kept or given they are 0".
 abbrev pub kept : List Rule → ℕ → List Rule
@@ -50,7 +51,7 @@ policyAnswer number policy = record { number = number; policy = policy }
 -- the whole list.
 unfoldable pub setPolicy : Policy → ℕ → List Rule → PolicyAnswer
 setPolicy policy n rules =
-    cond (ltb 16 n) (policyAnswer 12 policy)
+    cond (ltb rulesMost n) (policyAnswer 12 policy)
     (cond (all ruleFits (take n rules))
     (cond (all lengthsFit (take n rules)) (policyAnswer 0 (record { count = n; rules = kept rules n })) (policyAnswer 12 policy))
     (policyAnswer 1 policy))

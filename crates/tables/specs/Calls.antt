@@ -4,6 +4,7 @@ use mathlib.Core.List.{List, [], _∷_, map}
 use mathlib.Core.Bool.{Bool, cond, _&&_, _||_, not}
 use lib.Dec.{eqb, ltb}
 use lib.ListN.{length, getD, set}
+use Rattle.octets.specs.Limits.{ipsecPlaces}
 use Rattle.octets.specs.Checks.{Check, _gives_, firstFailed}
 use Rattle.octets.specs.Lists.{placeOf}
 use Rattle.address.specs.Address.{pairFits}
@@ -38,11 +39,11 @@ hasIpsec spi ipsec = ltb (placeOf ipsecSpi spi ipsec) (length ipsec)
 
 -- 01: "an IPsec list not of 128 records" is answer 1.
 abbrev pub listFits : List IpsecRecord → Bool
-listFits ipsec = eqb (length ipsec) 128
+listFits ipsec = eqb (length ipsec) ipsecPlaces
 
 -- 01: "1: family not 4 or 6, IPv4 tail not zero, an SPI of 0, an IPsec list not of 128 records"; of an opening beside a list of `size`.
 abbrev pub openingFits : ℕ → Opening → Bool
-openingFits size o = eqb size 128 && (not (eqb (o .spi) 0) && (not (eqb (o .child) 0) && pairFits (o .pair)))
+openingFits size o = eqb size ipsecPlaces && (not (eqb (o .spi) 0) && (not (eqb (o .child) 0) && pairFits (o .pair)))
 
 -- E1: "Refusals: 1, 11 (IKE, then IPsec), 10 (IKE, then IPsec)".
 abbrev pub openingChecks : List IkeRecord → List IpsecRecord → Opening → List Check
