@@ -19,11 +19,11 @@ use Rattle.tables.specs.declared.calls.IpsecChange.{IpsecChange}
 
 -- 01: "Opening checks 1, 4 (the owner of an IPsec record), 11, 10."
 abbrev pub openingNumber : Bool → Bool → Bool → Bool → ℕ
-openingNumber bad owned taken room = cond bad 1 (cond owned (cond taken 11 (cond room 0 10)) 4)
+openingNumber bad owned taken room = firstFailed (bad gives 1 ∷ not owned gives 4 ∷ taken gives 11 ∷ not room gives 10 ∷ [])
 
 -- 01: "Closing an IKE or IPsec record checks 1, 4."
 abbrev pub closingNumber : Bool → Bool → ℕ
-closingNumber bad there = cond bad 1 (cond there 0 4)
+closingNumber bad there = firstFailed (bad gives 1 ∷ not there gives 4 ∷ [])
 
 -- nothing is stored past the end, where `none` is
 abbrev pub ikeChange : ℕ → ℕ → IkeRecord → IkeChange
