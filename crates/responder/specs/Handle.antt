@@ -20,9 +20,10 @@ use Rattle.records.specs.declared.ike.Marks.{Marks}
 use Rattle.records.specs.declared.ipsec.IpsecRecord.{IpsecRecord}
 use Rattle.findings.specs.declared.seen.Seen.{Seen}
 use Rattle.reader.specs.Chain.{reading, countTold}
-use Rattle.answering.specs.Core.{Asked, refusalReply, unchangedAnswer, coreAnswer, coreResult, coreResponse}
-use Rattle.answering.specs.declared.core.CoreAnswer.{CoreAnswer}
-use Rattle.answering.specs.declared.core.Reply.{Reply}
+use Rattle.replying.specs.Reply.{refusalReply, unchangedAnswer}
+use Rattle.answering.specs.Core.{Asked, coreAnswer, coreResult, coreResponse}
+use Rattle.replying.specs.declared.reply.CoreAnswer.{CoreAnswer}
+use Rattle.replying.specs.declared.reply.Reply.{Reply}
 
 -- 01: "A request is given as SPI, ID, packet's pair, the two NAT values, first type, body." Its output's length belongs to it too.
 pub record Request : Type 0 where
