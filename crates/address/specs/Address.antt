@@ -4,20 +4,21 @@ use mathlib.Core.List.{List, map, zipWith}
 use mathlib.Core.Bool.{Bool, cond, _&&_, not}
 use lib.Dec.{eqb}
 use lib.ListN.{drop, replicate}
+use Rattle.octets.specs.Limits.{addressOctets}
 use Rattle.octets.specs.Lists.{all, firstOnly}
 use Rattle.address.specs.declared.address.Address.{Address}
 use Rattle.address.specs.declared.pair.Pair.{Pair}
 
 -- The two families have addresses of 4 and of 16 octets.
 abbrev pub widthOf : ℕ → ℕ
-widthOf family = cond (eqb family 4) 4 (cond (eqb family 6) 16 0)
+widthOf family = cond (eqb family 4) 4 (cond (eqb family 6) addressOctets 0)
 
 abbrev pub addressOf : ℕ → List ℕ → Address
 addressOf family octets = record { family = family; octets = octets }
 
 -- a place of a list that holds no address
 abbrev pub noAddress : Address
-noAddress = addressOf 0 (replicate 16 0)
+noAddress = addressOf 0 (replicate addressOctets 0)
 
 -- 01: "an additional address is family and octets". The first n: "Places past a list's count ... aren't looked at; in a list newly
 -- kept or given they are 0."
@@ -42,4 +43,4 @@ pairFits p = addressFits (p .family) (p .source) && addressFits (p .family) (p .
 
 -- a place that is closed or was never used
 abbrev pub noPair : Pair
-noPair = record { family = 0; source = replicate 16 0; destination = replicate 16 0; «source_port» = 0; «destination_port» = 0 }
+noPair = record { family = 0; source = replicate addressOctets 0; destination = replicate addressOctets 0; «source_port» = 0; «destination_port» = 0 }

@@ -12,10 +12,11 @@ use Rattle.reader.specs.Chain.{reading}
 use Rattle.reader.specs.declared.read.Reading.{Reading}
 use Rattle.records.specs.declared.ike.Marks.{Marks}
 use Rattle.deciding.specs.Decide.{decided}
-use Rattle.answering.specs.Core.{Asked, cookieIn, chainError, refusalReply, decidedAnswer, unchangedAnswer, coreAnswer, coreResponse}
+use Rattle.replying.specs.Reply.{refusalReply, decidedAnswer, unchangedAnswer}
+use Rattle.answering.specs.Core.{Asked, cookieIn, chainError, coreAnswer, coreResponse}
 use Rattle.responding.specs.Respond.{wantsNats, decidedOctets}
 use Rattle.deciding.specs.declared.decide.Decision.{Decision}
-use Rattle.answering.specs.declared.core.Reply.{Reply}
+use Rattle.replying.specs.declared.reply.Reply.{Reply}
 
 module _ (policy : Policy) (q : Asked) (m : Marks) (r : Reading) (read : r ≡ reading (q .first) (q .body)) where
   -- a chain that was read whole

@@ -1,12 +1,13 @@
 -- One request on the record that it means, after checks 1 to 5: reading, steps 1 to 4, all that is given back, and the record after it.
 use Prim.Native.Nat.{ℕ, min}
 use mathlib.Core.List.{List, [], _∷_}
-use mathlib.Core.Bool.{Bool, false, cond}
+use mathlib.Core.Bool.{Bool, cond}
 use lib.Dec.{eqb}
 use lib.ListN.{length}
+use Rattle.octets.specs.Limits.{addressesMost}
+use Rattle.octets.specs.Wire.{invalidSyntax, unsupportedCriticalPayload}
 use Rattle.address.specs.declared.pair.Pair.{Pair}
 use Rattle.values.specs.Values.{partOf, noNatsSeen, addressesIn}
-use Rattle.findings.specs.Seen.{noPlaces}
 use Rattle.findings.specs.declared.seen.Seen.{Seen}
 use Rattle.policy.specs.declared.rules.Policy.{Policy}
 use Rattle.reader.specs.Chain.{reading}
@@ -14,12 +15,13 @@ use Rattle.reader.specs.declared.read.Reading.{Reading}
 use Rattle.records.specs.Records.{marksIn, remarked, relisted}
 use Rattle.records.specs.declared.ike.IkeRecord.{IkeRecord}
 use Rattle.records.specs.declared.ike.Marks.{Marks}
-use Rattle.deciding.specs.Decide.{effectNumber, verdictNumber, isDone, decided}
+use Rattle.deciding.specs.Decide.{decided}
 use Rattle.responding.specs.Respond.{errorResponse, wantsNats, decidedOctets}
 use Rattle.deciding.specs.declared.decide.Decision.{Decision}
 use Rattle.deciding.specs.declared.decide.Verdict.{Verdict}
-use Rattle.answering.specs.declared.core.Reply.{Reply}
-use Rattle.answering.specs.declared.core.CoreAnswer.{CoreAnswer}
+use Rattle.replying.specs.Reply.{refusalReply, decidedAnswer, unchangedAnswer}
+use Rattle.replying.specs.declared.reply.Reply.{Reply}
+use Rattle.replying.specs.declared.reply.CoreAnswer.{CoreAnswer}
 
 -- What a request asks of the record that its SPI means.
 pub record Asked : Type 0 where
@@ -35,55 +37,15 @@ abbrev pub asked : ℕ → Pair → List ℕ → List ℕ → ℕ → List ℕ �
 asked id pair source destination first body =
     record { id = id; pair = pair; nat-source = source; nat-destination = destination; first = first; body = body }
 
--- 01: "Its first type is 41, or 0 where nothing is written."
-abbrev pub firstOf : ℕ → ℕ
-firstOf n = cond (eqb n 0) 0 41
-
 -- 01, the numbers 6 and 7: "INVALID_SYNTAX (7)", "UNSUPPORTED_CRITICAL_PAYLOAD (1), data: its type".
 unfoldable pub chainError : Reading → List ℕ
-chainError r = cond (eqb (r .number) 7) (errorResponse 1 (r .critical ∷ []) []) (errorResponse 7 [] [])
-
--- A refusal gives its number and its offset, and no more; the response is `n` octets long.
-abbrev pub refusalReply : ℕ → ℕ → ℕ → Reply
-refusalReply number offset n =
-    record {
-      number = number;
-      update = 0;
-      list = 0;
-      first = firstOf n;
-      «left_off» = 0;
-      payloads = 0;
-      offset = offset;
-      cookie = 0;
-      «cookie_len» = 0;
-      length = n;
-    }
+chainError r = cond (eqb (r .number) 7) (errorResponse unsupportedCriticalPayload (r .critical ∷ []) []) (errorResponse invalidSyntax [] [])
 
 abbrev pub cookieIn : List ℕ → Seen → List ℕ
 cookieIn body s = partOf body (s .cookie) (s .«cookie_len»)
 
 abbrev pub decidedResponse : Verdict → Asked → Seen → List ℕ
 decidedResponse v q s = decidedOctets v (wantsNats s) (q .nat-source) (q .nat-destination) (cookieIn (q .body) s)
-
-abbrev pub decidedReply : Decision → Seen → ℕ → Reply
-decidedReply d s n =
-    record {
-      number = verdictNumber (d .verdict);
-      update = effectNumber (d .update);
-      list = effectNumber (d .list);
-      first = firstOf n;
-      «left_off» = d .«left_off»;
-      payloads = s .tally .payloads;
-      offset = 0;
-      cookie = s .cookie;
-      «cookie_len» = s .«cookie_len»;
-      length = n;
-    }
-
--- What a decision changes in the record: it moves, and its IPsec records follow, exactly where the update was applied.
-abbrev pub decidedAnswer : Decision → Seen → ℕ → CoreAnswer
-decidedAnswer d s n =
-    record { reply = decidedReply d s n; marks = d .marks; moves = isDone (d .update); relists = isDone (d .list); list = s .list }
 
 -- steps 1 to 3 on what was read
 abbrev pub decisionOn : Policy → Asked → Marks → Decision
@@ -96,9 +58,6 @@ unfoldable pub coreResponse : Policy → Asked → Marks → List ℕ
 coreResponse policy q m =
     let r = reading (q .first) (q .body) in
     cond (eqb (r .number) 0) (decidedResponse (decisionOn policy q m .verdict) q (r .seen)) (chainError r)
-
-abbrev pub unchangedAnswer : Reply → Marks → CoreAnswer
-unchangedAnswer reply m = record { reply = reply; marks = m; moves = false; relists = false; list = noPlaces }
 
 -- a chain that was read whole
 abbrev pub wholeAnswer : Policy → Asked → Marks → CoreAnswer
@@ -121,7 +80,7 @@ coreAnswer policy q m = cond (eqb (reading (q .first) (q .body) .number) 0) (who
 unfoldable pub changedBy : CoreAnswer → Pair → List ℕ → IkeRecord → IkeRecord
 changedBy a p body r =
     let new = remarked (a .marks) (a .moves) p r in
-    cond (a .relists) (relisted (min (a .list .count) 16) (addressesIn body (a .list)) new) new
+    cond (a .relists) (relisted (min (a .list .count) addressesMost) (addressesIn body (a .list)) new) new
 
 -- What a request comes to on its record: the reply, the record after it, and whether its IPsec records follow.
 pub record CoreResult : Type 0 where

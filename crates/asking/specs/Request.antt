@@ -4,6 +4,8 @@ use mathlib.Core.List.{List, [], _∷_, _++_, zipWith}
 use mathlib.Core.Bool.{Bool, cond, _&&_, _||_, not}
 use lib.Dec.{eqb, leb, ltb}
 use lib.ListN.{length, take, getD}
+use Rattle.octets.specs.Limits.{addressesMost, natOctets, cookieLeast, cookieMost}
+use Rattle.octets.specs.Wire.{additionalIp4Address, additionalIp6Address, cookie2, natDetectionDestinationIp, natDetectionSourceIp, noAdditionalAddresses, noNatsAllowed, updateSaAddresses}
 use Rattle.octets.specs.Lists.{allBelow}
 use Rattle.address.specs.Address.{widthOf, addressFits, pairFits}
 use Rattle.address.specs.declared.pair.Pair.{Pair}
@@ -38,7 +40,7 @@ ifAsked asked notifies = cond asked notifies []
 
 -- 01: "16397, 16398: ADDITIONAL_IP4_ADDRESS, _IP6_ADDRESS: 4, 16" octets.
 abbrev pub addressNumber : ℕ → ℕ
-addressNumber family = cond (eqb family 4) 16397 16398
+addressNumber family = cond (eqb family 4) additionalIp4Address additionalIp6Address
 
 abbrev pub addressNotify : ℕ → List ℕ → Notification
 addressNotify family octets = notification (addressNumber family) (take (widthOf family) octets)
@@ -59,23 +61,23 @@ pairOctets p = noNatsOctets (widthOf (p .family)) (p .source) (p .destination) (
 
 -- 01: "NAT source, NAT destination (both or neither)".
 abbrev pub natNotifies : List ℕ → List ℕ → List Notification
-natNotifies source destination = notification 16388 source ∷ notification 16389 destination ∷ []
+natNotifies source destination = notification natDetectionSourceIp source ∷ notification natDetectionDestinationIp destination ∷ []
 
 abbrev pub cookieNotifies : List ℕ → List Notification
-cookieNotifies cookie = ifAsked (not (eqb (length cookie) 0)) (notification 16401 cookie ∷ [])
+cookieNotifies cookie = ifAsked (not (eqb (length cookie) 0)) (notification cookie2 cookie ∷ [])
 
 -- 01: "NO_ADDITIONAL_ADDRESSES or 1 to 16 addresses, cookie": the end of a request.
 abbrev pub tailNotifies : Bool → ℕ → List ℕ → List (List ℕ) → List ℕ → List Notification
 tailNotifies no-additional count families addresses cookie =
-    ifAsked no-additional (notification 16399 [] ∷ [])
+    ifAsked no-additional (notification noAdditionalAddresses [] ∷ [])
     ++ (addressNotifies (take count families) (take count addresses) ++ cookieNotifies cookie)
 
 -- 01: "The writer writes, in this order, those asked for: update, NO_NATS_ALLOWED, NAT source, NAT destination (both or neither),
 -- NO_ADDITIONAL_ADDRESSES or 1 to 16 addresses, cookie."
 abbrev pub requested : Request → List Notification
 requested q =
-    ifAsked (q .ask .update) (notification 16400 [] ∷ [])
-    ++ (ifAsked (q .ask .«no_nats») (notification 16402 (pairOctets (q .pair)) ∷ [])
+    ifAsked (q .ask .update) (notification updateSaAddresses [] ∷ [])
+    ++ (ifAsked (q .ask .«no_nats») (notification noNatsAllowed (pairOctets (q .pair)) ∷ [])
     ++ (ifAsked (q .ask .«nat_source») (natNotifies (q .source) (q .destination))
     ++ tailNotifies (q .ask .«no_additional») (q .ask .count) (q .families) (q .addresses) (q .cookie)))
 
@@ -89,18 +91,18 @@ unlessAsked asked fits = not asked || fits
 
 -- 01: "Asking for more than 16, for addresses with NO_ADDITIONAL_ADDRESSES ... is answer 1."
 abbrev pub countFits : Ask → Bool
-countFits a = leb (a .count) 16 && unlessAsked (a .«no_additional») (eqb (a .count) 0)
+countFits a = leb (a .count) addressesMost && unlessAsked (a .«no_additional») (eqb (a .count) 0)
 
 -- 01: "... or for one NAT kind alone is answer 1"; "a lent NAT value not of 20 octets".
 abbrev pub natsFit : Ask → ℕ → ℕ → Bool
-natsFit a source destination = cond (a .«nat_source») (a .«nat_destination» && (eqb source 20 && eqb destination 20)) (not (a .«nat_destination»))
+natsFit a source destination = cond (a .«nat_source») (a .«nat_destination» && (eqb source natOctets && eqb destination natOctets)) (not (a .«nat_destination»))
 
 abbrev pub listedFits : List ℕ → List (List ℕ) → ℕ → Bool
 listedFits families addresses i = addressFits (getD families i 0) (getD addresses i [])
 
 -- 01, number 1: "a cookie to send not of 0 or 8 to 64 octets".
 unfoldable pub cookieFits : ℕ → Bool
-cookieFits n = eqb n 0 || (not (ltb n 8) && leb n 64)
+cookieFits n = eqb n 0 || (not (ltb n cookieLeast) && leb n cookieMost)
 
 -- 01, number 1: "family not 4 or 6, IPv4 tail not zero, ..., a lent NAT value not of 20 octets, or a cookie to send not of 0 or 8
 -- to 64 octets", each of what is asked for.

@@ -2,6 +2,7 @@
 use Prim.Native.Nat.{ℕ, _+_, _-_, min}
 use mathlib.Core.Bool.{Bool, true, false, cond, _&&_, _||_, not}
 use lib.Dec.{eqb, leb}
+use Rattle.octets.specs.Limits.{addressesMost, addressOctets, tallyMost}
 use Rattle.octets.specs.Lists.{sameOctets}
 use Rattle.address.specs.declared.pair.Pair.{Pair}
 use Rattle.findings.specs.declared.seen.Seen.{Seen}
@@ -39,7 +40,7 @@ isAccepted Unacceptable = false
 
 -- 01: "an unknown tally that stays at 4,294,967,295 once there".
 abbrev pub tallied : ℕ → ℕ → ℕ
-tallied old n = min (old + n) 4294967295
+tallied old n = min (old + n) tallyMost
 
 -- 01: "NO_NATS_ALLOWED, if present, must equal the packet's addresses and ports, else 8; a wrong length for the family is unequal."
 unfoldable pub unaltered : NoNats → Pair → Bool
@@ -48,8 +49,8 @@ unaltered n p =
     || (eqb (n .family) (p .family)
     && (eqb (n .«source_port») (p .«source_port»)
     && (eqb (n .«destination_port») (p .«destination_port»)
-    && (sameOctets 16 (n .source) (p .source)
-    && sameOctets 16 (n .destination) (p .destination)))))
+    && (sameOctets addressOctets (n .source) (p .source)
+    && sameOctets addressOctets (n .destination) (p .destination)))))
 
 -- 01: "Then NO_NATS_ALLOWED ..., else 8 ... Then the pair must be acceptable, else 9."
 unfoldable pub verdict : Policy → NoNats → Pair → Verdict
@@ -72,7 +73,7 @@ decision verdict update list off m = record { verdict = verdict; update = update
 
 -- 01: "The first 16 are kept; the answer tells how many were left off".
 abbrev pub leftOff : ℕ → ℕ
-leftOff n = n - 16
+leftOff n = n - addressesMost
 
 -- 01: "with any ADDITIONAL address or NO_ADDITIONAL_ADDRESSES".
 abbrev pub hasList : Seen → Bool

@@ -22,7 +22,8 @@ use Rattle.writing.proofs.Placed.{length-notify}
 use Rattle.writing.proofs.Chained.{chained-one}
 use Rattle.reader.specs.Chain.{reading}
 use Rattle.responding.specs.Respond.{nextFor, cookieNotify, doneResponse}
-use Rattle.answering.specs.Core.{firstOf, cookieIn, decisionOn, coreAnswer, coreResponse}
+use Rattle.replying.specs.Reply.{firstOf}
+use Rattle.answering.specs.Core.{cookieIn, decisionOn, coreAnswer, coreResponse}
 use Rattle.responding.specs.Respond.{wantsNats}
 use Rattle.responder.specs.Handle.{Request as Received, meant, earlyNumber, handled, handledResponse}
 use Rattle.deciding.proofs.Numbers.{verdict-of, number-accepted}

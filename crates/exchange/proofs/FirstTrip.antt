@@ -1,13 +1,15 @@
 -- The first round trip: reading a written request gives back what was asked for.
 use Prim.Native.Nat.{ℕ, _≤_}
 use mathlib.Core.Path.{_≡_, refl, ap, _∙_}
-use mathlib.Core.List.{List, []}
-use mathlib.Core.Bool.{Bool, true, false, cond}
+use mathlib.Core.List.{List, [], _∷_}
+use mathlib.Core.Bool.{Bool, true, false, cond, not}
 use native.Mathlib.Nat.{zero-add}
 use native.Mathlib.Omega.{arith}
 use borrow.Author.Tests.{le-ltb, ltb-false}
 use lib.Dec.{eqb, ltb}
 use lib.ListN.{length}
+use Rattle.octets.specs.Checks.{_gives_, firstFailed}
+use Rattle.octets.specs.Limits.{requestRoom}
 use Rattle.findings.specs.Seen.{nothingSeen}
 use Rattle.values.specs.Values.{addressesIn}
 use Rattle.writing.specs.Notify.{firstType}
@@ -52,14 +54,14 @@ module _ (q : Request) (room : ℕ) where
   unfolding writeNumber written writtenOctets
   fits-written f r = (rw (f, le-ltb room 564 r), rw (f, le-ltb room 564 r))
 
-  pub number-zero : written q room .number ≡ 0 → (requestFits q ≡ true) × (564 ≤ room)
+  pub number-zero : written q room .number ≡ 0 → (requestFits q ≡ true) × (requestRoom ≤ room)
   unfolding writeNumber written
-  number-zero = go (requestFits q) (ltb room 564) refl
+  number-zero = go (requestFits q) (ltb room requestRoom) refl
     where
-      go : (b c : Bool) → ltb room 564 ≡ c
-          → cond (eqb (cond b (cond c 2 0) 1) 0) (complete q) (notWritten (cond b (cond c 2 0) 1)) .number ≡ 0 → (b ≡ true) × (564 ≤ room)
+      go : (b c : Bool) → ltb room requestRoom ≡ c
+          → let n = firstFailed (not b gives 1 ∷ c gives 2 ∷ []) in cond (eqb n 0) (complete q) (notWritten n) .number ≡ 0 → (b ≡ true) × (requestRoom ≤ room)
       go true true t e = absurd (omega arith)
-      go true false t e = (refl, ltb-false room 564 t)
+      go true false t e = (refl, ltb-false room requestRoom t)
       go false c t e = absurd (omega arith)
 
 pub reading-written : ReadingWritten

@@ -7,7 +7,7 @@ use Rattle.policy.specs.declared.rules.Policy.{Policy}
 use Rattle.records.specs.declared.ike.IkeRecord.{IkeRecord}
 use Rattle.records.specs.declared.ipsec.IpsecRecord.{IpsecRecord}
 use Rattle.responder.specs.Handle.{Request as Received, handled, handledResponse}
-use Rattle.answering.specs.declared.core.Reply.{Reply}
+use Rattle.replying.specs.declared.reply.Reply.{Reply}
 use Rattle.asking.specs.Request.{Request}
 use Rattle.requests.specs.Written.{written, writtenOctets}
 use Rattle.initiator.specs.Response.{outcomeNumber, assessment}

@@ -5,6 +5,7 @@ use mathlib.Core.List.{List}
 use mathlib.Core.Bool.{Bool, true, false, cond, _&&_, _||_, not}
 use lib.Dec.{eqb, leb, ltb}
 use lib.ListN.{getD}
+use Rattle.octets.specs.Limits.{addressesMost}
 use Rattle.payload.specs.declared.notify.NotifyKind.{NotifyKind}
 use Rattle.payload.specs.declared.notify.NotifyKind.the-variants.{NatDetectionSource, NatDetectionDestination, MobikeSupported, AdditionalIp4, AdditionalIp6, NoAdditionalAddresses, UpdateSaAddresses, Cookie2, NoNatsAllowed, UnacceptableAddresses, UnexpectedNatDetected, OtherError, OtherStatus}
 use Rattle.payload.specs.declared.payload.Content.the-variants.{Skipped, Unknown as UnknownPayload, Notify}
@@ -51,4 +52,4 @@ natsPaired s = cond (eqb (s .«nat_source») 0) (eqb (s .«nat_destination») 0)
 unfoldable pub plainlyRead : ℕ → List ℕ → Bool
 plainlyRead first body =
     let r = reading first body in
-    eqb (r .number) 0 && (inOrder body 0 (chainAt body first 0) && (natsPaired (r .seen) && leb (r .seen .list .count) 16))
+    eqb (r .number) 0 && (inOrder body 0 (chainAt body first 0) && (natsPaired (r .seen) && leb (r .seen .list .count) addressesMost))

@@ -6,6 +6,7 @@ use mathlib.Core.List.{List, []}
 use mathlib.Core.Bool.{true, cond, not}
 use lib.Dec.{eqb}
 use lib.ListN.{length, getD, replicate}
+use Rattle.octets.specs.Limits.{addressesMost, addressOctets, requestRoom}
 use Rattle.octets.specs.Lists.{firstOnly}
 use Rattle.address.specs.Address.{noAddress, noPair, familiesOf, octetsOf}
 use Rattle.address.specs.declared.address.Address.{Address}
@@ -57,7 +58,7 @@ askedFor q =
       ask = q .ask;
       pair = cond (q .ask .«no_nats») (q .pair) noPair;
       families = firstOnly 0 (q .ask .count) (q .families);
-      addresses = firstOnly (replicate 16 0) (q .ask .count) (q .addresses);
+      addresses = firstOnly (replicate addressOctets 0) (q .ask .count) (q .addresses);
       source = cond (q .ask .«nat_source») (q .source) [];
       destination = cond (q .ask .«nat_source») (q .destination) [];
       cookie = q .cookie;
@@ -65,11 +66,11 @@ askedFor q =
 
 -- The sizes of the arrays, which their types fix.
 pub record Sized (q : Request) : Type 0 where
-  pub source : length (q .pair .source) ≡ 16
-  pub destination : length (q .pair .destination) ≡ 16
-  pub families : length (q .families) ≡ 16
-  pub addresses : length (q .addresses) ≡ 16
-  pub octets : (i : ℕ) → i < 16 → length (getD (q .addresses) i []) ≡ 16
+  pub source : length (q .pair .source) ≡ addressOctets
+  pub destination : length (q .pair .destination) ≡ addressOctets
+  pub families : length (q .families) ≡ addressesMost
+  pub addresses : length (q .addresses) ≡ addressesMost
+  pub octets : (i : ℕ) → i < addressesMost → length (getD (q .addresses) i []) ≡ addressOctets
 
 -- so many payloads, none of them unknown
 abbrev pub allKnown : ℕ → Tally
@@ -96,7 +97,7 @@ Octets body = (i : ℕ) → getD body i 0 < 256
 -- "writing a plainly read one gives back its octets": first type, length and every octet, in any output that is long enough.
 abbrev pub WrittenAgain : ℕ → List ℕ → Type 0
 WrittenAgain first body =
-    (room : ℕ) → 564 ≤ room
+    (room : ℕ) → requestRoom ≤ room
     → (written (given first body) room ≡ record { number = 0; first = first; length = length body })
     × (writtenOctets (given first body) room ≡ body)
 

@@ -3,6 +3,7 @@ use Prim.Native.Nat.{ℕ, _+_, _≤_}
 use mathlib.Core.Bool.{Bool, true, false, cond, _&&_, _||_, not}
 use lib.ListN.{set, replicate}
 use lib.Dec.{eqb}
+use Rattle.octets.specs.Limits.{addressesMost}
 use Rattle.payload.specs.Notify.{isUnknown, isError}
 use Rattle.payload.specs.declared.notify.NotifyKind.{NotifyKind}
 use Rattle.payload.specs.declared.notify.NotifyKind.the-variants.{NatDetectionSource, NatDetectionDestination, MobikeSupported, AdditionalIp4, AdditionalIp6, NoAdditionalAddresses, UpdateSaAddresses, Cookie2, NoNatsAllowed, UnacceptableAddresses, UnexpectedNatDetected, OtherError, OtherStatus}
@@ -16,7 +17,7 @@ abbrev pub noTally : Tally
 noTally = record { payloads = 0; «unknown_payloads» = 0; «unknown_notifies» = 0; errors = 0; «first_error» = 0 }
 
 abbrev pub noPlaces : Places
-noPlaces = record { count = 0; places = replicate 16 0; families = replicate 16 0 }
+noPlaces = record { count = 0; places = replicate addressesMost 0; families = replicate addressesMost 0 }
 
 abbrev pub nothingSeen : Seen
 nothingSeen =

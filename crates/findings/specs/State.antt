@@ -4,18 +4,19 @@ use Prim.Native.Nat.{ℕ, _%_}
 use mathlib.Core.Path.{_≡_}
 use mathlib.Core.List.{List, map}
 use lib.ListN.{length, getD, take, drop}
+use Rattle.octets.specs.Limits.{addressesMost}
 use Rattle.octets.specs.Flags.{isYes}
 use Rattle.findings.specs.declared.seen.Seen.{Seen}
 
 abbrev pub placesOf : List ℕ → List ℕ
-placesOf state = take 16 (drop 14 state)
+placesOf state = take addressesMost (drop 14 state)
 
 -- a number as an octet
 abbrev pub octet : ℕ → ℕ
 octet n = n % 256
 
 abbrev pub familiesOf : List ℕ → List ℕ
-familiesOf state = map octet (take 16 (drop 30 state))
+familiesOf state = map octet (take addressesMost (drop 30 state))
 
 unfoldable pub seenOf : List ℕ → Seen
 seenOf state =

@@ -1,17 +1,17 @@
 // The call that handles a request, on lent tables: the record that the SPI means is looked up, the request answered by its marks, and what
 // changes in it stored; what it owns follows.
 use address::pair::Pair;
-use answering::core::Reply;
 use lent_ike::ike::ike_at;
 use lent_ike::ike::ike_change;
 use lent_ike::ike::ike_place;
+use lent_ipsec::places::ipsec_count;
 use lent_owned::owned::follow_if;
-use lent_owned::owned::ipsec_count;
 use lent_policy::rules::policy_of;
 use policy::rules::Policy;
 use records::ike::IkeRecord;
 use records::ike::marks_of;
 use records::ipsec::IpsecRecord;
+use replying::reply::Reply;
 use responder::handle::answer;
 ghost use lib.ListN.{length};
 ghost use Rattle.answering.specs.Core.{asked};

@@ -23,9 +23,9 @@ use Rattle.records.proofs.ike.IkeRecord.Laws as I′
 use Rattle.records.proofs.ipsec.IpsecRecord as S
 use Rattle.records.proofs.ipsec.IpsecRecord.Laws as S′
 use Rattle.answering.specs.Core.{changedBy}
-use Rattle.answering.specs.declared.core.CoreAnswer.{CoreAnswer}
-use Rattle.answering.proofs.core.CoreAnswer as D
-use Rattle.answering.proofs.core.CoreAnswer.Laws as D′
+use Rattle.replying.specs.declared.reply.CoreAnswer.{CoreAnswer}
+use Rattle.replying.proofs.reply.CoreAnswer as D
+use Rattle.replying.proofs.reply.CoreAnswer.Laws as D′
 use Rattle.walks.proofs.Calls.{_&_, Told, token, no-token, list-last, ref-last, gives, calls-for, calls-to}
 use Rattle.walks.proofs.Loans.{renamed, lent-list, list-over, lent-array, lent-ref, ref-over, copies-ref}
 use Rattle.lent_ike.proofs.IkeTable as Ike
@@ -39,8 +39,8 @@ use Rattle.lent_ike.proofs.ike.ike_place as home
 use Rattle.lent_ike.proofs.ike.ike_place.Symbol as home-def
 use Rattle.lent_ike.proofs.ike.ike_store as put
 use Rattle.lent_ike.proofs.ike.ike_store.Symbol as put-def
-use Rattle.lent_owned.proofs.owned.ipsec_count as count
-use Rattle.lent_owned.proofs.owned.ipsec_count.Symbol as count-def
+use Rattle.lent_ipsec.proofs.places.ipsec_count as count
+use Rattle.lent_ipsec.proofs.places.ipsec_count.Symbol as count-def
 use Rattle.lent_ipsec.proofs.places.ipsec_place as place
 use Rattle.lent_ipsec.proofs.places.ipsec_place.Symbol as place-def
 use Rattle.lent_ipsec.proofs.places.ipsec_store as store

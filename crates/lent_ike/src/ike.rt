@@ -1,9 +1,9 @@
 // The lent IKE table: the lowest place with an SPI, and the record at a place, read, stored, and changed by an answer.
 use address::pair::Pair;
-use answering::core::CoreAnswer;
 use answering::core::changed;
 use records::ike::IkeRecord;
 use records::ike::no_ike;
+use replying::reply::CoreAnswer;
 ghost use mathlib.Core.Path.{_≡_};
 ghost use lib.ListN.{getD, set};
 ghost use Rattle.octets.specs.Lists.{placeOf};

@@ -1,9 +1,16 @@
-// The lowest place of the lent IPsec list with an SPI, and a record stored there.
+// The lent IPsec list: how many records it has, the lowest place with an SPI, and a record stored at a place.
 use records::ipsec::IpsecRecord;
 ghost use mathlib.Core.Path.{_≡_};
-ghost use lib.ListN.{set};
+ghost use lib.ListN.{length, set};
 ghost use Rattle.octets.specs.Lists.{placeOf};
 ghost use Rattle.records.specs.Records.{ipsecSpi};
+
+// How many records are lent.
+pub fn ipsec_count(records: &[IpsecRecord]) -> usize
+    ensures { λ r. ⌜ r ≡ length (now (records .entry)) ⌝ }
+{
+    records.len()
+}
 
 // The lowest place with this SPI, or the list's length where there is none; of SPI 0, the lowest free place.
 pub fn ipsec_place(records: &[IpsecRecord], spi: u32) -> usize

@@ -6,15 +6,7 @@ use records::ipsec::release;
 ghost use mathlib.Core.Path.{_≡_};
 ghost use mathlib.Core.Bool.{cond};
 ghost use mathlib.Core.List.{map};
-ghost use lib.ListN.{length};
 ghost use Rattle.records.specs.Records.{released, follows};
-
-// How many records are lent.
-pub fn ipsec_count(records: &[IpsecRecord]) -> usize
-    ensures { λ r. ⌜ r ≡ length (now (records .entry)) ⌝ }
-{
-    records.len()
-}
 
 // Moves every record that is in use and has this owner.
 pub fn follow_all(records: &mut [IpsecRecord], owner: u64, pair: Pair)

@@ -6,6 +6,8 @@ use mathlib.Core.List.{List, [], _∷_, _++_, map}
 use mathlib.Core.Bool.{Bool, cond, _&&_}
 use lib.Dec.{leb}
 use lib.ListN.{length, set}
+use Rattle.octets.specs.Limits.{addressesMost}
+use Rattle.octets.specs.Wire.{invalidSyntax, unacceptableAddresses, unexpectedNatDetected, unsupportedCriticalPayload}
 use Rattle.octets.specs.Lists.{placeOf}
 use Rattle.values.specs.Values.{addressesIn}
 use Rattle.findings.specs.declared.seen.Seen.{Seen}
@@ -58,7 +60,7 @@ stepped q r =
     let new = replaces q r in
     let l = seenIn q .list in
     rewritten (cond up (q .asks .pair) (r .pair)) (cond up (q .asks .id + 1) (r .«update_mark»)) (cond new (q .asks .id + 1) (r .«list_mark»))
-    (cond new (min (l .count) 16) (r .count)) (cond new (addressesIn (q .asks .body) l) (r .addresses)) (tallyAfter q r) r
+    (cond new (min (l .count) addressesMost) (r .count)) (cond new (addressesIn (q .asks .body) l) (r .addresses)) (tallyAfter q r) r
 
 abbrev pub asSteps : Request → Tables → Tables
 asSteps q t =
@@ -70,12 +72,12 @@ abbrev pub none : Request → List ℕ
 none q = []
 
 -- "INVALID_SYNTAX (7)": "Answers 6 and 7 copy no COOKIE2."
-abbrev pub invalidSyntax : Request → List ℕ
-invalidSyntax q = notifyOctets 0 7 []
+abbrev pub syntaxError : Request → List ℕ
+syntaxError q = notifyOctets 0 invalidSyntax []
 
 -- "UNSUPPORTED_CRITICAL_PAYLOAD (1), data: its type"
 abbrev pub unsupportedCritical : Request → List ℕ
-unsupportedCritical q = notifyOctets 0 1 (reading (q .asks .first) (q .asks .body) .critical ∷ [])
+unsupportedCritical q = notifyOctets 0 unsupportedCriticalPayload (reading (q .asks .first) (q .asks .body) .critical ∷ [])
 
 -- step 4: "for 8 and 9 the error, then COOKIE2 if the request had it": UNEXPECTED_NAT_DETECTED (41), UNACCEPTABLE_ADDRESSES (40)
 abbrev pub errorThenCookie : ℕ → Request → List ℕ
@@ -104,10 +106,10 @@ rows =
     ∷ row 3 none same
     ∷ row 4 none same
     ∷ row 5 none same
-    ∷ row 6 invalidSyntax same
+    ∷ row 6 syntaxError same
     ∷ row 7 unsupportedCritical same
-    ∷ row 8 (errorThenCookie 41) tallyAndMark
-    ∷ row 9 (errorThenCookie 40) tallyAndMark
+    ∷ row 8 (errorThenCookie unexpectedNatDetected) tallyAndMark
+    ∷ row 9 (errorThenCookie unacceptableAddresses) tallyAndMark
     ∷ []
 
 -- P holds of some element.

@@ -2,3 +2,5 @@ pub mod Octets
 pub mod Lists
 pub mod Flags
 pub mod Checks
+pub mod Limits
+pub mod Wire

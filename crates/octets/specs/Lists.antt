@@ -4,6 +4,7 @@ use mathlib.Core.List.{List, [], _∷_, _++_}
 use mathlib.Core.Bool.{Bool, true, false, cond, _&&_, _||_}
 use lib.Dec.{eqb}
 use lib.ListN.{getD, take, replicate}
+use Rattle.octets.specs.Limits.{addressesMost}
 
 module _ {A : Type 0} (f : A → Bool) where
   -- every element passes
@@ -37,4 +38,4 @@ sameOctets n a b = allBelow (sameAt a b) n
 -- 01: "Places past a list's count ... aren't looked at; in a list newly kept or given they are 0": the first n of a list of
 -- sixteen, and `none` in the places after them.
 abbrev pub firstOnly : {A : Type 0} → A → ℕ → List A → List A
-firstOnly none n xs = take n xs ++ replicate (16 - n) none
+firstOnly none n xs = take n xs ++ replicate (addressesMost - n) none

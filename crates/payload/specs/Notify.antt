@@ -2,6 +2,8 @@
 use Prim.Native.Nat.{ℕ}
 use mathlib.Core.Bool.{Bool, true, false, cond, _&&_, _||_}
 use lib.Dec.{eqb, leb, ltb}
+use Rattle.octets.specs.Limits.{addressOctets, natOctets, cookieLeast, cookieMost}
+use Rattle.octets.specs.Wire.{additionalIp4Address, additionalIp6Address, cookie2, firstStatus, mobikeSupported, natDetectionDestinationIp, natDetectionSourceIp, noAdditionalAddresses, noNatsAllowed, unacceptableAddresses, unexpectedNatDetected, updateSaAddresses}
 use Rattle.payload.specs.declared.notify.NotifyKind.{NotifyKind}
 use Rattle.payload.specs.declared.notify.NotifyKind.the-variants.{NatDetectionSource, NatDetectionDestination, MobikeSupported, AdditionalIp4, AdditionalIp6, NoAdditionalAddresses, UpdateSaAddresses, Cookie2, NoNatsAllowed, UnacceptableAddresses, UnexpectedNatDetected, OtherError, OtherStatus}
 
@@ -9,30 +11,30 @@ use Rattle.payload.specs.declared.notify.NotifyKind.the-variants.{NatDet
 -- "the first error, told as NAT seen (41), unacceptable (40) or failed (any other type below 16384)".
 unfoldable pub kindOf : ℕ → NotifyKind
 kindOf n =
-    cond (eqb n 16388) NatDetectionSource
-    (cond (eqb n 16389) NatDetectionDestination
-    (cond (eqb n 16396) MobikeSupported
-    (cond (eqb n 16397) AdditionalIp4
-    (cond (eqb n 16398) AdditionalIp6
-    (cond (eqb n 16399) NoAdditionalAddresses
-    (cond (eqb n 16400) UpdateSaAddresses
-    (cond (eqb n 16401) Cookie2
-    (cond (eqb n 16402) NoNatsAllowed
-    (cond (eqb n 40) UnacceptableAddresses
-    (cond (eqb n 41) UnexpectedNatDetected
-    (cond (ltb n 16384) OtherError
+    cond (eqb n natDetectionSourceIp) NatDetectionSource
+    (cond (eqb n natDetectionDestinationIp) NatDetectionDestination
+    (cond (eqb n mobikeSupported) MobikeSupported
+    (cond (eqb n additionalIp4Address) AdditionalIp4
+    (cond (eqb n additionalIp6Address) AdditionalIp6
+    (cond (eqb n noAdditionalAddresses) NoAdditionalAddresses
+    (cond (eqb n updateSaAddresses) UpdateSaAddresses
+    (cond (eqb n cookie2) Cookie2
+    (cond (eqb n noNatsAllowed) NoNatsAllowed
+    (cond (eqb n unacceptableAddresses) UnacceptableAddresses
+    (cond (eqb n unexpectedNatDetected) UnexpectedNatDetected
+    (cond (ltb n firstStatus) OtherError
     OtherStatus)))))))))))
 
 -- 01's column "Data octets"; unknown types are taken "whatever [their] SPI or data".
 abbrev pub dataFits : NotifyKind → ℕ → Bool
-dataFits NatDetectionSource n = eqb n 20
-dataFits NatDetectionDestination n = eqb n 20
+dataFits NatDetectionSource n = eqb n natOctets
+dataFits NatDetectionDestination n = eqb n natOctets
 dataFits MobikeSupported n = true
 dataFits AdditionalIp4 n = eqb n 4
-dataFits AdditionalIp6 n = eqb n 16
+dataFits AdditionalIp6 n = eqb n addressOctets
 dataFits NoAdditionalAddresses n = eqb n 0
 dataFits UpdateSaAddresses n = eqb n 0
-dataFits Cookie2 n = leb 8 n && leb n 64
+dataFits Cookie2 n = leb cookieLeast n && leb n cookieMost
 dataFits NoNatsAllowed n = eqb n 12 || eqb n 36
 dataFits UnacceptableAddresses n = true
 dataFits UnexpectedNatDetected n = true

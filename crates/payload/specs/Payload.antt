@@ -1,9 +1,21 @@
--- One payload of a chain, as 01's "The payload chain" reads it.
+-- One payload of a chain, as 01's "The payload chain" reads it. In the manner of RFC 7296, 3.2 and 3.10:
+--
+--                      1                   2                   3
+--  0 1 2 3 4 5 6 7 8 9 0 1 2 3 4 5 6 7 8 9 0 1 2 3 4 5 6 7 8 9 0 1
+-- +---------------+-+-------------+-------------------------------+
+-- | next type     |C| reserved    | length, header counted        |   at + 0: every payload; C is critical
+-- +---------------+-+-------------+-------------------------------+
+-- | protocol ID   | SPI size      | notify type                   |   at + 4: type 41, Notify
+-- +---------------+---------------+-------------------------------+
+-- | SPI, of SPI size octets; then data, to the payload's end      |   at + 8
+-- +---------------------------------------------------------------+
+--
 use Prim.Native.Nat.{ℕ, _+_, _-_}
 use mathlib.Core.List.{List}
 use mathlib.Core.Bool.{Bool, cond, _&&_, _||_, not}
 use lib.ListN.{length, getD}
 use lib.Dec.{eqb, leb, ltb}
+use Rattle.octets.specs.Wire.{criticalBit, firstKnownPayload, lastKnownPayload, notifyPayload}
 use Rattle.octets.specs.Octets.{be16}
 use Rattle.payload.specs.Notify.{kindOf, dataFits, isUnknown}
 use Rattle.payload.specs.declared.notify.NotifyKind.{NotifyKind}
@@ -38,9 +50,9 @@ notifyAt body at size =
 -- skipped and tallied." The top bit of the flags is critical; the others are not looked at.
 unfoldable pub sized : ℕ → List ℕ → ℕ → ℕ → Found
 sized first body at size =
-    cond (eqb first 41) (notifyAt body at size)
-    (cond (leb 33 first && leb first 48) (Payload size Skipped)
-    (cond (leb 128 (getD body (at + 1) 0)) (Faulty (Critical first)) (Payload size Unknown)))
+    cond (eqb first notifyPayload) (notifyAt body at size)
+    (cond (leb firstKnownPayload first && leb first lastKnownPayload) (Payload size Skipped)
+    (cond (leb criticalBit (getD body (at + 1) 0)) (Faulty (Critical first)) (Payload size Unknown)))
 
 -- 01: "Each payload has next type (1 octet), flags (1, top bit is critical), length (2, header counted).";
 -- "under 4 octets left; length under 4 or past the end".

@@ -1,9 +1,11 @@
 -- The policy: which rules may be set, and which pairs they accept.
 use Prim.Native.Nat.{ℕ, _*_}
-use mathlib.Core.List.{List}
+use mathlib.Core.List.{List, [], _∷_}
 use mathlib.Core.Bool.{Bool, cond, _&&_, not}
 use lib.Dec.{eqb, leb, ltb}
 use lib.ListN.{take, replicate}
+use Rattle.octets.specs.Checks.{Check, _gives_, firstFailed}
+use Rattle.octets.specs.Limits.{rulesMost, addressOctets}
 use Rattle.octets.specs.Lists.{all, any, firstOnly}
 use Rattle.address.specs.Address.{widthOf, addressFits}
 use Rattle.address.specs.declared.pair.Pair.{Pair}
@@ -37,7 +39,7 @@ acceptable policy p = any (λ (r : Rule). ruleMatches r p) (take (policy .count)
 
 -- a place of the list that holds no rule
 abbrev pub noRule : Rule
-noRule = record { family = 0; source = replicate 16 0; destination = replicate 16 0; «source_len» = 0; «destination_len» = 0 }
+noRule = record { family = 0; source = replicate addressOctets 0; destination = replicate addressOctets 0; «source_len» = 0; «destination_len» = 0 }
 
 -- 01: "Places past a list's count ... aren't looked at; in a list newly kept or given they are 0".
 abbrev pub kept : List Rule → ℕ → List Rule
@@ -46,11 +48,16 @@ kept rules n = firstOnly noRule n rules
 abbrev pub policyAnswer : ℕ → Policy → PolicyAnswer
 policyAnswer number policy = record { number = number; policy = policy }
 
--- 01: "Setting replaces the whole list"; "Setting a policy checks the count (12), then 1, then the lengths (12)", each over
--- the whole list.
+-- 01: "Setting a policy checks the count (12), then 1, then the lengths (12)", each over the whole list.
+abbrev pub policyChecks : ℕ → List Rule → List Check
+policyChecks n rules =
+    ltb rulesMost n gives 12
+    ∷ not (all ruleFits (take n rules)) gives 1
+    ∷ not (all lengthsFit (take n rules)) gives 12
+    ∷ []
+
+-- 01: "Setting replaces the whole list".
 unfoldable pub setPolicy : Policy → ℕ → List Rule → PolicyAnswer
 setPolicy policy n rules =
-    cond (ltb 16 n) (policyAnswer 12 policy)
-    (cond (all ruleFits (take n rules))
-    (cond (all lengthsFit (take n rules)) (policyAnswer 0 (record { count = n; rules = kept rules n })) (policyAnswer 12 policy))
-    (policyAnswer 1 policy))
+    let number = firstFailed (policyChecks n rules) in
+    cond (eqb number 0) (policyAnswer 0 (record { count = n; rules = kept rules n })) (policyAnswer number policy)

@@ -2,6 +2,7 @@
 use Prim.Native.Nat.{ℕ, _<_}
 use mathlib.Core.List.{List, [], _∷_}
 use lib.ListN.{replicate}
+use Rattle.octets.specs.Limits.{ikePlaces, ipsecPlaces}
 use Rattle.order.specs.Order.{All}
 use Rattle.policy.specs.declared.rules.Policy.{Policy}
 use Rattle.records.specs.Records.{noIke, noIpsec}
@@ -12,7 +13,7 @@ use Rattle.responder.specs.Handle.{Request, afterRequest}
 use Rattle.reached.specs.WellFormed.{WellFormed}
 
 abbrev pub empty : Tables
-empty = tables (replicate 32 noIke) (replicate 128 noIpsec)
+empty = tables (replicate ikePlaces noIke) (replicate ipsecPlaces noIpsec)
 
 -- Each call that writes tables, with its arguments; a request comes with the policy of its time.
 pub data Call : Type 0 where

@@ -5,6 +5,7 @@ use mathlib.Core.List.{List}
 use mathlib.Core.Bool.{Bool, true, not}
 use lib.Dec.{eqb}
 use lib.ListN.{length, getD}
+use Rattle.octets.specs.Limits.{ikePlaces, ipsecPlaces, addressesMost}
 use Rattle.octets.specs.Lists.{placeOf}
 use Rattle.address.specs.Address.{widthOf, noAddress, pairFits}
 use Rattle.records.specs.Records.{ikeSpi, ipsecSpi, noIke, noIpsec}
@@ -43,7 +44,7 @@ pub record IkeBounds (r : IkeRecord) : Type 0 where
   pub pair : pairFits (r .pair) ≡ true
   pub update-mark : r .«update_mark» ≤ 4294967296
   pub list-mark : r .«list_mark» ≤ 4294967296
-  pub count : r .count ≤ 16
+  pub count : r .count ≤ addressesMost
   pub families : (i : ℕ) → i < r .count → isFamily (getD (r .addresses) i noAddress .family) ≡ true
   pub tally : r .unknown ≤ 4294967295
 
@@ -57,6 +58,6 @@ Owned ike ipsec =
     → (getD ipsec j noIpsec .owner ≡ 0 → ⊥) × (placeOf ikeSpi (getD ipsec j noIpsec .owner) ike < length ike)
 
 pub record WellFormed (t : Tables) : Type 0 where
-  pub ikes : Consistent ikeSpi noIke IkeBounds 32 (t .ike)
-  pub ipsecs : Consistent ipsecSpi noIpsec IpsecBounds 128 (t .ipsec)
+  pub ikes : Consistent ikeSpi noIke IkeBounds ikePlaces (t .ike)
+  pub ipsecs : Consistent ipsecSpi noIpsec IpsecBounds ipsecPlaces (t .ipsec)
   pub owned : Owned (t .ike) (t .ipsec)

@@ -5,6 +5,7 @@ use mathlib.Core.List.{List}
 use mathlib.Core.Bool.{cond, _&&_}
 use lib.ListN.{length, getD}
 use lib.Dec.{eqb, leb, ltb}
+use Rattle.octets.specs.Limits.{bodyMost}
 use Rattle.payload.specs.Payload.{payloadAt}
 use Rattle.findings.specs.Seen.{nothingSeen, contentNoted, conflicts, Counted}
 use Rattle.payload.specs.declared.payload.Fault.{Fault}
@@ -103,7 +104,7 @@ answered x = answer (x .outcome) (x .seen)
 -- What the reader gives for any first type and any octets. 01: "a body of 0 to 4,096 octets"; "3: body over 4,096".
 unfoldable pub reading : ℕ → List ℕ → Reading
 unfolding chainAt scanned
-reading first body = cond (ltb 4096 (length body)) (refused 3 0 0) (answered (scanned nothingSeen (chainAt body first 0)))
+reading first body = cond (ltb bodyMost (length body)) (refused 3 0 0) (answered (scanned nothingSeen (chainAt body first 0)))
 
 -- 01: "The answer counts the payloads read, and that count equals the number of payloads in the chain; it is 0 with answers 1 to 7."
 abbrev pub countTold : ℕ → ℕ → List ℕ → ℕ
@@ -118,5 +119,5 @@ pub record ReadAs (first : ℕ) (body : List ℕ) (r : Reading) : Type 0 where
 -- What holds at each step of the reader: the place is in the body, and the counts are no more than the octets passed.
 pub record Scanning (body : List ℕ) (at : ℕ) (s : Seen) : Type 0 where
   pub inside : at ≤ length body
-  pub short : length body ≤ 4096
+  pub short : length body ≤ bodyMost
   pub counts : Counted at s

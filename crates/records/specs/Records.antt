@@ -4,6 +4,7 @@ use mathlib.Core.Bool.{Bool, cond}
 use mathlib.Core.List.{List}
 use lib.Dec.{eqb}
 use lib.ListN.{replicate}
+use Rattle.octets.specs.Limits.{addressesMost}
 use Rattle.octets.specs.Flags.{zeroOrOne}
 use Rattle.address.specs.Address.{noPair, noAddress}
 use Rattle.address.specs.declared.address.Address.{Address}
@@ -36,7 +37,7 @@ newIke spi agreed pair =
       «update_mark» = 0;
       «list_mark» = 0;
       count = 0;
-      addresses = replicate 16 noAddress;
+      addresses = replicate addressesMost noAddress;
       unknown = 0;
     }
 

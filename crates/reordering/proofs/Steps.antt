@@ -22,7 +22,8 @@ use Rattle.tables.specs.View.{View, view, Change, stays, becomes, applied, Prop
 use Rattle.records.specs.declared.ike.Agreed.{Agreed}
 use Rattle.records.specs.declared.ike.IkeRecord.{IkeRecord}
 use Rattle.views.proofs.View.{found, applied-stays}
-use Rattle.answering.specs.Core.{CoreResult, refusalReply, coreAnswer, coreResult, coreResponse, changedBy}
+use Rattle.replying.specs.Reply.{refusalReply}
+use Rattle.answering.specs.Core.{CoreResult, coreAnswer, coreResult, coreResponse, changedBy}
 use Rattle.responder.specs.Handle.{Request, meant, argumentsFit, recordNumber, checkedNumber, earlyNumber, handled, handledResponse, afterRequest}
 use Rattle.responder.proofs.Checks.{passed}
 use Rattle.reordering.specs.Requests.{Answer, answer}

@@ -15,7 +15,7 @@ use Rattle.tables.specs.Tables.{Tables, tables}
 use Rattle.tables.specs.View.{inUse}
 use Rattle.deciding.specs.Decide.{isAccepted, verdict}
 use Rattle.responder.specs.Handle.{Request, meant, earlyNumber, handled, handledResponse, seenIn}
-use Rattle.answering.specs.declared.core.Reply.{Reply}
+use Rattle.replying.specs.declared.reply.Reply.{Reply}
 
 -- 01: "The same answer is all that the call gives back but the tables, the cookie by its octets; the same octets, those of its
 -- response". That the rest of the output stays as it was is the handler's own promise, at every call.

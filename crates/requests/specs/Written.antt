@@ -1,16 +1,18 @@
 -- What the writer writes, and what it tells of it: 01, "The display's end", its first paragraph.
 use Prim.Native.Nat.{ℕ}
-use mathlib.Core.List.{List, []}
-use mathlib.Core.Bool.{cond}
+use mathlib.Core.List.{List, [], _∷_}
+use mathlib.Core.Bool.{cond, not}
 use lib.Dec.{eqb, ltb}
 use lib.ListN.{length}
+use Rattle.octets.specs.Checks.{_gives_, firstFailed}
+use Rattle.octets.specs.Limits.{requestRoom}
 use Rattle.writing.specs.Notify.{firstType}
 use Rattle.asking.specs.Request.{Request, requested, requestOctets, requestFits}
 use Rattle.requests.specs.declared.request.Written.{Written}
 
 -- 01: "The writer checks 1, 2."; "2: output under 128 octets (writer: 564)".
 unfoldable pub writeNumber : Request → ℕ → ℕ
-writeNumber q room = cond (requestFits q) (cond (ltb room 564) 2 0) 1
+writeNumber q room = firstFailed (not (requestFits q) gives 1 ∷ ltb room requestRoom gives 2 ∷ [])
 
 -- 01: "None leaves the output untouched and reports length 0."
 unfoldable pub writtenOctets : Request → ℕ → List ℕ

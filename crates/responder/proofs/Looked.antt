@@ -14,7 +14,7 @@ use Rattle.records.specs.declared.ike.IkeRecord.{IkeRecord}
 use Rattle.records.specs.declared.ipsec.IpsecRecord.{IpsecRecord}
 use Rattle.responder.specs.Handle.{Request, Handled, meant, recordNumber, earlyNumber, earlyNumberAt, handled, handledResponse, answered, answeredResponse}
 use Rattle.answering.specs.Core.{changedBy}
-use Rattle.answering.specs.declared.core.CoreAnswer.{CoreAnswer}
+use Rattle.replying.specs.declared.reply.CoreAnswer.{CoreAnswer}
 
 module _ (policy : Policy) (ike : List IkeRecord) (ipsec : List IpsecRecord) (q : Request) (long : length ike ≡ 32) where
   abbrev place : ℕ

@@ -5,6 +5,7 @@ use mathlib.Core.Bool.{Bool, cond, _&&_, not}
 use mathlib.Core.Path.{_≡_}
 use lib.Dec.{eqb, ltb}
 use lib.ListN.{length, getD, set}
+use Rattle.octets.specs.Limits.{bodyMost, ikePlaces, ipsecPlaces, natOctets, responseRoom}
 use Rattle.writing.specs.Notify.{placed}
 use Rattle.octets.specs.Flags.{isYes}
 use Rattle.octets.specs.Lists.{placeOf}
@@ -19,9 +20,10 @@ use Rattle.records.specs.declared.ike.Marks.{Marks}
 use Rattle.records.specs.declared.ipsec.IpsecRecord.{IpsecRecord}
 use Rattle.findings.specs.declared.seen.Seen.{Seen}
 use Rattle.reader.specs.Chain.{reading, countTold}
-use Rattle.answering.specs.Core.{Asked, refusalReply, unchangedAnswer, coreAnswer, coreResult, coreResponse}
-use Rattle.answering.specs.declared.core.CoreAnswer.{CoreAnswer}
-use Rattle.answering.specs.declared.core.Reply.{Reply}
+use Rattle.replying.specs.Reply.{refusalReply, unchangedAnswer}
+use Rattle.answering.specs.Core.{Asked, coreAnswer, coreResult, coreResponse}
+use Rattle.replying.specs.declared.reply.CoreAnswer.{CoreAnswer}
+use Rattle.replying.specs.declared.reply.Reply.{Reply}
 
 -- 01: "A request is given as SPI, ID, packet's pair, the two NAT values, first type, body." Its output's length belongs to it too.
 pub record Request : Type 0 where
@@ -35,7 +37,7 @@ request spi asks room = record { spi = spi; asks = asks; room = room }
 -- 01: "1: family not 4 or 6, IPv4 tail not zero, an SPI of 0, an IPsec list not of 128 records, a lent NAT value not of 20 octets".
 abbrev pub argumentsFit : ℕ → Pair → List ℕ → List ℕ → Bool
 argumentsFit spi pair source destination =
-    not (eqb spi 0) && (eqb (length source) 20 && (eqb (length destination) 20 && pairFits pair))
+    not (eqb spi 0) && (eqb (length source) natOctets && (eqb (length destination) natOctets && pairFits pair))
 
 -- the record that an SPI means
 abbrev pub meant : List IkeRecord → ℕ → IkeRecord
@@ -47,7 +49,7 @@ recordNumber ike spi = cond (hasIke spi ike) (cond (isYes (meant ike spi .agreed
 
 -- 01: "checks 1 to 7 in number order", the first five: whether the arguments fit, the output's and the body's length, the record.
 unfoldable pub checkedNumber : Bool → ℕ → ℕ → ℕ → ℕ
-checkedNumber fit room octets number = cond fit (cond (ltb room 128) 2 (cond (ltb 4096 octets) 3 number)) 1
+checkedNumber fit room octets number = cond fit (cond (ltb room responseRoom) 2 (cond (ltb bodyMost octets) 3 number)) 1
 
 abbrev pub earlyNumber : List IkeRecord → List IpsecRecord → Request → ℕ
 earlyNumber ike ipsec q =
@@ -100,11 +102,11 @@ afterRequest policy q t =
 -- The same by what was looked up: how many IPsec records are lent, the lowest place with the SPI, and the marks of the record there.
 -- `proofs/Looked.antt` shows that with this and the tables' change around it a request is handled.
 abbrev pub recordNumberAt : ℕ → Marks → ℕ
-recordNumberAt place m = cond (ltb place 32) (cond (isYes (m .agreed .mobike)) 0 5) 4
+recordNumberAt place m = cond (ltb place ikePlaces) (cond (isYes (m .agreed .mobike)) 0 5) 4
 
 abbrev pub earlyNumberAt : ℕ → ℕ → Marks → Request → ℕ
 earlyNumberAt size place m q =
-    checkedNumber (eqb size 128 && argumentsFit (q .spi) (q .asks .pair) (q .asks .nat-source) (q .asks .nat-destination))
+    checkedNumber (eqb size ipsecPlaces && argumentsFit (q .spi) (q .asks .pair) (q .asks .nat-source) (q .asks .nat-destination))
     (q .room) (length (q .asks .body)) (recordNumberAt place m)
 
 unfoldable pub answered : Policy → ℕ → ℕ → Marks → Request → CoreAnswer

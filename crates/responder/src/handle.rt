@@ -1,13 +1,13 @@
 // One request by the marks of the record that its SPI means: checks 1 to 5, then the core. The tables around it are `lent`'s.
 use address::pair::Pair;
 use address::pair::pair_fits;
-use answering::core::CoreAnswer;
-use answering::core::refusal;
 use answering::core::respond_to;
-use answering::core::unchanged;
 use octets::flag::is_yes;
 use policy::rules::Policy;
 use records::ike::Marks;
+use replying::reply::CoreAnswer;
+use replying::reply::refusal;
+use replying::reply::unchanged;
 ghost use mathlib.Core.Path.{_≡_};
 ghost use mathlib.Core.Bool.{_&&_};
 ghost use lib.Dec.{eqb};

@@ -32,19 +32,27 @@ abbrev policyOf : Bool → Policy
 policyOf true = record { count = 1; rules = every ∷ replicate 15 noRule }
 policyOf false = record { count = 0; rules = replicate 16 noRule }
 
--- A row: the chain, the ID, the update mark as it is kept (0 for none), whether the pair is acceptable; then the answer.
-pub record Row : Type 0 where
+-- What is given: the chain, the ID, the record's update mark as it is kept (0 for none), whether the pair is acceptable.
+pub record Given : Type 0 where
   pub first : ℕ
   pub body : List ℕ
   pub id : ℕ
   pub mark : ℕ
   pub accepted : Bool
+
+-- What must come of it: of the reply the number, the offset, the payloads and what became of the update (0 none, 1 applied, 2 stale);
+-- the record's tally; the response.
+pub record Result : Type 0 where
   pub number : ℕ
   pub offset : ℕ
   pub payloads : ℕ
   pub update : ℕ
   pub tally : ℕ
   pub response : List ℕ
+
+pub record Row : Type 0 where
+  pub given : Given
+  pub result : Result
 
 abbrev agreed : Agreed
 agreed = record { mobike = 1 }
@@ -53,24 +61,22 @@ agreed = record { mobike = 1 }
 abbrev recordWith : ℕ → IkeRecord
 recordWith mark = remarked (record { agreed = agreed; «update_mark» = mark; «list_mark» = 0; unknown = 0 }) false pair (newIke 7 agreed pair)
 
-abbrev asksFor : Row → Request
-asksFor r = request 7 (asked (r .id) pair (replicate 20 1) (replicate 20 2) (r .first) (r .body)) 128
+abbrev asksFor : Given → Request
+asksFor g = request 7 (asked (g .id) pair (replicate 20 1) (replicate 20 2) (g .first) (g .body)) 128
 
 unfoldable pub rowHolds : Row → Bool
 rowHolds r =
-    let h = handled (policyOf (r .accepted)) (recordWith (r .mark) ∷ []) (replicate 128 noIpsec) (asksFor r) in
-    let octets = handledResponse (policyOf (r .accepted)) (recordWith (r .mark) ∷ []) (replicate 128 noIpsec) (asksFor r) in
-    eqb (h .reply .number) (r .number)
-    && (eqb (h .reply .offset) (r .offset)
-    && (eqb (h .reply .payloads) (r .payloads)
-    && (eqb (h .reply .update) (r .update)
-    && (eqb (getD (h .ike) 0 noIke .unknown) (r .tally)
+    let g = r .given in
+    let must = r .result in
+    let h = handled (policyOf (g .accepted)) (recordWith (g .mark) ∷ []) (replicate 128 noIpsec) (asksFor g) in
+    let octets = handledResponse (policyOf (g .accepted)) (recordWith (g .mark) ∷ []) (replicate 128 noIpsec) (asksFor g) in
+    eqb (h .reply .number) (must .number)
+    && (eqb (h .reply .offset) (must .offset)
+    && (eqb (h .reply .payloads) (must .payloads)
+    && (eqb (h .reply .update) (must .update)
+    && (eqb (getD (h .ike) 0 noIke .unknown) (must .tally)
     && (eqb (h .reply .length) (length octets)
-    && sameList octets (r .response))))))
-
-abbrev row : ℕ → List ℕ → ℕ → ℕ → Bool → ℕ → ℕ → ℕ → ℕ → ℕ → List ℕ → Row
-row first body id mark accepted number offset payloads update tally response =
-    record { first = first; body = body; id = id; mark = mark; accepted = accepted; number = number; offset = offset; payloads = payloads; update = update; tally = tally; response = response }
+    && sameList octets (must .response))))))
 
 abbrev update : List ℕ
 update = 0 ∷ 0 ∷ 0 ∷ 8 ∷ 0 ∷ 0 ∷ 0x40 ∷ 0x10 ∷ []
@@ -85,19 +91,95 @@ invalidSyntax = 0 ∷ 0 ∷ 0 ∷ 8 ∷ 0 ∷ 0 ∷ 0 ∷ 7 ∷ []
 abbrev eight : List ℕ
 eight = 1 ∷ 2 ∷ 3 ∷ 4 ∷ 5 ∷ 6 ∷ 7 ∷ 8 ∷ []
 
+-- a chain in a request with ID 0 for a record without a mark, from an acceptable pair
+abbrev chain : ℕ → List ℕ → Given
+chain first body = record { first = first; body = body; id = 0; mark = 0; accepted = true }
+
+-- done with so many payloads, and nothing else; malformed at an offset
+abbrev done : ℕ → Result
+done payloads = record { number = 0; offset = 0; payloads = payloads; update = 0; tally = 0; response = [] }
+
+abbrev malformedAt : ℕ → Result
+malformedAt offset = record { number = 6; offset = offset; payloads = 0; update = 0; tally = 0; response = invalidSyntax }
+
+-- "type 0, no body": "0, empty response, 0 payloads"
+abbrev a : Row
+a = record { given = chain 0 []; result = done 0 }
+
+-- "type 41, no body": "6 at 0"
+abbrev b : Row
+b = record { given = chain 41 []; result = malformedAt 0 }
+
+-- "type 41, `00 00 00 08 00 00 40 10`": "one update"
+abbrev c : Row
+c = record { given = chain 41 update; result = record { number = 0; offset = 0; payloads = 1; update = 1; tally = 0; response = [] } }
+
+-- "as c, then `FF`": "6 at 8"
+abbrev d : Row
+d = record { given = chain 41 (update ++ (0xFF ∷ [])); result = malformedAt 8 }
+
+-- "COOKIE2 of 7 octets": "6"
+abbrev e : Row
+e = record { given = chain 41 (cookie 7); result = malformedAt 0 }
+
+-- "COOKIE2 of 64 octets": "copied"
+abbrev f : Row
+f = record { given = chain 41 (cookie 64); result = record { number = 0; offset = 0; payloads = 1; update = 0; tally = 0; response = cookie 64 } }
+
+-- "type 200 critical, `00 80 00 04`": "7 at 0"
+abbrev g : Row
+g =
+    record {
+      given = chain 200 (0 ∷ 0x80 ∷ 0 ∷ 4 ∷ []);
+      result = record { number = 7; offset = 0; payloads = 0; update = 0; tally = 0; response = 0 ∷ 0 ∷ 0 ∷ 9 ∷ 0 ∷ 0 ∷ 0 ∷ 1 ∷ 200 ∷ [] };
+    }
+
+-- "type 200, `00 00 00 04`": "0, tally 1"
+abbrev h : Row
+h =
+    record {
+      given = chain 200 (0 ∷ 0 ∷ 0 ∷ 4 ∷ []);
+      result = record { number = 0; offset = 0; payloads = 1; update = 0; tally = 1; response = [] };
+    }
+
+-- "update, ID 0, mark none, acceptable": "applied"
+abbrev i : Row
+i =
+    record {
+      given = record { first = 41; body = update; id = 0; mark = 0; accepted = true };
+      result = record { number = 0; offset = 0; payloads = 1; update = 1; tally = 0; response = [] };
+    }
+
+-- "update, ID 5, mark 5": "stale"; a mark of 5 is kept as 6, the least ID that exceeds it
+abbrev j : Row
+j =
+    record {
+      given = record { first = 41; body = update; id = 5; mark = 6; accepted = true };
+      result = record { number = 0; offset = 0; payloads = 1; update = 2; tally = 0; response = [] };
+    }
+
+-- "Row c with a cookie, whole", and "The response if unacceptable"
+abbrev whole : Row
+whole =
+    record {
+      given =
+          record {
+            first = 41;
+            body = 0x29 ∷ 0 ∷ 0 ∷ 8 ∷ 0 ∷ 0 ∷ 0x40 ∷ 0x10 ∷ 0 ∷ 0 ∷ 0 ∷ 0x10 ∷ 0 ∷ 0 ∷ 0x40 ∷ 0x11 ∷ eight;
+            id = 0;
+            mark = 0;
+            accepted = false;
+          };
+      result =
+          record {
+            number = 9;
+            offset = 0;
+            payloads = 2;
+            update = 0;
+            tally = 0;
+            response = 0x29 ∷ 0 ∷ 0 ∷ 8 ∷ 0 ∷ 0 ∷ 0 ∷ 0x28 ∷ 0 ∷ 0 ∷ 0 ∷ 0x10 ∷ 0 ∷ 0 ∷ 0x40 ∷ 0x11 ∷ eight;
+          };
+    }
+
 abbrev pub rows : List Row
-rows =
-    row 0 [] 0 0 true 0 0 0 0 0 []
-    ∷ row 41 [] 0 0 true 6 0 0 0 0 invalidSyntax
-    ∷ row 41 update 0 0 true 0 0 1 1 0 []
-    ∷ row 41 (update ++ (0xFF ∷ [])) 0 0 true 6 8 0 0 0 invalidSyntax
-    ∷ row 41 (cookie 7) 0 0 true 6 0 0 0 0 invalidSyntax
-    ∷ row 41 (cookie 64) 0 0 true 0 0 1 0 0 (cookie 64)
-    ∷ row 200 (0 ∷ 0x80 ∷ 0 ∷ 4 ∷ []) 0 0 true 7 0 0 0 0 (0 ∷ 0 ∷ 0 ∷ 9 ∷ 0 ∷ 0 ∷ 0 ∷ 1 ∷ 200 ∷ [])
-    ∷ row 200 (0 ∷ 0 ∷ 0 ∷ 4 ∷ []) 0 0 true 0 0 1 0 1 []
-    ∷ row 41 update 0 0 true 0 0 1 1 0 []
-    ∷ row 41 update 5 6 true 0 0 1 2 0 []
-    -- "Row c with a cookie, whole", and the response if unacceptable
-    ∷ row 41 (0x29 ∷ 0 ∷ 0 ∷ 8 ∷ 0 ∷ 0 ∷ 0x40 ∷ 0x10 ∷ 0 ∷ 0 ∷ 0 ∷ 0x10 ∷ 0 ∷ 0 ∷ 0x40 ∷ 0x11 ∷ eight) 0 0 false 9 0 2 0 0
-    (0x29 ∷ 0 ∷ 0 ∷ 8 ∷ 0 ∷ 0 ∷ 0 ∷ 0x28 ∷ 0 ∷ 0 ∷ 0 ∷ 0x10 ∷ 0 ∷ 0 ∷ 0x40 ∷ 0x11 ∷ eight)
-    ∷ []
+rows = a ∷ b ∷ c ∷ d ∷ e ∷ f ∷ g ∷ h ∷ i ∷ j ∷ whole ∷ []

@@ -12,7 +12,7 @@ use Rattle.octets.specs.Checks.{firstFailed}
 use Rattle.octets.proofs.Checks.{all-passed}
 use Rattle.octets.proofs.Small.{both, neither}
 use Rattle.records.specs.Records.{ikeSpi, ipsecSpi, noIke, newIpsec, noIpsec, released}
-use Rattle.tables.specs.Calls.{ipsecAnswer, tablesAnswer, hasIke, hasIpsec, listFits, openingChecks, openBoth, openIpsec, closeIke, closeIpsec}
+use Rattle.tables.specs.Calls.{ipsecAnswer, tablesAnswer, hasIke, hasIpsec, listFits, openingChecks, addingChecks, closingChecks, openBoth, openIpsec, closeIke, closeIpsec}
 use Rattle.tables.specs.Opened.{BothOpened, NeitherOpened, BothOrNeither}
 use Rattle.records.specs.declared.ike.IkeRecord.{IkeRecord}
 use Rattle.records.specs.declared.ipsec.IpsecRecord.{IpsecRecord}
@@ -53,24 +53,24 @@ module _ (ike : List IkeRecord) (ipsec : List IpsecRecord) (spi owner : ℕ) whe
 
   pub open-ipsec-cases : (openIpsec ike ipsec spi owner .ipsec ≡ ipsec) ⊎ IpsecOpened
   unfolding openIpsec
-  open-ipsec-cases = go (not (listFits ipsec) || (eqb spi 0 || eqb owner 0)) refl (hasIke owner ike) refl (hasIpsec spi ipsec) refl (hasIpsec 0 ipsec) refl
+  open-ipsec-cases = go (eqb number 0) refl
     where
-      go : (a : Bool) → not (listFits ipsec) || (eqb spi 0 || eqb owner 0) ≡ a → (o : Bool) → hasIke owner ike ≡ o
-          → (b : Bool) → hasIpsec spi ipsec ≡ b → (c : Bool) → hasIpsec 0 ipsec ≡ c → (openIpsec ike ipsec spi owner .ipsec ≡ ipsec) ⊎ IpsecOpened
-      go true e o n b f c g = inl (rw e)
-      go false e false n b f c g = inl (rw (e, n))
-      go false e true n true f c g = inl (rw (e, n, f))
-      go false e true n false f true g =
-          let named = neither (eqb spi 0) (eqb owner 0) (neither (not (listFits ipsec)) (eqb spi 0 || eqb owner 0) e .1) in
+      number : ℕ
+      number = firstFailed (addingChecks ike ipsec spi owner)
+
+      go : (b : Bool) → eqb number 0 ≡ b → (openIpsec ike ipsec spi owner .ipsec ≡ ipsec) ⊎ IpsecOpened
+      go false e = inl (rw e)
+      go true e =
+          let p = all-passed (addingChecks ike ipsec spi owner) refl (eqb-true number 0 e) in
+          let named = neither (not (listFits ipsec) || eqb spi 0) (eqb owner 0) (p .0) in
           inr (record {
-            named = eqb-false spi 0 (named .0);
+            named = eqb-false spi 0 (neither (not (listFits ipsec)) (eqb spi 0) (named .0) .1);
             owner-named = eqb-false owner 0 (named .1);
-            owner-there = ltb-true _ _ n;
-            new = ltb-false _ _ f;
-            room = ltb-true _ _ g;
-            is = rw (e, n, f, g);
+            owner-there = ltb-true _ _ (not-false _ (p .1 .0));
+            new = ltb-false _ _ (p .1 .1 .0);
+            room = ltb-true _ _ (not-false _ (p .1 .1 .1 .0));
+            is = rw e;
           })
-      go false e true n false f false g = inl (rw (e, n, f, g))
 
 module _ (ike : List IkeRecord) (ipsec : List IpsecRecord) (spi : ℕ) where
   pub record IkeClosed : Type 0 where
@@ -80,13 +80,16 @@ module _ (ike : List IkeRecord) (ipsec : List IpsecRecord) (spi : ℕ) where
 
   pub close-ike-cases : ((closeIke ike ipsec spi .ike ≡ ike) × (closeIke ike ipsec spi .ipsec ≡ ipsec)) ⊎ IkeClosed
   unfolding closeIke
-  close-ike-cases = go (not (listFits ipsec) || eqb spi 0) refl (hasIke spi ike) refl
+  close-ike-cases = go (eqb number 0) refl
     where
-      go : (a : Bool) → not (listFits ipsec) || eqb spi 0 ≡ a → (b : Bool) → hasIke spi ike ≡ b
-          → ((closeIke ike ipsec spi .ike ≡ ike) × (closeIke ike ipsec spi .ipsec ≡ ipsec)) ⊎ IkeClosed
-      go true e b f = inl (rw e, rw e)
-      go false e false f = inl (rw (e, f), rw (e, f))
-      go false e true f = inr (record { named = eqb-false spi 0 (neither (not (listFits ipsec)) (eqb spi 0) e .1); there = ltb-true _ _ f; is = rw (e, f) })
+      number : ℕ
+      number = firstFailed (closingChecks ipsec spi (hasIke spi ike))
+
+      go : (b : Bool) → eqb number 0 ≡ b → ((closeIke ike ipsec spi .ike ≡ ike) × (closeIke ike ipsec spi .ipsec ≡ ipsec)) ⊎ IkeClosed
+      go false e = inl (rw e, rw e)
+      go true e =
+          let p = all-passed (closingChecks ipsec spi (hasIke spi ike)) refl (eqb-true number 0 e) in
+          inr (record { named = eqb-false spi 0 (neither (not (listFits ipsec)) (eqb spi 0) (p .0) .1); there = ltb-true _ _ (not-false _ (p .1 .0)); is = rw e })
 
 module _ (ipsec : List IpsecRecord) (spi : ℕ) where
   pub record IpsecClosed : Type 0 where
@@ -96,10 +99,13 @@ module _ (ipsec : List IpsecRecord) (spi : ℕ) where
 
   pub close-ipsec-cases : (closeIpsec ipsec spi .ipsec ≡ ipsec) ⊎ IpsecClosed
   unfolding closeIpsec
-  close-ipsec-cases = go (not (listFits ipsec) || eqb spi 0) refl (hasIpsec spi ipsec) refl
+  close-ipsec-cases = go (eqb number 0) refl
     where
-      go : (a : Bool) → not (listFits ipsec) || eqb spi 0 ≡ a → (b : Bool) → hasIpsec spi ipsec ≡ b
-          → (closeIpsec ipsec spi .ipsec ≡ ipsec) ⊎ IpsecClosed
-      go true e b f = inl (rw e)
-      go false e false f = inl (rw (e, f))
-      go false e true f = inr (record { named = eqb-false spi 0 (neither (not (listFits ipsec)) (eqb spi 0) e .1); there = ltb-true _ _ f; is = rw (e, f) })
+      number : ℕ
+      number = firstFailed (closingChecks ipsec spi (hasIpsec spi ipsec))
+
+      go : (b : Bool) → eqb number 0 ≡ b → (closeIpsec ipsec spi .ipsec ≡ ipsec) ⊎ IpsecClosed
+      go false e = inl (rw e)
+      go true e =
+          let p = all-passed (closingChecks ipsec spi (hasIpsec spi ipsec)) refl (eqb-true number 0 e) in
+          inr (record { named = eqb-false spi 0 (neither (not (listFits ipsec)) (eqb spi 0) (p .0) .1); there = ltb-true _ _ (not-false _ (p .1 .0)); is = rw e })

@@ -45,48 +45,47 @@ module _ (ike : List IkeRecord) (long : length ike ≡ 32) where
         → let c = ipsecOpening (length ipsec) spi owner (placeOf ikeSpi owner ike) (getD ike (placeOf ikeSpi owner ike) noIke .pair) (placeOf ipsecSpi spi ipsec) (placeOf ipsecSpi 0 ipsec) in
         (c .number ≡ openIpsec ike ipsec spi owner .number) × (set ipsec (c .place) (c .entry) ≡ openIpsec ike ipsec spi owner .ipsec)
     unfolding openIpsec ipsecOpening
-    opens-ipsec spi owner =
-        rw long (go (not (eqb (length ipsec) 128)) (eqb spi 0) (eqb owner 0) (ltb (placeOf ikeSpi owner ike) 32) (hasIpsec spi ipsec) (hasIpsec 0 ipsec))
+    opens-ipsec spi owner = rw long (go (eqb number 0) refl)
       where
+        number : ℕ
+        number =
+            openingNumber ((not (eqb (length ipsec) 128) || eqb spi 0) || eqb owner 0) (ltb (placeOf ikeSpi owner ike) 32) (hasIpsec spi ipsec)
+            (hasIpsec 0 ipsec)
+
         new : IpsecRecord
         new = newIpsec spi owner (getD ike (placeOf ikeSpi owner ike) noIke .pair)
 
-        rest : (d e f : Bool) → let r = cond (not d) (ipsecAnswer 4 ipsec) (cond e (ipsecAnswer 11 ipsec) (cond f (ipsecAnswer 0 (set ipsec (placeOf ipsecSpi 0 ipsec) new)) (ipsecAnswer 10 ipsec))) in
-            let n = openingNumber false d e f in (n ≡ r .number) × (set ipsec (cond (eqb n 0) (placeOf ipsecSpi 0 ipsec) (length ipsec)) new ≡ r .ipsec)
-        rest false e f = (refl, unstored ipsec (length ipsec) new refl)
-        rest true true f = (refl, unstored ipsec (length ipsec) new refl)
-        rest true false true = (refl, refl)
-        rest true false false = (refl, unstored ipsec (length ipsec) new refl)
-
-        go : (a b c d e f : Bool)
-            → let r = cond (a || (b || c)) (ipsecAnswer 1 ipsec) (cond (not d) (ipsecAnswer 4 ipsec) (cond e (ipsecAnswer 11 ipsec) (cond f (ipsecAnswer 0 (set ipsec (placeOf ipsecSpi 0 ipsec) new)) (ipsecAnswer 10 ipsec)))) in
-            let n = openingNumber ((a || b) || c) d e f in (n ≡ r .number) × (set ipsec (cond (eqb n 0) (placeOf ipsecSpi 0 ipsec) (length ipsec)) new ≡ r .ipsec)
-        go true b c d e f = (refl, unstored ipsec (length ipsec) new refl)
-        go false true c d e f = (refl, unstored ipsec (length ipsec) new refl)
-        go false false true d e f = (refl, unstored ipsec (length ipsec) new refl)
-        go false false false d e f = rest d e f
+        go : (b : Bool) → eqb number 0 ≡ b
+            → let r = cond b (ipsecAnswer 0 (set ipsec (placeOf ipsecSpi 0 ipsec) new)) (ipsecAnswer number ipsec) in
+            (number ≡ r .number) × (set ipsec (cond b (placeOf ipsecSpi 0 ipsec) (length ipsec)) new ≡ r .ipsec)
+        go true e = (eqb-true number 0 e, refl)
+        go false e = (refl, unstored ipsec (length ipsec) new refl)
 
     pub closes-ike : (spi : ℕ) → let c = ikeClosing (length ipsec) spi (placeOf ikeSpi spi ike) in
         (c .number ≡ closeIke ike ipsec spi .number) × (set ike (c .place) (c .entry) ≡ closeIke ike ipsec spi .ike)
         × (cond (eqb (c .number) 0) (map (released spi) ipsec) ipsec ≡ closeIke ike ipsec spi .ipsec)
     unfolding closeIke ikeClosing
-    closes-ike spi = rw long (go (not (eqb (length ipsec) 128) || eqb spi 0) (ltb (placeOf ikeSpi spi ike) 32))
+    closes-ike spi = rw long (go (eqb number 0) refl)
       where
-        go : (a b : Bool)
-            → let r = cond a (tablesAnswer 1 ike ipsec) (cond b (tablesAnswer 0 (set ike (placeOf ikeSpi spi ike) noIke) (map (released spi) ipsec)) (tablesAnswer 4 ike ipsec)) in
-            let n = closingNumber a b in
-            (n ≡ r .number) × (set ike (cond (eqb n 0) (placeOf ikeSpi spi ike) 32) noIke ≡ r .ike) × (cond (eqb n 0) (map (released spi) ipsec) ipsec ≡ r .ipsec)
-        go true b = (refl, unstored ike 32 noIke long, refl)
-        go false true = (refl, refl, refl)
-        go false false = (refl, unstored ike 32 noIke long, refl)
+        number : ℕ
+        number = closingNumber (not (eqb (length ipsec) 128) || eqb spi 0) (ltb (placeOf ikeSpi spi ike) 32)
+
+        go : (b : Bool) → eqb number 0 ≡ b
+            → let r = cond b (tablesAnswer 0 (set ike (placeOf ikeSpi spi ike) noIke) (map (released spi) ipsec)) (tablesAnswer number ike ipsec) in
+            (number ≡ r .number) × (set ike (cond b (placeOf ikeSpi spi ike) 32) noIke ≡ r .ike) × (cond b (map (released spi) ipsec) ipsec ≡ r .ipsec)
+        go true e = (eqb-true number 0 e, refl, refl)
+        go false e = (refl, unstored ike 32 noIke long, refl)
 
 pub closes-ipsec : (ipsec : List IpsecRecord) (spi : ℕ) → let c = ipsecClosing (length ipsec) spi (placeOf ipsecSpi spi ipsec) in
     (c .number ≡ closeIpsec ipsec spi .number) × (set ipsec (c .place) (c .entry) ≡ closeIpsec ipsec spi .ipsec)
 unfolding closeIpsec ipsecClosing
-closes-ipsec ipsec spi = go (not (eqb (length ipsec) 128) || eqb spi 0) (hasIpsec spi ipsec)
+closes-ipsec ipsec spi = go (eqb number 0) refl
   where
-    go : (a b : Bool) → let r = cond a (ipsecAnswer 1 ipsec) (cond b (ipsecAnswer 0 (set ipsec (placeOf ipsecSpi spi ipsec) noIpsec)) (ipsecAnswer 4 ipsec)) in
-        let n = closingNumber a b in (n ≡ r .number) × (set ipsec (cond (eqb n 0) (placeOf ipsecSpi spi ipsec) (length ipsec)) noIpsec ≡ r .ipsec)
-    go true b = (refl, unstored ipsec (length ipsec) noIpsec refl)
-    go false true = (refl, refl)
-    go false false = (refl, unstored ipsec (length ipsec) noIpsec refl)
+    number : ℕ
+    number = closingNumber (not (eqb (length ipsec) 128) || eqb spi 0) (hasIpsec spi ipsec)
+
+    go : (b : Bool) → eqb number 0 ≡ b
+        → let r = cond b (ipsecAnswer 0 (set ipsec (placeOf ipsecSpi spi ipsec) noIpsec)) (ipsecAnswer number ipsec) in
+        (number ≡ r .number) × (set ipsec (cond b (placeOf ipsecSpi spi ipsec) (length ipsec)) noIpsec ≡ r .ipsec)
+    go true e = (eqb-true number 0 e, refl)
+    go false e = (refl, unstored ipsec (length ipsec) noIpsec refl)

@@ -4,6 +4,7 @@ use mathlib.Core.List.{List, [], _∷_, map}
 use mathlib.Core.Bool.{Bool, cond, _&&_, _||_, not}
 use lib.Dec.{eqb, ltb}
 use lib.ListN.{length, getD, set}
+use Rattle.octets.specs.Limits.{ipsecPlaces}
 use Rattle.octets.specs.Checks.{Check, _gives_, firstFailed}
 use Rattle.octets.specs.Lists.{placeOf}
 use Rattle.address.specs.Address.{pairFits}
@@ -38,11 +39,11 @@ hasIpsec spi ipsec = ltb (placeOf ipsecSpi spi ipsec) (length ipsec)
 
 -- 01: "an IPsec list not of 128 records" is answer 1.
 abbrev pub listFits : List IpsecRecord → Bool
-listFits ipsec = eqb (length ipsec) 128
+listFits ipsec = eqb (length ipsec) ipsecPlaces
 
 -- 01: "1: family not 4 or 6, IPv4 tail not zero, an SPI of 0, an IPsec list not of 128 records"; of an opening beside a list of `size`.
 abbrev pub openingFits : ℕ → Opening → Bool
-openingFits size o = eqb size 128 && (not (eqb (o .spi) 0) && (not (eqb (o .child) 0) && pairFits (o .pair)))
+openingFits size o = eqb size ipsecPlaces && (not (eqb (o .spi) 0) && (not (eqb (o .child) 0) && pairFits (o .pair)))
 
 -- E1: "Refusals: 1, 11 (IKE, then IPsec), 10 (IKE, then IPsec)".
 abbrev pub openingChecks : List IkeRecord → List IpsecRecord → Opening → List Check
@@ -62,27 +63,36 @@ openBoth ike ipsec o =
     (tablesAnswer 0 (set ike (placeOf ikeSpi 0 ike) (ikeOf o)) (set ipsec (placeOf ipsecSpi 0 ipsec) (childOf o)))
     (tablesAnswer number ike ipsec)
 
--- Another IPsec record. 01: "Opening checks 1, 4 (the owner of an IPsec record), 11, 10."; "A new one takes the pair of its IKE record
--- (000, 3.3)."
+-- Another IPsec record. 01: "Opening checks 1, 4 (the owner of an IPsec record), 11, 10."
+abbrev pub addingChecks : List IkeRecord → List IpsecRecord → ℕ → ℕ → List Check
+addingChecks ike ipsec spi owner =
+    ((not (listFits ipsec) || eqb spi 0) || eqb owner 0) gives 1
+    ∷ not (hasIke owner ike) gives 4
+    ∷ hasIpsec spi ipsec gives 11
+    ∷ not (hasIpsec 0 ipsec) gives 10
+    ∷ []
+
+-- 01: "A new one takes the pair of its IKE record (000, 3.3)."
 unfoldable pub openIpsec : List IkeRecord → List IpsecRecord → ℕ → ℕ → IpsecAnswer
 openIpsec ike ipsec spi owner =
-    cond (not (listFits ipsec) || (eqb spi 0 || eqb owner 0)) (ipsecAnswer 1 ipsec)
-    (cond (not (hasIke owner ike)) (ipsecAnswer 4 ipsec)
-    (cond (hasIpsec spi ipsec) (ipsecAnswer 11 ipsec)
-    (cond (hasIpsec 0 ipsec)
+    let number = firstFailed (addingChecks ike ipsec spi owner) in
+    cond (eqb number 0)
     (ipsecAnswer 0 (set ipsec (placeOf ipsecSpi 0 ipsec) (newIpsec spi owner (getD ike (placeOf ikeSpi owner ike) noIke .pair))))
-    (ipsecAnswer 10 ipsec))))
+    (ipsecAnswer number ipsec)
 
--- 01: "Closing an IKE or IPsec record checks 1, 4."; "closing sets all its fields to 0 or none"; "Closing an IKE record closes
--- the IPsec records it owns."
+-- 01: "Closing an IKE or IPsec record checks 1, 4."; `there` says whether a record has the SPI.
+abbrev pub closingChecks : List IpsecRecord → ℕ → Bool → List Check
+closingChecks ipsec spi there = (not (listFits ipsec) || eqb spi 0) gives 1 ∷ not there gives 4 ∷ []
+
+-- 01: "closing sets all its fields to 0 or none"; "Closing an IKE record closes the IPsec records it owns."
 unfoldable pub closeIke : List IkeRecord → List IpsecRecord → ℕ → TablesAnswer
 closeIke ike ipsec spi =
-    cond (not (listFits ipsec) || eqb spi 0) (tablesAnswer 1 ike ipsec)
-    (cond (hasIke spi ike) (tablesAnswer 0 (set ike (placeOf ikeSpi spi ike) noIke) (map (released spi) ipsec))
-    (tablesAnswer 4 ike ipsec))
+    let number = firstFailed (closingChecks ipsec spi (hasIke spi ike)) in
+    cond (eqb number 0)
+    (tablesAnswer 0 (set ike (placeOf ikeSpi spi ike) noIke) (map (released spi) ipsec))
+    (tablesAnswer number ike ipsec)
 
 unfoldable pub closeIpsec : List IpsecRecord → ℕ → IpsecAnswer
 closeIpsec ipsec spi =
-    cond (not (listFits ipsec) || eqb spi 0) (ipsecAnswer 1 ipsec)
-    (cond (hasIpsec spi ipsec) (ipsecAnswer 0 (set ipsec (placeOf ipsecSpi spi ipsec) noIpsec))
-    (ipsecAnswer 4 ipsec))
+    let number = firstFailed (closingChecks ipsec spi (hasIpsec spi ipsec)) in
+    cond (eqb number 0) (ipsecAnswer 0 (set ipsec (placeOf ipsecSpi spi ipsec) noIpsec)) (ipsecAnswer number ipsec)

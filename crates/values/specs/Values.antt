@@ -6,6 +6,7 @@ use mathlib.Core.Bool.{Bool, cond, _&&_, not}
 use lib.Dec.{eqb, leb}
 use lib.ListN.{length, take, drop, replicate}
 use denote.Ref.{RefT, ptr, now}
+use Rattle.octets.specs.Limits.{addressesMost, addressOctets, natOctets}
 use Rattle.octets.specs.Lists.{firstOnly}
 use Rattle.octets.specs.Octets.{be16, padded}
 use Rattle.address.specs.Address.{widthOf, addressesOf}
@@ -32,10 +33,10 @@ pub record PartOf (body : RefT (List ℕ)) (at n : ℕ) (part : RefT (List ℕ))
 
 -- 01: "NAT_DETECTION_SOURCE_IP, _DESTINATION_IP: 20" octets.
 abbrev pub natLength : ℕ
-natLength = 20
+natLength = natOctets
 
 abbrev pub absent : NoNats
-absent = record { family = 0; source = replicate 16 0; destination = replicate 16 0; «source_port» = 0; «destination_port» = 0 }
+absent = record { family = 0; source = replicate addressOctets 0; destination = replicate addressOctets 0; «source_port» = 0; «destination_port» = 0 }
 
 -- 01: "NO_NATS_ALLOWED holds source address, destination address, source port, destination port, of 4 or 16 octets and 2 octets."
 abbrev pub noNatsIn : ℕ → ℕ → List ℕ → NoNats
@@ -64,8 +65,8 @@ addressAt body place family = padded (partOf body place (widthOf family))
 
 -- 01: "The first 16 are kept"; "Places past a list's count ... aren't looked at; in a list newly kept or given they are 0."
 abbrev pub additionalOf : List ℕ → Places → List (List ℕ)
-additionalOf body l = firstOnly (replicate 16 0) (min (l .count) 16) (zipWith (addressAt body) (l .places) (l .families))
+additionalOf body l = firstOnly (replicate addressOctets 0) (min (l .count) addressesMost) (zipWith (addressAt body) (l .places) (l .families))
 
 -- the additional addresses with their families, as a record keeps them
 abbrev pub addressesIn : List ℕ → Places → List Address
-addressesIn body l = addressesOf (min (l .count) 16) (l .families) (additionalOf body l)
+addressesIn body l = addressesOf (min (l .count) addressesMost) (l .families) (additionalOf body l)

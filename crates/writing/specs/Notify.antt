@@ -2,6 +2,7 @@
 use Prim.Native.Nat.{ℕ, _+_, _/_, _%_}
 use mathlib.Core.List.{List, [], _∷_, _++_}
 use lib.ListN.{length, take, drop}
+use Rattle.octets.specs.Wire.{notifyPayload}
 
 -- `out` with the octets at `at`; everything else is as it was.
 unfoldable pub placed : List ℕ → ℕ → List ℕ → List ℕ
@@ -26,7 +27,7 @@ notification number octets = record { number = number; octets = octets }
 -- The type of what stands first: a Notify, or what follows the notifications where there are none.
 abbrev pub firstType : List Notification → ℕ → ℕ
 firstType [] next = next
-firstType (x ∷ xs) next = 41
+firstType (x ∷ xs) next = notifyPayload
 
 -- Notifications one behind the other, each with the type of what follows it; `next` is the type of what follows the last.
 unfoldable pub chained : List Notification → ℕ → List ℕ

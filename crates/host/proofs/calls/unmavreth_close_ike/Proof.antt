@@ -29,9 +29,9 @@ use Rattle.lent_ike.proofs.ike.ike_place.Met as place-thm
 use Rattle.lent_ike.proofs.ike.ike_store as store
 use Rattle.lent_ike.proofs.ike.ike_store.Symbol as store-def
 use Rattle.lent_ike.proofs.ike.ike_store.Met as store-thm
-use Rattle.lent_owned.proofs.owned.ipsec_count as count
-use Rattle.lent_owned.proofs.owned.ipsec_count.Symbol as count-def
-use Rattle.lent_owned.proofs.owned.ipsec_count.Met as count-thm
+use Rattle.lent_ipsec.proofs.places.ipsec_count as count
+use Rattle.lent_ipsec.proofs.places.ipsec_count.Symbol as count-def
+use Rattle.lent_ipsec.proofs.places.ipsec_count.Met as count-thm
 use Rattle.lent_owned.proofs.owned.release_if as release
 use Rattle.lent_owned.proofs.owned.release_if.Symbol as release-def
 use Rattle.lent_owned.proofs.owned.release_if.Met as release-thm
@@ -125,7 +125,7 @@ unmavreth-close-ike-spec 𝓤 H 𝓜 𝓖 𝓡 =
     (goes-gave-ref 𝓤 H A W 2 0 tt table, (goes-gave-slice 𝓤 H A W 2 1 tt (plain (λ _. R)), (goes-dropped 𝓤 H A W 2 (plain (λ _. u64)) yes (λ κs x f. refl), tt)))
     spelled (λ κs. (mut-tells (named 0) (κs .0) Q, (mut-slice-tells (named 1) (κs .1 .0) R, (uint-tells w64, tt))))
     (λ κs qs bounds a g are. via 𝓤 _ (fst∗ 𝓤 _ (emp 𝓤)) (walk 𝓤 H A W (𝓜 .mem) (𝓡 .run) κs qs (a .0) (a .1 .0) (a .1 .1 .0) (are .1 .0 .0 .1) (are .1 .1 .0 .1) (Ts .C) (Ts .Λ) (fmOf 𝓤 H (W .laws) (tablesOf 𝓤 H 𝓜 Ts))
-    (cited 𝓤 H (Told 𝓤 H A count.ended (count.clauses 𝓤 H A (𝓜 .mem) (𝓡 .run))) 𝓜 𝓡 code.env count-def.name count-def.routine code.calls-lent-owned·owned·ipsec-count (count-thm.met 𝓤 H 𝓜 𝓖 𝓡))
+    (cited 𝓤 H (Told 𝓤 H A count.ended (count.clauses 𝓤 H A (𝓜 .mem) (𝓡 .run))) 𝓜 𝓡 code.env count-def.name count-def.routine code.calls-lent-ipsec·places·ipsec-count (count-thm.met 𝓤 H 𝓜 𝓖 𝓡))
     (cited 𝓤 H (Told 𝓤 H A place.ended (place.clauses 𝓤 H A (𝓜 .mem) (𝓡 .run))) 𝓜 𝓡 code.env place-def.name place-def.routine code.calls-lent-ike·ike·ike-place (place-thm.met 𝓤 H 𝓜 𝓖 𝓡))
     (cited 𝓤 H (Told 𝓤 H A closing.ended (closing.clauses 𝓤 H A (𝓜 .mem) (𝓡 .run))) 𝓜 𝓡 code.env closing-def.name closing-def.routine code.calls-tables·calls·ike-closing (closing-thm.met 𝓤 H 𝓜 𝓖 𝓡))
     (cited 𝓤 H (Told 𝓤 H A store.ended (store.clauses 𝓤 H A (𝓜 .mem) (𝓡 .run))) 𝓜 𝓡 code.env store-def.name store-def.routine code.calls-lent-ike·ike·ike-store (store-thm.met 𝓤 H 𝓜 𝓖 𝓡))

@@ -20,9 +20,9 @@ use Rattle.walks.proofs.Walk.{closes, local}
 use Rattle.walks.proofs.Calls.{_&_, tokens, Told, no-token, plainly, calls-for, copied, ends-local}
 use Rattle.lent.proofs.Asked.{counts, finds-ipsec, stores-ipsec}
 use Rattle.lent_ipsec.proofs.IpsecTable.{R}
-use Rattle.lent_owned.proofs.owned.ipsec_count as count
-use Rattle.lent_owned.proofs.owned.ipsec_count.Symbol as count-def
-use Rattle.lent_owned.proofs.owned.ipsec_count.Met as count-thm
+use Rattle.lent_ipsec.proofs.places.ipsec_count as count
+use Rattle.lent_ipsec.proofs.places.ipsec_count.Symbol as count-def
+use Rattle.lent_ipsec.proofs.places.ipsec_count.Met as count-thm
 use Rattle.lent_ipsec.proofs.places.ipsec_place as place
 use Rattle.lent_ipsec.proofs.places.ipsec_place.Symbol as place-def
 use Rattle.lent_ipsec.proofs.places.ipsec_place.Met as place-thm
@@ -107,7 +107,7 @@ unmavreth-close-ipsec-spec 𝓤 H 𝓜 𝓖 𝓡 =
     closes 𝓤 H 𝓜 𝓖 𝓡 code.env key.name code.function (code.unfolded 𝓤 H 𝓜 𝓡) f.ended stayed (f.clauses 𝓤 H A (𝓜 .mem) (𝓡 .run))
     (goes-gave-slice 𝓤 H A W 1 0 tt (plain (λ _. R)), (goes-dropped 𝓤 H A W 1 (plain (λ _. u32)) yes (λ κs x f. refl), tt)) spelled (λ κs. (mut-slice-tells (named 0) (κs .0) R, (uint-tells w32, tt)))
     (λ κs qs bounds a g are. via 𝓤 _ (fst∗ 𝓤 _ (emp 𝓤)) (walk 𝓤 H A W (𝓜 .mem) (𝓡 .run) κs qs (a .0) (a .1 .0) (are .0 .0 .1) (are .1 .0 .1) (Ts .C) (Ts .Λ) (fmOf 𝓤 H (W .laws) (tablesOf 𝓤 H 𝓜 Ts))
-    (cited 𝓤 H (Told 𝓤 H A count.ended (count.clauses 𝓤 H A (𝓜 .mem) (𝓡 .run))) 𝓜 𝓡 code.env count-def.name count-def.routine code.calls-lent-owned·owned·ipsec-count (count-thm.met 𝓤 H 𝓜 𝓖 𝓡))
+    (cited 𝓤 H (Told 𝓤 H A count.ended (count.clauses 𝓤 H A (𝓜 .mem) (𝓡 .run))) 𝓜 𝓡 code.env count-def.name count-def.routine code.calls-lent-ipsec·places·ipsec-count (count-thm.met 𝓤 H 𝓜 𝓖 𝓡))
     (cited 𝓤 H (Told 𝓤 H A place.ended (place.clauses 𝓤 H A (𝓜 .mem) (𝓡 .run))) 𝓜 𝓡 code.env place-def.name place-def.routine code.calls-lent-ipsec·places·ipsec-place (place-thm.met 𝓤 H 𝓜 𝓖 𝓡))
     (cited 𝓤 H (Told 𝓤 H A closing.ended (closing.clauses 𝓤 H A (𝓜 .mem) (𝓡 .run))) 𝓜 𝓡 code.env closing-def.name closing-def.routine code.calls-tables·calls·ipsec-closing (closing-thm.met 𝓤 H 𝓜 𝓖 𝓡))
     (cited 𝓤 H (Told 𝓤 H A store.ended (store.clauses 𝓤 H A (𝓜 .mem) (𝓡 .run))) 𝓜 𝓡 code.env store-def.name store-def.routine code.calls-lent-ipsec·places·ipsec-store (store-thm.met 𝓤 H 𝓜 𝓖 𝓡))))

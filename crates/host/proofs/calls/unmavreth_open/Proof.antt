@@ -32,9 +32,9 @@ use Rattle.lent_ike.proofs.ike.ike_place.Met as home-thm
 use Rattle.lent_ike.proofs.ike.ike_store as put
 use Rattle.lent_ike.proofs.ike.ike_store.Symbol as put-def
 use Rattle.lent_ike.proofs.ike.ike_store.Met as put-thm
-use Rattle.lent_owned.proofs.owned.ipsec_count as count
-use Rattle.lent_owned.proofs.owned.ipsec_count.Symbol as count-def
-use Rattle.lent_owned.proofs.owned.ipsec_count.Met as count-thm
+use Rattle.lent_ipsec.proofs.places.ipsec_count as count
+use Rattle.lent_ipsec.proofs.places.ipsec_count.Symbol as count-def
+use Rattle.lent_ipsec.proofs.places.ipsec_count.Met as count-thm
 use Rattle.lent_ipsec.proofs.places.ipsec_place as place
 use Rattle.lent_ipsec.proofs.places.ipsec_place.Symbol as place-def
 use Rattle.lent_ipsec.proofs.places.ipsec_place.Met as place-thm
@@ -158,7 +158,7 @@ unmavreth-open-spec 𝓤 H 𝓜 𝓖 𝓡 =
     (goes-gave-ref 𝓤 H A W 2 0 tt table-slot & goes-gave-slice 𝓤 H A W 2 1 tt (val R) & goes-dropped 𝓤 H A W 2 (val O.the-row) yes (λ κs x f. refl) & tt)
     spelled (λ κs. mut-tells (named 0) (κs .0) Q & mut-slice-tells (named 1) (κs .1 .0) R & LL.tells O.the-type O′.the-laws & tt)
     (λ κs qs bounds a g are. via 𝓤 _ (fst∗ 𝓤 _ (emp 𝓤)) (walk 𝓤 H A W (𝓜 .mem) (𝓡 .run) κs qs (a .0) (a .1 .0) (a .1 .1 .0) (are .1 .0 .0 .1) (are .1 .1 .0) (Ts .C) (Ts .Λ) (fmOf 𝓤 H (W .laws) (tablesOf 𝓤 H 𝓜 Ts))
-    (cited 𝓤 H (Told 𝓤 H A count.ended (count.clauses 𝓤 H A (𝓜 .mem) (𝓡 .run))) 𝓜 𝓡 code.env count-def.name count-def.routine code.calls-lent-owned·owned·ipsec-count (count-thm.met 𝓤 H 𝓜 𝓖 𝓡))
+    (cited 𝓤 H (Told 𝓤 H A count.ended (count.clauses 𝓤 H A (𝓜 .mem) (𝓡 .run))) 𝓜 𝓡 code.env count-def.name count-def.routine code.calls-lent-ipsec·places·ipsec-count (count-thm.met 𝓤 H 𝓜 𝓖 𝓡))
     (cited 𝓤 H (Told 𝓤 H A home.ended (home.clauses 𝓤 H A (𝓜 .mem) (𝓡 .run))) 𝓜 𝓡 code.env home-def.name home-def.routine code.calls-lent-ike·ike·ike-place (home-thm.met 𝓤 H 𝓜 𝓖 𝓡))
     (cited 𝓤 H (Told 𝓤 H A place.ended (place.clauses 𝓤 H A (𝓜 .mem) (𝓡 .run))) 𝓜 𝓡 code.env place-def.name place-def.routine code.calls-lent-ipsec·places·ipsec-place (place-thm.met 𝓤 H 𝓜 𝓖 𝓡))
     (cited 𝓤 H (Told 𝓤 H A opening.ended (opening.clauses 𝓤 H A (𝓜 .mem) (𝓡 .run))) 𝓜 𝓡 code.env opening-def.name opening-def.routine code.calls-tables·calls·both-opening (opening-thm.met 𝓤 H 𝓜 𝓖 𝓡))

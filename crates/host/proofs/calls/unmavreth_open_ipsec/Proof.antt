@@ -31,9 +31,9 @@ use Rattle.lent_ike.proofs.ike.ike_place.Met as home-of-thm
 use Rattle.lent_ike.proofs.ike.ike_at as record-at
 use Rattle.lent_ike.proofs.ike.ike_at.Symbol as record-at-def
 use Rattle.lent_ike.proofs.ike.ike_at.Met as record-at-thm
-use Rattle.lent_owned.proofs.owned.ipsec_count as count
-use Rattle.lent_owned.proofs.owned.ipsec_count.Symbol as count-def
-use Rattle.lent_owned.proofs.owned.ipsec_count.Met as count-thm
+use Rattle.lent_ipsec.proofs.places.ipsec_count as count
+use Rattle.lent_ipsec.proofs.places.ipsec_count.Symbol as count-def
+use Rattle.lent_ipsec.proofs.places.ipsec_count.Met as count-thm
 use Rattle.lent_ipsec.proofs.places.ipsec_place as place
 use Rattle.lent_ipsec.proofs.places.ipsec_place.Symbol as place-def
 use Rattle.lent_ipsec.proofs.places.ipsec_place.Met as place-thm
@@ -141,7 +141,7 @@ unmavreth-open-ipsec-spec 𝓤 H 𝓜 𝓖 𝓡 =
     (goes-dropped 𝓤 H A W 2 (shrRefTo (0 ∷ []) tt table) yes (λ κs x f. refl), (goes-gave-slice 𝓤 H A W 2 1 tt (plain (λ _. R)), (goes-dropped 𝓤 H A W 2 (plain (λ _. u32)) yes (λ κs x f. refl), (goes-dropped 𝓤 H A W 2 (plain (λ _. u64)) yes (λ κs x f. refl), tt))))
     spelled (λ κs. (shr-tells (named 0) (κs .0) Q, (mut-slice-tells (named 1) (κs .1 .0) R, (uint-tells w32, (uint-tells w64, tt)))))
     (λ κs qs bounds a g are. via 𝓤 _ (fst∗ 𝓤 _ (emp 𝓤)) (walk 𝓤 H A W (𝓜 .mem) (𝓡 .run) κs qs (a .0) (a .1 .0) (a .1 .1 .0) (a .1 .1 .1 .0) (are .1 .0 .0 .1) (are .1 .1 .0 .1) (are .1 .1 .1 .0 .1) (Ts .C) (Ts .Λ) (fmOf 𝓤 H (W .laws) (tablesOf 𝓤 H 𝓜 Ts))
-    (cited 𝓤 H (Told 𝓤 H A count.ended (count.clauses 𝓤 H A (𝓜 .mem) (𝓡 .run))) 𝓜 𝓡 code.env count-def.name count-def.routine code.calls-lent-owned·owned·ipsec-count (count-thm.met 𝓤 H 𝓜 𝓖 𝓡))
+    (cited 𝓤 H (Told 𝓤 H A count.ended (count.clauses 𝓤 H A (𝓜 .mem) (𝓡 .run))) 𝓜 𝓡 code.env count-def.name count-def.routine code.calls-lent-ipsec·places·ipsec-count (count-thm.met 𝓤 H 𝓜 𝓖 𝓡))
     (cited 𝓤 H (Told 𝓤 H A home-of.ended (home-of.clauses 𝓤 H A (𝓜 .mem) (𝓡 .run))) 𝓜 𝓡 code.env home-of-def.name home-of-def.routine code.calls-lent-ike·ike·ike-place (home-of-thm.met 𝓤 H 𝓜 𝓖 𝓡))
     (cited 𝓤 H (Told 𝓤 H A record-at.ended (record-at.clauses 𝓤 H A (𝓜 .mem) (𝓡 .run))) 𝓜 𝓡 code.env record-at-def.name record-at-def.routine code.calls-lent-ike·ike·ike-at (record-at-thm.met 𝓤 H 𝓜 𝓖 𝓡))
     (cited 𝓤 H (Told 𝓤 H A place.ended (place.clauses 𝓤 H A (𝓜 .mem) (𝓡 .run))) 𝓜 𝓡 code.env place-def.name place-def.routine code.calls-lent-ipsec·places·ipsec-place (place-thm.met 𝓤 H 𝓜 𝓖 𝓡))

@@ -30,13 +30,13 @@ use Rattle.records.proofs.ike.marks_of.Symbol as marks-def
 use Rattle.records.proofs.ike.marks_of.Met as marks-thm
 use Rattle.answering.specs.Core.{asked, changedBy}
 use Rattle.responder.specs.Handle.{Request, HandledAs, request, meant, answered, answeredResponse}
-use Rattle.answering.specs.declared.core.CoreAnswer.{CoreAnswer}
+use Rattle.replying.specs.declared.reply.CoreAnswer.{CoreAnswer}
 use Rattle.responder.proofs.Looked.{handles}
 use Rattle.responder.proofs.Counted.{counted}
-use Rattle.answering.proofs.core.CoreAnswer as D
-use Rattle.answering.proofs.core.CoreAnswer.Laws as D′
-use Rattle.answering.proofs.core.Reply as Z
-use Rattle.answering.proofs.core.Reply.Laws as Z′
+use Rattle.replying.proofs.reply.CoreAnswer as D
+use Rattle.replying.proofs.reply.CoreAnswer.Laws as D′
+use Rattle.replying.proofs.reply.Reply as Z
+use Rattle.replying.proofs.reply.Reply.Laws as Z′
 use Rattle.responder.proofs.handle.answer as answer
 use Rattle.responder.proofs.handle.answer.Symbol as answer-def
 use Rattle.responder.proofs.handle.answer.Met as answer-thm
@@ -45,9 +45,9 @@ use Rattle.lent_ike.proofs.IkeTable.{R, Q, table-slot, rec-vals}
 use Rattle.lent_policy.proofs.PolicyTypes.{R as Rₚ, policy-vals}
 use Rattle.walks.proofs.Calls.{_&_, tokens, Told, plainly, gives, spares, spare-first, spare-next, list-last, calls-both, calls-for, calls-to, copied, ends-local}
 use Rattle.lent.proofs.Asked.{counts, finds-ike, reads-ike, changes-ike, reads-policy}
-use Rattle.lent_owned.proofs.owned.ipsec_count as count
-use Rattle.lent_owned.proofs.owned.ipsec_count.Symbol as count-def
-use Rattle.lent_owned.proofs.owned.ipsec_count.Met as count-thm
+use Rattle.lent_ipsec.proofs.places.ipsec_count as count
+use Rattle.lent_ipsec.proofs.places.ipsec_count.Symbol as count-def
+use Rattle.lent_ipsec.proofs.places.ipsec_count.Met as count-thm
 use Rattle.lent_owned.proofs.owned.follow_if as follow
 use Rattle.lent_owned.proofs.owned.follow_if.Symbol as follow-def
 use Rattle.lent_owned.proofs.owned.follow_if.Met as follow-thm
@@ -235,7 +235,7 @@ unmavreth-request-spec 𝓤 H 𝓜 𝓖 𝓡 =
     (walk 𝓤 H A W (𝓜 .mem) (𝓡 .run) κs qs (a .0) (a .1 .0) (a .1 .1 .0) (a .1 .1 .1 .0) (a .1 .1 .1 .1 .0) (a .1 .1 .1 .1 .1 .0) (a .1 .1 .1 .1 .1 .1 .0) (a .1 .1 .1 .1 .1 .1 .1 .0) (a .1 .1 .1 .1 .1 .1 .1 .1 .0) (a .1 .1 .1 .1 .1 .1 .1 .1 .1 .0) (a .1 .1 .1 .1 .1 .1 .1 .1 .1 .1 .0)
     (are .1 .0 .0 .1) (are .1 .1 .1 .0 .1) (are .1 .1 .1 .1 .0 .1) (are .1 .1 .1 .1 .1 .0) (are .1 .1 .1 .1 .1 .1 .0 .0 .1) (are .1 .1 .1 .1 .1 .1 .1 .0 .0 .1) (are .1 .1 .1 .1 .1 .1 .1 .1 .0 .1) (are .1 .1 .1 .1 .1 .1 .1 .1 .1 .0 .0 .1) (are .1 .1 .1 .1 .1 .1 .1 .1 .1 .1 .0 .0 .1)
     (Ts .C) (Ts .Λ) (fmOf 𝓤 H (W .laws) (tablesOf 𝓤 H 𝓜 Ts))
-    (cited 𝓤 H (Told 𝓤 H A count.ended (count.clauses 𝓤 H A (𝓜 .mem) (𝓡 .run))) 𝓜 𝓡 code.env count-def.name count-def.routine code.calls-lent-owned·owned·ipsec-count (count-thm.met 𝓤 H 𝓜 𝓖 𝓡))
+    (cited 𝓤 H (Told 𝓤 H A count.ended (count.clauses 𝓤 H A (𝓜 .mem) (𝓡 .run))) 𝓜 𝓡 code.env count-def.name count-def.routine code.calls-lent-ipsec·places·ipsec-count (count-thm.met 𝓤 H 𝓜 𝓖 𝓡))
     (cited 𝓤 H (Told 𝓤 H A place-of.ended (place-of.clauses 𝓤 H A (𝓜 .mem) (𝓡 .run))) 𝓜 𝓡 code.env place-of-def.name place-of-def.routine code.calls-lent-ike·ike·ike-place (place-of-thm.met 𝓤 H 𝓜 𝓖 𝓡))
     (cited 𝓤 H (Told 𝓤 H A at-place.ended (at-place.clauses 𝓤 H A (𝓜 .mem) (𝓡 .run))) 𝓜 𝓡 code.env at-place-def.name at-place-def.routine code.calls-lent-ike·ike·ike-at (at-place-thm.met 𝓤 H 𝓜 𝓖 𝓡))
     (cited 𝓤 H (Told 𝓤 H A marks.ended (marks.clauses 𝓤 H A (𝓜 .mem) (𝓡 .run))) 𝓜 𝓡 code.env marks-def.name marks-def.routine code.calls-records·ike·marks-of (marks-thm.met 𝓤 H 𝓜 𝓖 𝓡))

@@ -16,9 +16,9 @@ use Rattle.records.specs.declared.ike.IkeRecord.{IkeRecord}
 use Rattle.records.proofs.ike.IkeRecord as S
 use Rattle.records.proofs.ike.IkeRecord.Laws as S′
 use Rattle.answering.specs.Core.{changedBy}
-use Rattle.answering.specs.declared.core.CoreAnswer.{CoreAnswer}
-use Rattle.answering.proofs.core.CoreAnswer as D
-use Rattle.answering.proofs.core.CoreAnswer.Laws as D′
+use Rattle.replying.specs.declared.reply.CoreAnswer.{CoreAnswer}
+use Rattle.replying.proofs.reply.CoreAnswer as D
+use Rattle.replying.proofs.reply.CoreAnswer.Laws as D′
 use Rattle.answering.proofs.core.changed as change
 use Rattle.answering.proofs.core.changed.Symbol as change-def
 use Rattle.answering.proofs.core.changed.Met as change-thm

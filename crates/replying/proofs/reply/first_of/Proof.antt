@@ -1,8 +1,8 @@
--- `answering::core::first_of` meets its contract.
+-- `replying::reply::first_of` meets its contract.
 -- Assumes nothing.
 use borrow.Author.Tests.{eq-eqb, ne-eqb}
-use Rattle.answering.proofs.core.first_of.Statement.{statement}
-use Rattle.answering.proofs.core.first_of.Tie as tie
+use Rattle.replying.proofs.reply.first_of.Statement.{statement}
+use Rattle.replying.proofs.reply.first_of.Tie as tie
 
 pub first-of-spec : {M : Type 1} → statement M
 first-of-spec =

@@ -1,16 +1,16 @@
--- `lent_owned::owned::ipsec_count` meets its contract: the count is read off the slice's machine value, and the borrow is never opened.
+-- `lent_ipsec::places::ipsec_count` meets its contract: the count is read off the slice's machine value, and the borrow is never opened.
 -- Assumes nothing.
 use Rattle.walks.proofs.Kit.{refl, [], _∷_, List, length, URA, named, w64, Val, vint, SProp, ent, emp, via, fst∗, Lft, Share, Fml, ftrue, flft, Memory, Routine, Heap, WpFn, Tables, Atoms, Fun, givenOf, tables, tablesOf, Given, ‵, _⊛_, ⋆, _$_, _∵_, !, qed, by, move, suffices, frame, done}
 use Rattle.walks.proofs.Kit.{look, init, forget, stop, fld, from, load, of-opd, assigns, returns, enter, alloc1, alloc0, params1, pass1, pass0, free1, free0, whole, sub, look-in, owns, Is, uint-makes, usize, RefT, sliceVal, slice-vals, shr-slice-tells, ShrSlice, Room, plain, owned}
 use Rattle.walks.proofs.Kit.{onEntry, says, Stays, walkOf, ends-at, yes}
 use denote.Triple.Walked.{stay-none-slice, goes-none-slice}
 use Rattle.records.specs.declared.ipsec.IpsecRecord.{IpsecRecord}
 use Rattle.lent_ipsec.proofs.IpsecTable.{R}
 use Rattle.walks.proofs.Walk.{closes}
-use Rattle.lent_owned.proofs.owned.ipsec_count.Key.{name as #lent·ipsec-count}
-use Rattle.lent_owned.proofs.owned.ipsec_count as f
-use Rattle.lent_owned.proofs.owned.ipsec_count.Statement as stated
-use Rattle.lent_owned.proofs.owned.ipsec_count.Code as code
+use Rattle.lent_ipsec.proofs.places.ipsec_count.Key.{name as #lent·ipsec-count}
+use Rattle.lent_ipsec.proofs.places.ipsec_count as f
+use Rattle.lent_ipsec.proofs.places.ipsec_count.Statement as stated
+use Rattle.lent_ipsec.proofs.places.ipsec_count.Code as code
 
 abbrev stayed : Stays (f.ended .signature .params) (f.ended .kept)
 stayed = (stay-none-slice (0 ∷ []) tt (plain (λ _. R)) yes, tt)

@@ -1,8 +1,8 @@
--- `answering::core::reply_to` meets its contract.
+-- `replying::reply::reply_to` meets its contract.
 -- Assumes nothing.
 use borrow.Author.Needs.{needs}
-use Rattle.answering.proofs.core.reply_to.Statement.{statement}
-use Rattle.answering.proofs.core.reply_to.Tie as tie
+use Rattle.replying.proofs.reply.reply_to.Statement.{statement}
+use Rattle.replying.proofs.reply.reply_to.Tie as tie
 
 pub reply-to-spec : {M : Type 1} → statement M
 reply-to-spec =

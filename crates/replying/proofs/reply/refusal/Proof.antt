@@ -1,8 +1,8 @@
--- `answering::core::refusal` meets its contract.
+-- `replying::reply::refusal` meets its contract.
 -- Assumes nothing.
 use borrow.Author.Needs.{needs}
-use Rattle.answering.proofs.core.refusal.Statement.{statement}
-use Rattle.answering.proofs.core.refusal.Tie as tie
+use Rattle.replying.proofs.reply.refusal.Statement.{statement}
+use Rattle.replying.proofs.reply.refusal.Tie as tie
 
 pub refusal-spec : {M : Type 1} → statement M
 refusal-spec =

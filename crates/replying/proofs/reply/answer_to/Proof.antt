@@ -1,8 +1,8 @@
--- `answering::core::answer_to` meets its contract.
+-- `replying::reply::answer_to` meets its contract.
 -- Assumes nothing.
 use borrow.Author.Needs.{needs}
-use Rattle.answering.proofs.core.answer_to.Statement.{statement}
-use Rattle.answering.proofs.core.answer_to.Tie as tie
+use Rattle.replying.proofs.reply.answer_to.Statement.{statement}
+use Rattle.replying.proofs.reply.answer_to.Tie as tie
 
 pub answer-to-spec : {M : Type 1} → statement M
 answer-to-spec =

@@ -1,0 +1,2 @@
+// What is told of a request, and what it changes in its record.
+pub mod reply;
