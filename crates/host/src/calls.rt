@@ -33,7 +33,10 @@ pub extern "C" fn unmavreth_open(
     ipsec: &mut [IpsecRecord],
     opening: Opening,
 ) -> u8
-    ensures { λ r. ⌜ (let a = openBoth (now (ike .entry)) (now (ipsec .entry)) opening in (r ≡ a .number) × (now (ike .exit) ≡ a .ike) × (now (ipsec .exit) ≡ a .ipsec)) ⌝ }
+    ensures { λ r. ⌜ (
+        let opened = openBoth (now (ike .entry)) (now (ipsec .entry)) opening in
+        (r ≡ opened .number) × (now (ike .exit) ≡ opened .ike) × (now (ipsec .exit) ≡ opened .ipsec)
+        ) ⌝ }
 {
     let size = ipsec_count(ipsec);
     let taken = ike_place(ike, opening.spi);
@@ -54,7 +57,10 @@ pub extern "C" fn unmavreth_open_ipsec(
     spi: u32,
     owner: u64,
 ) -> u8
-    ensures { λ r. ⌜ (r ≡ openIpsec (now (ike .entry)) (now (ipsec .entry)) spi owner .number) × (now (ipsec .exit) ≡ openIpsec (now (ike .entry)) (now (ipsec .entry)) spi owner .ipsec) ⌝ }
+    ensures { λ r. ⌜ (
+        let added = openIpsec (now (ike .entry)) (now (ipsec .entry)) spi owner in
+        (r ≡ added .number) × (now (ipsec .exit) ≡ added .ipsec)
+        ) ⌝ }
 {
     let size = ipsec_count(ipsec);
     let owned = ike_place(ike, owner);
@@ -73,7 +79,10 @@ pub extern "C" fn unmavreth_close_ike(
     ipsec: &mut [IpsecRecord],
     spi: u64,
 ) -> u8
-    ensures { λ r. ⌜ (r ≡ closeIke (now (ike .entry)) (now (ipsec .entry)) spi .number) × (now (ike .exit) ≡ closeIke (now (ike .entry)) (now (ipsec .entry)) spi .ike) × (now (ipsec .exit) ≡ closeIke (now (ike .entry)) (now (ipsec .entry)) spi .ipsec) ⌝ }
+    ensures { λ r. ⌜ (
+        let closed = closeIke (now (ike .entry)) (now (ipsec .entry)) spi in
+        (r ≡ closed .number) × (now (ike .exit) ≡ closed .ike) × (now (ipsec .exit) ≡ closed .ipsec)
+        ) ⌝ }
 {
     let size = ipsec_count(ipsec);
     let place = ike_place(ike, spi);
@@ -86,7 +95,10 @@ pub extern "C" fn unmavreth_close_ike(
 // Closes an IPsec record.
 #[no_mangle]
 pub extern "C" fn unmavreth_close_ipsec(ipsec: &mut [IpsecRecord], spi: u32) -> u8
-    ensures { λ r. ⌜ (r ≡ closeIpsec (now (ipsec .entry)) spi .number) × (now (ipsec .exit) ≡ closeIpsec (now (ipsec .entry)) spi .ipsec) ⌝ }
+    ensures { λ r. ⌜ (
+        let closed = closeIpsec (now (ipsec .entry)) spi in
+        (r ≡ closed .number) × (now (ipsec .exit) ≡ closed .ipsec)
+        ) ⌝ }
 {
     let size = ipsec_count(ipsec);
     let place = ipsec_place(ipsec, spi);
@@ -98,7 +110,10 @@ pub extern "C" fn unmavreth_close_ipsec(ipsec: &mut [IpsecRecord], spi: u32) -> 
 // Sets the whole policy, or refuses and leaves it.
 #[no_mangle]
 pub extern "C" fn unmavreth_set_policy(policy: &mut Policy, count: u16, rules: &[Rule; 16]) -> u8
-    ensures { λ r. ⌜ (r ≡ setPolicy (now (policy .entry)) count (now (rules .entry)) .number) × (now (policy .exit) ≡ setPolicy (now (policy .entry)) count (now (rules .entry)) .policy) ⌝ }
+    ensures { λ r. ⌜ (
+        let set = setPolicy (now (policy .entry)) count (now (rules .entry)) in
+        (r ≡ set .number) × (now (policy .exit) ≡ set .policy)
+        ) ⌝ }
 {
     let old = policy_of(policy);
     let list = rules_of(rules);

@@ -32,7 +32,12 @@ pub extern "C" fn unmavreth_request(
     body: &[u8],
     out: &mut [u8],
 ) -> Reply
-    ensures { λ r. ⌜ HandledAs (now (policy .entry)) (now (ike .entry)) (now (ipsec .entry)) (request spi (asked id pair (now (source .entry)) (now (destination .entry)) first (now (body .entry))) (length (now (out .entry)))) (now (out .entry)) r (now (ike .exit)) (now (ipsec .exit)) (now (out .exit)) ⌝ }
+    ensures { λ r. ⌜ (
+        let asks = asked id pair (now (source .entry)) (now (destination .entry)) first (now (body .entry)) in
+        let q = request spi asks (length (now (out .entry))) in
+        HandledAs (now (policy .entry)) (now (ike .entry)) (now (ipsec .entry)) q (now (out .entry))
+        r (now (ike .exit)) (now (ipsec .exit)) (now (out .exit))
+        ) ⌝ }
 {
     let size = ipsec_count(ipsec);
     let place = ike_place(ike, spi);

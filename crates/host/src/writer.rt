@@ -27,8 +27,13 @@ pub extern "C" fn unmavreth_write(
     cookie: &[u8],
     out: &mut [u8],
 ) -> Written
-    ensures { λ r. ⌜ r ≡ written (request (askOf ask) pair (familiesOf (addresses .list)) (octetsOf (addresses .list)) (now (source .entry)) (now (destination .entry)) (now (cookie .entry))) (length (now (out .entry))) ⌝ }
-    ensures { λ _. ⌜ now (out .exit) ≡ placed (now (out .entry)) 0 (writtenOctets (request (askOf ask) pair (familiesOf (addresses .list)) (octetsOf (addresses .list)) (now (source .entry)) (now (destination .entry)) (now (cookie .entry))) (length (now (out .entry)))) ⌝ }
+    ensures { λ r. ⌜ (
+        let families = familiesOf (addresses .list) in
+        let octets = octetsOf (addresses .list) in
+        let q = request (askOf ask) pair families octets (now (source .entry)) (now (destination .entry)) (now (cookie .entry)) in
+        let room = length (now (out .entry)) in
+        (r ≡ written q room) × (now (out .exit) ≡ placed (now (out .entry)) 0 (writtenOctets q room))
+        ) ⌝ }
 {
     let wanted = ask_of(ask);
     let list = addresses.list;
