@@ -1,13 +1,13 @@
 // The calls on tables and policy. The tables are lent: each call looks up, decides on what was found, and stores; a refusal changes
 // nothing.
 use address::pair::Pair;
+use lent_closed::closed::release_if;
 use lent_ike::ike::ike_at;
 use lent_ike::ike::ike_place;
 use lent_ike::ike::ike_store;
 use lent_ipsec::places::ipsec_count;
 use lent_ipsec::places::ipsec_place;
 use lent_ipsec::places::ipsec_store;
-use lent_owned::owned::release_if;
 use lent_policy::rules::policy_of;
 use lent_policy::rules::policy_store;
 use lent_policy::rules::rules_of;

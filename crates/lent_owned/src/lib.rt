@@ -1,2 +1,2 @@
-// The IPsec records of an owner in the lent list: moved with it, closed with it.
+// The IPsec records of an owner in the lent list, moved with it.
 pub mod owned;

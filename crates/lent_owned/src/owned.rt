@@ -2,11 +2,10 @@
 use address::pair::Pair;
 use records::ipsec::IpsecRecord;
 use records::ipsec::follow;
-use records::ipsec::release;
 ghost use mathlib.Core.Path.{_≡_};
 ghost use mathlib.Core.Bool.{cond};
 ghost use mathlib.Core.List.{map};
-ghost use Rattle.records.specs.Records.{released, follows};
+ghost use Rattle.records.specs.Records.{follows};
 
 // Moves every record that is in use and has this owner.
 pub fn follow_all(records: &mut [IpsecRecord], owner: u64, pair: Pair)
@@ -22,34 +21,11 @@ pub fn follow_all(records: &mut [IpsecRecord], owner: u64, pair: Pair)
     }
 }
 
-// Closes every record that is in use and has this owner.
-pub fn release_all(records: &mut [IpsecRecord], owner: u64)
-    ensures { λ _. ⌜ now (records .exit) ≡ map (released owner) (now (records .entry)) ⌝ }
-{
-    let mut i = 0;
-    while i < records.len() {
-        if records[i].owner == owner {
-            let x = records[i];
-            records[i] = release(x, owner);
-        }
-        i += 1;
-    }
-}
-
 // Moves the records of an owner, if it moved.
 pub fn follow_if(records: &mut [IpsecRecord], moves: bool, owner: u64, pair: Pair)
     ensures { λ _. ⌜ now (records .exit) ≡ cond moves (map (follows owner pair) (now (records .entry))) (now (records .entry)) ⌝ }
 {
     if moves {
         follow_all(records, owner, pair);
-    }
-}
-
-// Closes the records of an owner, if it was closed.
-pub fn release_if(records: &mut [IpsecRecord], closed: bool, owner: u64)
-    ensures { λ _. ⌜ now (records .exit) ≡ cond closed (map (released owner) (now (records .entry))) (now (records .entry)) ⌝ }
-{
-    if closed {
-        release_all(records, owner);
     }
 }

@@ -32,9 +32,9 @@ use Rattle.lent_ike.proofs.ike.ike_store.Met as store-thm
 use Rattle.lent_ipsec.proofs.places.ipsec_count as count
 use Rattle.lent_ipsec.proofs.places.ipsec_count.Symbol as count-def
 use Rattle.lent_ipsec.proofs.places.ipsec_count.Met as count-thm
-use Rattle.lent_owned.proofs.owned.release_if as release
-use Rattle.lent_owned.proofs.owned.release_if.Symbol as release-def
-use Rattle.lent_owned.proofs.owned.release_if.Met as release-thm
+use Rattle.lent_closed.proofs.closed.release_if as release
+use Rattle.lent_closed.proofs.closed.release_if.Symbol as release-def
+use Rattle.lent_closed.proofs.closed.release_if.Met as release-thm
 use Rattle.host.proofs.calls.unmavreth_close_ike.Key as key
 use Rattle.host.proofs.calls.unmavreth_close_ike as f
 use Rattle.host.proofs.calls.unmavreth_close_ike.Statement as stated
@@ -129,4 +129,4 @@ unmavreth-close-ike-spec 𝓤 H 𝓜 𝓖 𝓡 =
     (cited 𝓤 H (Told 𝓤 H A place.ended (place.clauses 𝓤 H A (𝓜 .mem) (𝓡 .run))) 𝓜 𝓡 code.env place-def.name place-def.routine code.calls-lent-ike·ike·ike-place (place-thm.met 𝓤 H 𝓜 𝓖 𝓡))
     (cited 𝓤 H (Told 𝓤 H A closing.ended (closing.clauses 𝓤 H A (𝓜 .mem) (𝓡 .run))) 𝓜 𝓡 code.env closing-def.name closing-def.routine code.calls-tables·calls·ike-closing (closing-thm.met 𝓤 H 𝓜 𝓖 𝓡))
     (cited 𝓤 H (Told 𝓤 H A store.ended (store.clauses 𝓤 H A (𝓜 .mem) (𝓡 .run))) 𝓜 𝓡 code.env store-def.name store-def.routine code.calls-lent-ike·ike·ike-store (store-thm.met 𝓤 H 𝓜 𝓖 𝓡))
-    (cited 𝓤 H (Told 𝓤 H A release.ended (release.clauses 𝓤 H A (𝓜 .mem) (𝓡 .run))) 𝓜 𝓡 code.env release-def.name release-def.routine code.calls-lent-owned·owned·release-if (release-thm.met 𝓤 H 𝓜 𝓖 𝓡))))
+    (cited 𝓤 H (Told 𝓤 H A release.ended (release.clauses 𝓤 H A (𝓜 .mem) (𝓡 .run))) 𝓜 𝓡 code.env release-def.name release-def.routine code.calls-lent-closed·closed·release-if (release-thm.met 𝓤 H 𝓜 𝓖 𝓡))))

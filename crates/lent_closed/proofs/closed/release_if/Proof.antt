@@ -1,4 +1,4 @@
--- `lent_owned::owned::release_if` meets its contract: a walk of its MIR, by hand. Where the owner is closed the slice goes to `release_all` for good, which is known by its contract alone; else it is given up at the list passed.
+-- `lent_closed::closed::release_if` meets its contract: a walk of its MIR, by hand. Where the owner is closed the slice goes to `release_all` for good, which is known by its contract alone; else it is given up at the list passed.
 -- Assumes nothing.
 use Rattle.walks.proofs.Kit.{_≡_, refl, _∙_, ℕ, _<_, _^_, Bool, cond, [], _∷_, List, map, length, URA, named, erased, w64, tyInt, tyBool, tyUnit, Val, vunit, vbool, vint, SProp, ent, emp, via, id⊢, fst∗, Lft, Share, ftrue, flft, Memory, Routine, Heap, Env, Calls, Loops, WpFn, Atoms, Fun}
 use Rattle.walks.proofs.Kit.{givenOf, tables, tablesOf, Given, ‵, _⊛_, ⋆, runs, atRet, Sq, _$_, _∵_, !, qed, by, move, drop, use1, split, join, fsplit, fjoin, feqI, suffices, frame, done, look, init, forget, stop, hop, fld, from, load}
@@ -12,14 +12,14 @@ use Rattle.walks.proofs.Walk.{closes}
 use Rattle.walks.proofs.Calls.{_&_, Told, gives, list-last, calls-to-last}
 use Rattle.lent_ipsec.proofs.IpsecTable.{R, slice-of, ptr-mut, val-of, gives-up}
 use Rattle.walks.proofs.Locals.{holds, empty, chosen, left}
-use Rattle.lent_owned.proofs.owned.release_all as g
-use Rattle.lent_owned.proofs.owned.release_all.Symbol as g-def
-use Rattle.lent_owned.proofs.owned.release_all.Met as g-thm
-use Rattle.lent_owned.proofs.owned.release_if.Key.{name as #release-if}
-use Rattle.lent_owned.proofs.owned.release_if as f
-use Rattle.lent_owned.proofs.owned.release_if.Statement as stated
-use Rattle.lent_owned.proofs.owned.release_if.Code as code
-use Rattle.lent_owned.proofs.owned.release_if.Code.Mir as mir′
+use Rattle.lent_closed.proofs.closed.release_all as g
+use Rattle.lent_closed.proofs.closed.release_all.Symbol as g-def
+use Rattle.lent_closed.proofs.closed.release_all.Met as g-thm
+use Rattle.lent_closed.proofs.closed.release_if.Key.{name as #release-if}
+use Rattle.lent_closed.proofs.closed.release_if as f
+use Rattle.lent_closed.proofs.closed.release_if.Statement as stated
+use Rattle.lent_closed.proofs.closed.release_if.Code as code
+use Rattle.lent_closed.proofs.closed.release_if.Code.Mir as mir′
 
 abbrev stayed : Stays (f.ended .signature .params) (f.ended .kept)
 stayed = (gave-slice (0 ∷ []) tt (plain (λ _. R)), (stay-dropped (plain (λ _. bool)) yes, (stay-dropped (plain (λ _. u64)) yes, tt)))
@@ -89,4 +89,4 @@ release-if-spec 𝓤 H 𝓜 𝓖 𝓡 =
     (λ κs. (slice-vals, (bool-vals, (uint-vals w64, tt)))) (λ κs. (mut-slice-tells (named 0) (κs .0) R, (bool-tells, (uint-tells w64, tt))))
     (λ κs qs bounds a h are. via 𝓤 _ (fst∗ 𝓤 _ (emp 𝓤))
     (walk 𝓤 H (𝓖 .A) W (𝓜 .mem) (𝓡 .run) (κs .0) (qs .0) (a .0) (a .1 .0) (a .1 .1 .0) (are .0 .0 .1) (are .1 .1 .0 .1) (Ts .C) (Ts .Λ) (fmOf 𝓤 H (W .laws) (tablesOf 𝓤 H 𝓜 Ts))
-    (cited 𝓤 H (Told 𝓤 H (𝓖 .A) g.ended (g.clauses 𝓤 H (𝓖 .A) (𝓜 .mem) (𝓡 .run))) 𝓜 𝓡 code.env g-def.name g-def.routine code.calls-lent-owned·owned·release-all (g-thm.met 𝓤 H 𝓜 𝓖 𝓡))))
+    (cited 𝓤 H (Told 𝓤 H (𝓖 .A) g.ended (g.clauses 𝓤 H (𝓖 .A) (𝓜 .mem) (𝓡 .run))) 𝓜 𝓡 code.env g-def.name g-def.routine code.calls-lent-closed·closed·release-all (g-thm.met 𝓤 H 𝓜 𝓖 𝓡))))

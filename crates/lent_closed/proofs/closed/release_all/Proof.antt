@@ -1,4 +1,4 @@
--- `lent_owned::owned::release_all` meets its contract: the loop is `Each`'s, over the covered `release`, and this walk is what stands before and after it.
+-- `lent_closed::closed::release_all` meets its contract: the loop is `Each`'s, over the covered `release`, and this walk is what stands before and after it.
 -- Assumes nothing.
 use Rattle.walks.proofs.Kit.{refl, ℕ, _<_, _^_, zero-le, [], _∷_, List, map, eqb, lit<, length, length-map, URA, named, w64, tyPtr, tyBool, tyUnit, copy, place, Val, vunit, vint, SProp, ent, emp, via, id⊢, fst∗, Lft, Share, GName, ftrue, fdies, flft, Memory, Routine, Heap, Env, WpFn, Tables}
 use Rattle.walks.proofs.Kit.{Atoms, Fun, givenOf, tables, tablesOf, Given, Item, ‵, _⊛_, ⋆, runs, atRet, Sq, _$_, _∵_, !, qed, by, move, drop, split, join, fsplit, fjoin, feqI, suffices, frame, done, look, init, forget, stop, from, load, lit, unit-lit, of-opd, assigns, and-then, no-more}
@@ -13,16 +13,16 @@ use Rattle.records.proofs.ipsec.release as release
 use Rattle.records.proofs.ipsec.release.Symbol as release-def
 use Rattle.records.proofs.ipsec.release.Symbol.{name as #tables·release}
 use Rattle.records.proofs.ipsec.release.Met as release-thm
 use Rattle.lent_owned.proofs.Each as Each
 use Rattle.lent_owned.proofs.Each.{slice, word}
 use Rattle.lent_ipsec.proofs.IpsecTable.{R, rec-val}
 use Rattle.walks.proofs.Locals.{empty, unchanged}
 use Rattle.walks.proofs.Walk.{answered, closes}
-use Rattle.lent_owned.proofs.owned.release_all.Key.{name as #lent·release-all}
-use Rattle.lent_owned.proofs.owned.release_all as f
-use Rattle.lent_owned.proofs.owned.release_all.Statement as stated
-use Rattle.lent_owned.proofs.owned.release_all.Code as code
-use Rattle.lent_owned.proofs.owned.release_all.Code.Mir as mir′
+use Rattle.lent_closed.proofs.closed.release_all.Key.{name as #lent·release-all}
+use Rattle.lent_closed.proofs.closed.release_all as f
+use Rattle.lent_closed.proofs.closed.release_all.Statement as stated
+use Rattle.lent_closed.proofs.closed.release_all.Code as code
+use Rattle.lent_closed.proofs.closed.release_all.Code.Mir as mir′
 
 -- the slice's borrow is given up, and of plain data nothing is said at exit
 abbrev stayed : Stays (f.ended .signature .params) (f.ended .kept)

@@ -1,0 +1,2 @@
+// The IPsec records of an owner in the lent list, closed with it.
+pub mod closed;
