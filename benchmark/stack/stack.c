@@ -9,9 +9,9 @@
 enum { STACK_OCTETS = 1 << 20, PATTERN = 0xa5, SHORT_PAYLOAD = 4, SKIPPED_TYPE = 33 };
 
 static uint8_t stack[STACK_OCTETS] __attribute__((aligned(4096)));
-static uint8_t body[UNMAVRETH_BODY_OCTETS], out[UNMAVRETH_RESPONSE_ROOM], nat[UNMAVRETH_NAT_OCTETS];
+static uint8_t body[UNMAVRETH_BODY_MOST], out[UNMAVRETH_RESPONSE_ROOM], nat[UNMAVRETH_NAT_OCTETS];
 static unmavreth_ike_table ike;
-static unmavreth_ipsec ipsec[UNMAVRETH_IPSEC_RECORDS];
+static unmavreth_ipsec ipsec[UNMAVRETH_IPSEC_PLACES];
 static unmavreth_policy policy;
 
 // A chain of skipped payloads, as many as the longest body has room for.
@@ -32,7 +32,7 @@ static void *request(void *unused)
 {
     unmavreth_pair pair = {.family = 4};
     unmavreth_reply reply =
-        unmavreth_request(&ike, ipsec, UNMAVRETH_IPSEC_RECORDS, &policy, 7, 0, pair, nat, sizeof nat, nat, sizeof nat,
+        unmavreth_handle(&ike, ipsec, UNMAVRETH_IPSEC_PLACES, &policy, 7, 0, pair, nat, sizeof nat, nat, sizeof nat,
                           SKIPPED_TYPE, body, sizeof body, out, sizeof out);
     if (reply.number != UNMAVRETH_DONE || reply.payloads != sizeof body / SHORT_PAYLOAD) {
         fprintf(stderr, "stack: the request was answered %u\n", reply.number);
@@ -60,7 +60,7 @@ int main(void)
 {
     make_chain();
     unmavreth_opening opening = {.spi = 7, .agreed = {.mobike = 1}, .pair = {.family = 4}, .child = 70};
-    if (unmavreth_open(&ike, ipsec, UNMAVRETH_IPSEC_RECORDS, opening) != UNMAVRETH_DONE)
+    if (unmavreth_open(&ike, ipsec, UNMAVRETH_IPSEC_PLACES, opening) != UNMAVRETH_DONE)
         return 2;
     // The C library binds its functions at their first call, on the caller's stack: not what is measured here.
     used(request);

@@ -40,7 +40,7 @@ static void print_read(const message *m)
         printf("    NO_NATS_ALLOWED says %s\n", text);
     }
     unmavreth_addresses_list addresses = unmavreth_addresses(m->octets, m->length, r.seen.list);
-    for (size_t i = 0; i < r.seen.list.count && i < UNMAVRETH_ADDRESSES; i++) {
+    for (size_t i = 0; i < r.seen.list.count && i < UNMAVRETH_ADDRESSES_MOST; i++) {
         char text[ADDRESS_TEXT];
         address_text(text, addresses.list[i].family, addresses.list[i].octets);
         printf("    additional address %s\n", text);

@@ -37,8 +37,8 @@ unmavreth_reply gateway_answer(gateway *g, uint64_t spi, uint32_t id, unmavreth_
                                message *response, bool *kept)
 {
     memset(response->octets, FILL, sizeof response->octets);
-    unmavreth_reply reply = unmavreth_request(
-        &g->tables.ike, g->tables.ipsec, UNMAVRETH_IPSEC_RECORDS, &g->policy, spi, id, packet, g->nat_source,
+    unmavreth_reply reply = unmavreth_handle(
+        &g->tables.ike, g->tables.ipsec, UNMAVRETH_IPSEC_PLACES, &g->policy, spi, id, packet, g->nat_source,
         sizeof g->nat_source, g->nat_destination, sizeof g->nat_destination, request->first, request->octets,
         request->length, response->octets, UNMAVRETH_RESPONSE_ROOM);
     response->first = reply.first;

@@ -29,5 +29,5 @@ sent initiator_write(unmavreth_ask ask, unmavreth_pair pair, const unmavreth_add
 
 unmavreth_assessment initiator_assess(const sent *s, const message *response)
 {
-    return unmavreth_response(s->cookie, s->cookie_octets, response->first, response->octets, response->length);
+    return unmavreth_assess(s->cookie, s->cookie_octets, response->first, response->octets, response->length);
 }

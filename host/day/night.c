@@ -23,12 +23,12 @@ static void fill_ipsec(day *d)
 {
     tables *t = &d->gateway.tables;
     unsigned opened = 0;
-    for (uint32_t i = 1; i < UNMAVRETH_IPSEC_RECORDS; i++)
-        if (unmavreth_open_ipsec(&t->ike, t->ipsec, UNMAVRETH_IPSEC_RECORDS, FURTHER_IPSEC + i, NEIGHBOUR_SPI) ==
+    for (uint32_t i = 1; i < UNMAVRETH_IPSEC_PLACES; i++)
+        if (unmavreth_open_ipsec(&t->ike, t->ipsec, UNMAVRETH_IPSEC_PLACES, FURTHER_IPSEC + i, NEIGHBOUR_SPI) ==
             UNMAVRETH_DONE)
             opened++;
     printf("  Open further IPsec records of %016" PRIx64 " at all free places: %u opened\n", NEIGHBOUR_SPI, opened);
-    check_number(&d->checks, "how many IPsec records were opened", opened, UNMAVRETH_IPSEC_RECORDS - 1);
+    check_number(&d->checks, "how many IPsec records were opened", opened, UNMAVRETH_IPSEC_PLACES - 1);
 }
 
 void night(day *d)

@@ -38,7 +38,7 @@ static void print_addresses(const unmavreth_ike *r, const unmavreth_ike *was)
     printf("               additional addresses:");
     if (r->count == 0)
         printf(" none*");
-    for (size_t i = 0; i < r->count && i < UNMAVRETH_ADDRESSES; i++) {
+    for (size_t i = 0; i < r->count && i < UNMAVRETH_ADDRESSES_MOST; i++) {
         char text[ADDRESS_TEXT];
         address_text(text, r->addresses[i].family, r->addresses[i].octets);
         printf(" %s%s", text, same_address(&r->addresses[i], &was->addresses[i]) ? "" : "*");
@@ -83,9 +83,9 @@ static void print_tables(const char *title, const tables *t, const tables *was)
 {
     printf("  %s\n", title);
     printf("    place     SPI                pair                                     update   list     unknown\n");
-    for (size_t i = 0; i < UNMAVRETH_IKE_RECORDS; i++)
+    for (size_t i = 0; i < UNMAVRETH_IKE_PLACES; i++)
         print_ike(i, &t->ike.records[i], &was->ike.records[i]);
-    for (size_t i = 0; i < UNMAVRETH_IPSEC_RECORDS; i++)
+    for (size_t i = 0; i < UNMAVRETH_IPSEC_PLACES; i++)
         print_ipsec(i, &t->ipsec[i], &was->ipsec[i]);
 }
 

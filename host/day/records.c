@@ -9,7 +9,7 @@
 void open_both(day *d, const unmavreth_opening *opening, uint8_t expected)
 {
     tables *t = &d->gateway.tables;
-    uint8_t number = unmavreth_open(&t->ike, t->ipsec, UNMAVRETH_IPSEC_RECORDS, *opening);
+    uint8_t number = unmavreth_open(&t->ike, t->ipsec, UNMAVRETH_IPSEC_PLACES, *opening);
     const char *mobike = opening->agreed.mobike ? "agreed" : "not agreed";
     printf("  Open IKE record %016" PRIx64 ", MOBIKE %s, with IPsec record %08" PRIx32 ", answer %u: %s\n",
            opening->spi, mobike, opening->child, number, number_words(number));
@@ -19,7 +19,7 @@ void open_both(day *d, const unmavreth_opening *opening, uint8_t expected)
 void open_ipsec(day *d, uint32_t spi, uint64_t owner)
 {
     tables *t = &d->gateway.tables;
-    uint8_t number = unmavreth_open_ipsec(&t->ike, t->ipsec, UNMAVRETH_IPSEC_RECORDS, spi, owner);
+    uint8_t number = unmavreth_open_ipsec(&t->ike, t->ipsec, UNMAVRETH_IPSEC_PLACES, spi, owner);
     printf("  Open IPsec record %08" PRIx32 " of %016" PRIx64 ", answer %u: %s\n", spi, owner, number,
            number_words(number));
     check_number(&d->checks, "opening a further IPsec record", number, UNMAVRETH_DONE);
@@ -28,7 +28,7 @@ void open_ipsec(day *d, uint32_t spi, uint64_t owner)
 void close_ipsec(day *d, size_t place)
 {
     tables *t = &d->gateway.tables;
-    uint8_t number = unmavreth_close_ipsec(t->ipsec, UNMAVRETH_IPSEC_RECORDS, t->ipsec[place].spi);
+    uint8_t number = unmavreth_close_ipsec(t->ipsec, UNMAVRETH_IPSEC_PLACES, t->ipsec[place].spi);
     printf("  Close the IPsec record at place %zu, answer %u: %s\n", place, number, number_words(number));
     check_number(&d->checks, "closing the IPsec record", number, UNMAVRETH_DONE);
 }
@@ -36,7 +36,7 @@ void close_ipsec(day *d, size_t place)
 void close_ike(day *d, uint64_t spi)
 {
     tables *t = &d->gateway.tables;
-    uint8_t number = unmavreth_close_ike(&t->ike, t->ipsec, UNMAVRETH_IPSEC_RECORDS, spi);
+    uint8_t number = unmavreth_close_ike(&t->ike, t->ipsec, UNMAVRETH_IPSEC_PLACES, spi);
     printf("  Close the IKE record, answer %u: %s\n", number, number_words(number));
     check_number(&d->checks, "closing the IKE record", number, UNMAVRETH_DONE);
 }

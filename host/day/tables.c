@@ -17,10 +17,10 @@ void open_expected(tables *t, size_t ike_place, size_t ipsec_place, const unmavr
 
 void move_expected(tables *t, uint64_t spi, unmavreth_pair pair)
 {
-    for (size_t i = 0; i < UNMAVRETH_IKE_RECORDS; i++)
+    for (size_t i = 0; i < UNMAVRETH_IKE_PLACES; i++)
         if (t->ike.records[i].spi == spi)
             t->ike.records[i].pair = pair;
-    for (size_t i = 0; i < UNMAVRETH_IPSEC_RECORDS; i++)
+    for (size_t i = 0; i < UNMAVRETH_IPSEC_PLACES; i++)
         if (t->ipsec[i].spi != 0 && t->ipsec[i].owner == spi)
             t->ipsec[i].pair = pair;
 }
@@ -32,7 +32,7 @@ static bool same_agreed(const unmavreth_agreed *a, const unmavreth_agreed *b)
 
 static bool same_ike(const unmavreth_ike *a, const unmavreth_ike *b)
 {
-    for (size_t i = 0; i < UNMAVRETH_ADDRESSES; i++)
+    for (size_t i = 0; i < UNMAVRETH_ADDRESSES_MOST; i++)
         if (!same_address(&a->addresses[i], &b->addresses[i]))
             return false;
     return a->spi == b->spi && same_agreed(&a->agreed, &b->agreed) && same_pair(&a->pair, &b->pair) &&
@@ -47,10 +47,10 @@ static bool same_ipsec(const unmavreth_ipsec *a, const unmavreth_ipsec *b)
 
 bool same_tables(const tables *a, const tables *b)
 {
-    for (size_t i = 0; i < UNMAVRETH_IKE_RECORDS; i++)
+    for (size_t i = 0; i < UNMAVRETH_IKE_PLACES; i++)
         if (!same_ike(&a->ike.records[i], &b->ike.records[i]))
             return false;
-    for (size_t i = 0; i < UNMAVRETH_IPSEC_RECORDS; i++)
+    for (size_t i = 0; i < UNMAVRETH_IPSEC_PLACES; i++)
         if (!same_ipsec(&a->ipsec[i], &b->ipsec[i]))
             return false;
     return true;

@@ -6,7 +6,7 @@
 
 typedef struct tables {
     unmavreth_ike_table ike;
-    unmavreth_ipsec ipsec[UNMAVRETH_IPSEC_RECORDS];
+    unmavreth_ipsec ipsec[UNMAVRETH_IPSEC_PLACES];
 } tables;
 
 // A message ID as a mark keeps it.

@@ -15,7 +15,7 @@
 //
 // The promises are about fields and octets, not about padding: compare records field by field, not with memcmp.
 //
-// Stack: reading a chain (unmavreth_read, unmavreth_request, unmavreth_response) calls itself once for each payload, at
+// Stack: reading a chain (unmavreth_read, unmavreth_handle, unmavreth_assess) calls itself once for each payload, at
 // most 1,024 deep. How much stack that takes is not proved; a request with 1,024 payloads was measured to
 // take under 35,000 octets (./bench). Call from a thread with at least 64 KiB of stack.
 #ifndef UNMAVRETH_H
@@ -69,22 +69,49 @@ enum unmavreth_outcome {
     UNMAVRETH_OUTCOME_ACCEPTED = 5
 };
 
-enum unmavreth_size {
-    UNMAVRETH_IKE_RECORDS = 32,
-    UNMAVRETH_IPSEC_RECORDS = 128, // any other count of lent records is answered 1
-    UNMAVRETH_RULES = 16,
-    UNMAVRETH_ADDRESSES = 16,
-    UNMAVRETH_ADDRESS_OCTETS = 16,
-    UNMAVRETH_BODY_OCTETS = 4096,  // the longest body that is read
-    UNMAVRETH_RESPONSE_ROOM = 128, // the least output for a response
-    UNMAVRETH_REQUEST_ROOM = 564,  // the least output for a request
+// The limits, under the names that the definitions have (crates/octets/specs/Limits.antt).
+enum unmavreth_limit {
+    UNMAVRETH_BODY_MOST = 4096,    // the longest body that is read
+    UNMAVRETH_IKE_PLACES = 32,     // IKE records
+    UNMAVRETH_IPSEC_PLACES = 128,  // IPsec records; any other count of lent records is answered 1
+    UNMAVRETH_ADDRESSES_MOST = 16, // additional addresses that are kept, or written
+    UNMAVRETH_RULES_MOST = 16,     // rules of the policy
+    UNMAVRETH_ADDRESS_OCTETS = 16, // an address as it travels, of either family
+    UNMAVRETH_IP4_OCTETS = 4,      // an address in a payload
+    UNMAVRETH_IP6_OCTETS = 16,
+    UNMAVRETH_PORT_SIZE = 2,       // a port in a payload
+    UNMAVRETH_PAYLOAD_HEADER = 4,  // what stands before a payload's content
+    UNMAVRETH_NOTIFY_HEADER = 8,   // what stands before a Notify's data, with no SPI
     UNMAVRETH_NAT_OCTETS = 20,     // a NAT detection value
     UNMAVRETH_COOKIE_LEAST = 8,    // a COOKIE2, if there is one
-    UNMAVRETH_COOKIE_MOST = 64
+    UNMAVRETH_COOKIE_MOST = 64,
+    UNMAVRETH_NO_NATS_LEAST = 12,  // a NO_NATS_ALLOWED of IPv4: two addresses and two ports
+    UNMAVRETH_NO_NATS_MOST = 36,   // of IPv6
+    UNMAVRETH_RESPONSE_ROOM = 128, // the least output for a response: both NAT detections and a COOKIE2
+    UNMAVRETH_REQUEST_ROOM = 564   // the least output for a request: all that can be asked for
 };
+#define UNMAVRETH_TALLY_MOST UINT32_MAX // where a record's tally of what is unknown stays
 
-// Payload types: 41 is Notify; 33 to 48 other than 41 are known and skipped; any other but 0 is unknown.
-enum unmavreth_payload { UNMAVRETH_NOTIFY_PAYLOAD = 41 };
+UNMAVRETH_ASSERT(UNMAVRETH_NO_NATS_LEAST == 2 * UNMAVRETH_IP4_OCTETS + 2 * UNMAVRETH_PORT_SIZE, "NO_NATS_LEAST");
+UNMAVRETH_ASSERT(UNMAVRETH_NO_NATS_MOST == 2 * UNMAVRETH_IP6_OCTETS + 2 * UNMAVRETH_PORT_SIZE, "NO_NATS_MOST");
+UNMAVRETH_ASSERT(UNMAVRETH_RESPONSE_ROOM == 2 * (UNMAVRETH_NOTIFY_HEADER + UNMAVRETH_NAT_OCTETS) +
+                                                UNMAVRETH_NOTIFY_HEADER + UNMAVRETH_COOKIE_MOST,
+                 "RESPONSE_ROOM");
+UNMAVRETH_ASSERT(UNMAVRETH_REQUEST_ROOM ==
+                     UNMAVRETH_NOTIFY_HEADER + UNMAVRETH_NOTIFY_HEADER + UNMAVRETH_NO_NATS_MOST +
+                         2 * (UNMAVRETH_NOTIFY_HEADER + UNMAVRETH_NAT_OCTETS) +
+                         UNMAVRETH_ADDRESSES_MOST * (UNMAVRETH_NOTIFY_HEADER + UNMAVRETH_IP6_OCTETS) +
+                         UNMAVRETH_NOTIFY_HEADER + UNMAVRETH_COOKIE_MOST,
+                 "REQUEST_ROOM");
+
+// Payload types: 0 ends a chain, 41 is Notify; 33 to 48 other than 41 are known and skipped; any other is unknown. A
+// payload is critical if the top bit of its flags is set.
+enum unmavreth_payload {
+    UNMAVRETH_NOTIFY_PAYLOAD = 41,
+    UNMAVRETH_FIRST_KNOWN_PAYLOAD = 33,
+    UNMAVRETH_LAST_KNOWN_PAYLOAD = 48,
+    UNMAVRETH_CRITICAL_BIT = 128
+};
 
 // The notify types that are known here, with the octets of data that each has. Every other type is tallied as unknown.
 enum unmavreth_notify {
@@ -120,7 +147,7 @@ UNMAVRETH_AT(unmavreth_address, family, 0);
 UNMAVRETH_AT(unmavreth_address, octets, 1);
 
 typedef struct unmavreth_addresses_list {
-    unmavreth_address list[UNMAVRETH_ADDRESSES];
+    unmavreth_address list[UNMAVRETH_ADDRESSES_MOST];
 } unmavreth_addresses_list;
 UNMAVRETH_SIZE(unmavreth_addresses_list, 272);
 UNMAVRETH_AT(unmavreth_addresses_list, list, 0);
@@ -161,7 +188,7 @@ UNMAVRETH_AT(unmavreth_rule, source_len, 33);
 UNMAVRETH_AT(unmavreth_rule, destination_len, 34);
 
 typedef struct unmavreth_rules {
-    unmavreth_rule rules[UNMAVRETH_RULES];
+    unmavreth_rule rules[UNMAVRETH_RULES_MOST];
 } unmavreth_rules;
 UNMAVRETH_SIZE(unmavreth_rules, 560);
 UNMAVRETH_AT(unmavreth_rules, rules, 0);
@@ -170,7 +197,7 @@ UNMAVRETH_AT(unmavreth_rules, rules, 0);
 // is acceptable.
 typedef struct unmavreth_policy {
     uint16_t count;
-    unmavreth_rule rules[UNMAVRETH_RULES];
+    unmavreth_rule rules[UNMAVRETH_RULES_MOST];
 } unmavreth_policy;
 UNMAVRETH_SIZE(unmavreth_policy, 562);
 UNMAVRETH_AT(unmavreth_policy, count, 0);
@@ -208,8 +235,8 @@ typedef struct unmavreth_ike {
     uint64_t update_mark;    // of the newest update that was received
     uint64_t list_mark;      // of the newest list that was kept
     uint16_t count;          // how many additional addresses are kept
-    unmavreth_address addresses[UNMAVRETH_ADDRESSES];
-    uint32_t unknown; // unknown payloads and unknown notifications, counted; stays at 4,294,967,295 once there
+    unmavreth_address addresses[UNMAVRETH_ADDRESSES_MOST];
+    uint32_t unknown; // unknown payloads and unknown notifications, counted; stays at UNMAVRETH_TALLY_MOST once there
 } unmavreth_ike;
 UNMAVRETH_SIZE(unmavreth_ike, 344);
 UNMAVRETH_AT(unmavreth_ike, spi, 0);
@@ -223,7 +250,7 @@ UNMAVRETH_AT(unmavreth_ike, unknown, 340);
 
 // The table of IKE records: always 32, as a struct so that the compiler checks it.
 typedef struct unmavreth_ike_table {
-    unmavreth_ike records[UNMAVRETH_IKE_RECORDS];
+    unmavreth_ike records[UNMAVRETH_IKE_PLACES];
 } unmavreth_ike_table;
 UNMAVRETH_SIZE(unmavreth_ike_table, 11008);
 UNMAVRETH_AT(unmavreth_ike_table, records, 0);
@@ -310,8 +337,8 @@ UNMAVRETH_AT(unmavreth_tally, first_error, 8);
 // The additional addresses: all are counted; of the first sixteen, where their octets stand, and their families.
 typedef struct unmavreth_places {
     uint16_t count;
-    uint16_t places[UNMAVRETH_ADDRESSES];
-    uint8_t families[UNMAVRETH_ADDRESSES];
+    uint16_t places[UNMAVRETH_ADDRESSES_MOST];
+    uint8_t families[UNMAVRETH_ADDRESSES_MOST];
 } unmavreth_places;
 UNMAVRETH_SIZE(unmavreth_places, 50);
 UNMAVRETH_AT(unmavreth_places, count, 0);
@@ -365,7 +392,7 @@ UNMAVRETH_AT(unmavreth_reading, seen, 4);
 // 4 or past the end; octets after the last payload; a Notify under 8 octets, or with an SPI past its length; one of the
 // notify types above with an SPI, or with data of another size; a second UPDATE_SA_ADDRESSES, NO_ADDITIONAL_ADDRESSES,
 // COOKIE2, NO_NATS_ALLOWED or NAT_DETECTION_DESTINATION_IP; NO_ADDITIONAL_ADDRESSES together with an address.
-unmavreth_reading unmavreth_read(uint8_t first, const uint8_t *body, size_t octets);
+unmavreth_reading unmavreth_read(uint8_t first, const uint8_t *body, size_t body_size);
 
 // A part of a body: where it starts and how many octets it has.
 typedef struct unmavreth_part {
@@ -384,20 +411,21 @@ UNMAVRETH_AT(unmavreth_part, octets, 8);
 // *out becomes the `cookie_len` octets at body + cookie, in the body itself and not a copy, or an empty part that
 // begins where the body does. On entry *out must hold some valid part, such as { body, 0 }. The part is of use for as
 // long as the host leaves the body alone.
-void unmavreth_cookie(unmavreth_part *out, const uint8_t *body, size_t octets, uint16_t cookie, uint16_t cookie_len);
+void unmavreth_cookie(unmavreth_part *out, const uint8_t *body, size_t body_size, uint16_t cookie,
+                      uint16_t cookie_len);
 
 // Hands out a NAT detection value in the same way, by the place that a reading told (`nat_source`, `nat_destination`):
 // its 20 octets, or an empty part.
-void unmavreth_nat_value(unmavreth_part *out, const uint8_t *body, size_t octets, uint16_t place);
+void unmavreth_nat_value(unmavreth_part *out, const uint8_t *body, size_t body_size, uint16_t place);
 
 // What NO_NATS_ALLOWED holds: the `no_nats_len` octets at `no_nats`. Family 0 and zeros if there is none, or if these
 // are not 12 or 36 octets within the body, which no reading tells.
-unmavreth_pair unmavreth_no_nats(const uint8_t *body, size_t octets, uint16_t no_nats, uint16_t no_nats_len);
+unmavreth_pair unmavreth_no_nats(const uint8_t *body, size_t body_size, uint16_t no_nats, uint16_t no_nats_len);
 
 // The first sixteen additional addresses. Places past the count are not looked at, and are given as zeros. An address
 // of another family than 4 and 6, at place 0, or that would run past the end of the body, is given as its family and
 // zeros; no reading tells one.
-unmavreth_addresses_list unmavreth_addresses(const uint8_t *body, size_t octets, unmavreth_places list);
+unmavreth_addresses_list unmavreth_addresses(const uint8_t *body, size_t body_size, unmavreth_places list);
 
 // ----------------------------------------------------------------------------------------------- answering a request
 
@@ -427,11 +455,12 @@ UNMAVRETH_AT(unmavreth_reply, cookie_len, 12);
 UNMAVRETH_AT(unmavreth_reply, length, 14);
 
 // Handles one decrypted INFORMATIONAL request for an IKE SA of which our end is the original responder.
-//   spi, id              the gateway's SPI of the IKE SA, and the request's message ID
-//   pair                 the addresses and ports of the packet that brought the request
-//   source, destination  the gateway's two NAT detection values for the response; lent with every request
-//   first, body, octets  the decrypted payload chain
-//   out, out_octets      where the response goes
+//   spi, id                      the gateway's SPI of the IKE SA, and the request's message ID
+//   pair                         the addresses and ports of the packet that brought the request
+//   nat_source, nat_destination  the gateway's two NAT detection values for the response; lent with every request
+//   first, body                  the decrypted payload chain
+//   out                          where the response goes
+// What is lent has its size behind it.
 // Numbers, in the order of the checks, and what each leaves of the tables and of the output:
 //    1  `records` is not 128, the SPI is 0, a NAT detection value has not 20 octets, the pair's family is not 4 or 6,
 //       or an IPv4 address of the pair has a tail that is not zero
@@ -461,11 +490,11 @@ UNMAVRETH_AT(unmavreth_reply, length, 14);
 //       lent values, source first, with an update (applied or stale) or without; then the request's COOKIE2 if it had
 //       one; it may be empty. One kind alone gets no value.
 // The response stands at the start of the output; octets past its `length` stay as they were.
-unmavreth_reply unmavreth_request(unmavreth_ike_table *ike, unmavreth_ipsec *ipsec, size_t records,
-                                  const unmavreth_policy *policy, uint64_t spi, uint32_t id, unmavreth_pair pair,
-                                  const uint8_t *source, size_t source_octets, const uint8_t *destination,
-                                  size_t destination_octets, uint8_t first, const uint8_t *body, size_t octets,
-                                  uint8_t *out, size_t out_octets);
+unmavreth_reply unmavreth_handle(unmavreth_ike_table *ike, unmavreth_ipsec *ipsec, size_t records,
+                                 const unmavreth_policy *policy, uint64_t spi, uint32_t id, unmavreth_pair pair,
+                                 const uint8_t *nat_source, size_t nat_source_size, const uint8_t *nat_destination,
+                                 size_t nat_destination_size, uint8_t first, const uint8_t *body, size_t body_size,
+                                 uint8_t *out, size_t out_size);
 
 // ----------------------------------------------------------------------------------------------- the initiator's end
 
@@ -474,8 +503,8 @@ unmavreth_reply unmavreth_request(unmavreth_ike_table *ike, unmavreth_ipsec *ips
 typedef struct unmavreth_ask {
     uint8_t update;          // UPDATE_SA_ADDRESSES
     uint8_t no_nats;         // NO_NATS_ALLOWED with `pair`
-    uint8_t nat_source;      // NAT_DETECTION_SOURCE_IP with `source`
-    uint8_t nat_destination; // NAT_DETECTION_DESTINATION_IP with `destination`
+    uint8_t nat_source;      // NAT_DETECTION_SOURCE_IP with the value of that name
+    uint8_t nat_destination; // NAT_DETECTION_DESTINATION_IP with the value of that name
     uint8_t no_additional;   // NO_ADDITIONAL_ADDRESSES
     uint16_t count;          // how many of `addresses`; 0 without no_additional says nothing about them
 } unmavreth_ask;
@@ -510,9 +539,9 @@ UNMAVRETH_AT(unmavreth_written, length, 2);
 // A request for everything has 21 Notify payloads. strongSwan 5.9.8 refuses a message with more than 20 and destroys
 // the IKE SA: where the peer may be one, ask for at most 15 addresses with all else.
 unmavreth_written unmavreth_write(unmavreth_ask ask, unmavreth_pair pair, unmavreth_addresses_list addresses,
-                                  const uint8_t *source, size_t source_octets, const uint8_t *destination,
-                                  size_t destination_octets, const uint8_t *cookie, size_t cookie_octets,
-                                  uint8_t *out, size_t out_octets);
+                                  const uint8_t *nat_source, size_t nat_source_size, const uint8_t *nat_destination,
+                                  size_t nat_destination_size, const uint8_t *cookie, size_t cookie_size,
+                                  uint8_t *out, size_t out_size);
 
 typedef struct unmavreth_assessment {
     uint8_t number;
@@ -540,8 +569,8 @@ UNMAVRETH_AT(unmavreth_assessment, cookie_len, 14);
 //    7  an unknown critical payload   }
 //    0  read whole. The outcome is the first of these that holds: close (a cookie was sent, and another one came
 //       back, or none and no error either); the first error as NAT seen, unacceptable or failed; accepted.
-unmavreth_assessment unmavreth_response(const uint8_t *sent, size_t sent_octets, uint8_t first, const uint8_t *body,
-                                        size_t octets);
+unmavreth_assessment unmavreth_assess(const uint8_t *sent, size_t sent_size, uint8_t first, const uint8_t *body,
+                                      size_t body_size);
 
 #undef UNMAVRETH_AT
 #undef UNMAVRETH_SIZE

@@ -1,13 +1,14 @@
 // Address pairs, as in a packet from the peer: family, source, destination, source port, destination port.
-use crate::address::address_fits;
+use crate::address::both_fit;
+use octets::limits::ADDRESS_OCTETS;
 ghost use mathlib.Core.Path.{_≡_};
 ghost use Rattle.address.specs.Address.{pairFits};
 
 #[repr(C)]
 pub struct Pair {
     pub family: u8,
-    pub source: [u8; 16],
-    pub destination: [u8; 16],
+    pub source: [u8; ADDRESS_OCTETS],
+    pub destination: [u8; ADDRESS_OCTETS],
     pub source_port: u16,
     pub destination_port: u16,
 }
@@ -18,9 +19,5 @@ pub fn pair_fits(pair: Pair) -> bool
 {
     let source = pair.source;
     let destination = pair.destination;
-    if address_fits(pair.family, source) {
-        address_fits(pair.family, destination)
-    } else {
-        false
-    }
+    both_fit(pair.family, source, destination)
 }

@@ -4,40 +4,43 @@ use mathlib.Core.Path.{_≡_}
 use mathlib.Core.List.{List}
 use mathlib.Core.Bool.{Bool}
 use borrow.Author.Tests.{eq-eqb, ne-eqb}
-use lib.Dec.{eqb}
-use lib.ListN.{length}
+use Rattle.writing.specs.Notify.{Notification, chained}
 use Rattle.values.specs.Values.{noNatsSeen}
 use Rattle.policy.specs.declared.rules.Policy.{Policy}
 use Rattle.reader.specs.Chain.{reading}
 use Rattle.reader.specs.declared.read.Reading.{Reading}
 use Rattle.records.specs.declared.ike.Marks.{Marks}
 use Rattle.deciding.specs.Decide.{decided}
-use Rattle.replying.specs.Reply.{refusalReply, decidedAnswer, unchangedAnswer}
-use Rattle.answering.specs.Core.{Asked, cookieIn, chainError, coreAnswer, coreResponse}
-use Rattle.responding.specs.Respond.{wantsNats, decidedOctets}
 use Rattle.deciding.specs.declared.decide.Decision.{Decision}
+use Rattle.responding.specs.Respond.{wantsNats, responseTo, toldOf}
+use Rattle.responding.specs.declared.respond.Response.{Response}
+use Rattle.replying.specs.Reply.{errorReply, decidedAnswer, unchangedAnswer}
 use Rattle.replying.specs.declared.reply.Reply.{Reply}
+use Rattle.answering.specs.Core.{Asked, cookieIn, chainError, coreAnswer, coreResponse}
 
 module _ (policy : Policy) (q : Asked) (m : Marks) (r : Reading) (read : r ≡ reading (q .first) (q .body)) where
   -- a chain that was read whole
   module _ (whole : r .number ≡ 0) (d : Decision) (w : Bool) (k : List ℕ)
       (de : d ≡ decided policy (noNatsSeen (q .body) (r .seen)) (r .seen) (q .pair) (q .id) m)
       (we : w ≡ wantsNats (r .seen)) (ke : k ≡ cookieIn (q .body) (r .seen)) where
-    pub done-response : decidedOctets (d .verdict) w (q .nat-source) (q .nat-destination) k ≡ coreResponse policy q m
+    abbrev response : List Notification
+    response = responseTo (d .verdict) w (q .nat-source) (q .nat-destination) k
+
+    pub done-response : chained response 0 ≡ coreResponse policy q m
     unfolding coreResponse
     done-response = rw (← read, eq-eqb (r .number) 0 whole, ← de, we, ke)
 
-    pub done-result : (n : ℕ) → n ≡ length (decidedOctets (d .verdict) w (q .nat-source) (q .nat-destination) k)
-        → decidedAnswer d (r .seen) n ≡ coreAnswer policy q m
+    pub done-result : (t : Response) → t ≡ toldOf response → decidedAnswer d (r .seen) t ≡ coreAnswer policy q m
     unfolding coreAnswer
-    done-result n ne = rw (← read, eq-eqb (r .number) 0 whole, ← de, ne, we, ke)
+    done-result t te = rw (← read, eq-eqb (r .number) 0 whole, ← de, te, we, ke)
 
   -- a chain that was refused
   module _ (broken : r .number ≡ 0 → ⊥) where
-    pub refused-response : chainError r ≡ coreResponse policy q m
+    pub refused-response : chained (chainError r) 0 ≡ coreResponse policy q m
     unfolding coreResponse
     refused-response = rw (← read, ne-eqb (r .number) 0 broken)
 
-    pub refused-result : (reply : Reply) → reply ≡ refusalReply (r .number) (r .offset) (length (chainError r)) → unchangedAnswer reply m ≡ coreAnswer policy q m
+    pub refused-result : (reply : Reply) → reply ≡ errorReply (r .number) (r .offset) (toldOf (chainError r))
+        → unchangedAnswer reply m ≡ coreAnswer policy q m
     unfolding coreAnswer
     refused-result reply re = rw (← read, ne-eqb (r .number) 0 broken, re)

@@ -1,25 +1,37 @@
--- One request on the record that it means, after checks 1 to 5: reading, steps 1 to 4, all that is given back, and the record after it.
-use Prim.Native.Nat.{ℕ, min}
+-- Trusted. One request on the record that it means, after checks 1 to 5: reading, steps 1 to 4, all that is given back,
+-- and the record after it.
+--
+--   Asked             what a request asks of its record; `asked` makes one
+--   chainError        the response to a chain that is refused
+--   cookieIn          COOKIE2's data, of what was seen in a body
+--   decidedResponse   the response to a chain that was read whole, by the verdict
+--   decisionOn        steps 1 to 3 on what was read
+--   coreNotifies      the response, as notifications; `coreResponse` its octets
+--   coreAnswer        what is told, and what changes in the record: `wholeAnswer` or `brokenAnswer`
+--   coreResult        what is told, the record after it, and whether its IPsec records follow
+use Prim.Native.Nat.{ℕ}
 use mathlib.Core.List.{List, [], _∷_}
 use mathlib.Core.Bool.{Bool, cond}
 use lib.Dec.{eqb}
-use lib.ListN.{length}
-use Rattle.octets.specs.Limits.{addressesMost}
+use Rattle.octets.specs.Numbers.{numberOf}
+use Rattle.octets.specs.declared.number.Number.the-variants.{Done, UnknownCritical}
 use Rattle.octets.specs.Wire.{invalidSyntax, unsupportedCriticalPayload}
+use Rattle.writing.specs.Notify.{Notification, chained}
 use Rattle.address.specs.declared.pair.Pair.{Pair}
-use Rattle.values.specs.Values.{partOf, noNatsSeen, addressesIn}
+use Rattle.values.specs.Values.{partOf, noNatsSeen}
 use Rattle.findings.specs.declared.seen.Seen.{Seen}
 use Rattle.policy.specs.declared.rules.Policy.{Policy}
 use Rattle.reader.specs.Chain.{reading}
 use Rattle.reader.specs.declared.read.Reading.{Reading}
-use Rattle.records.specs.Records.{marksIn, remarked, relisted}
+use Rattle.records.specs.Records.{marksIn}
 use Rattle.records.specs.declared.ike.IkeRecord.{IkeRecord}
 use Rattle.records.specs.declared.ike.Marks.{Marks}
 use Rattle.deciding.specs.Decide.{decided}
-use Rattle.responding.specs.Respond.{errorResponse, wantsNats, decidedOctets}
 use Rattle.deciding.specs.declared.decide.Decision.{Decision}
-use Rattle.deciding.specs.declared.decide.Verdict.{Verdict}
-use Rattle.replying.specs.Reply.{refusalReply, decidedAnswer, unchangedAnswer}
+use Rattle.verdict.specs.declared.update.Verdict.{Verdict}
+use Rattle.responding.specs.Respond.{wantsNats, errorThen, responseTo, toldOf}
+use Rattle.replying.specs.Change.{changedBy}
+use Rattle.replying.specs.Reply.{errorReply, decidedAnswer, unchangedAnswer, moved}
 use Rattle.replying.specs.declared.reply.Reply.{Reply}
 use Rattle.replying.specs.declared.reply.CoreAnswer.{CoreAnswer}
 
@@ -34,18 +46,29 @@ pub record Asked : Type 0 where
 
 -- what the core is asked: the SPI and the output's length were looked at before
 abbrev pub asked : ℕ → Pair → List ℕ → List ℕ → ℕ → List ℕ → Asked
-asked id pair source destination first body =
-    record { id = id; pair = pair; nat-source = source; nat-destination = destination; first = first; body = body }
+asked id pair nat-source nat-destination first body =
+    record {
+      id = id;
+      pair = pair;
+      nat-source = nat-source;
+      nat-destination = nat-destination;
+      first = first;
+      body = body;
+    }
 
--- 01, the numbers 6 and 7: "INVALID_SYNTAX (7)", "UNSUPPORTED_CRITICAL_PAYLOAD (1), data: its type".
-unfoldable pub chainError : Reading → List ℕ
-chainError r = cond (eqb (r .number) 7) (errorResponse unsupportedCriticalPayload (r .critical ∷ []) []) (errorResponse invalidSyntax [] [])
+-- 01, the numbers 6 and 7: "INVALID_SYNTAX (7)", "UNSUPPORTED_CRITICAL_PAYLOAD (1), data: its type"; they "copy no
+-- COOKIE2".
+unfoldable pub chainError : Reading → List Notification
+chainError r =
+    cond (eqb (r .number) (numberOf UnknownCritical))
+    (errorThen unsupportedCriticalPayload (r .critical ∷ []) [])
+    (errorThen invalidSyntax [] [])
 
 abbrev pub cookieIn : List ℕ → Seen → List ℕ
 cookieIn body s = partOf body (s .cookie) (s .«cookie_len»)
 
-abbrev pub decidedResponse : Verdict → Asked → Seen → List ℕ
-decidedResponse v q s = decidedOctets v (wantsNats s) (q .nat-source) (q .nat-destination) (cookieIn (q .body) s)
+abbrev pub decidedResponse : Verdict → Asked → Seen → List Notification
+decidedResponse v q s = responseTo v (wantsNats s) (q .nat-source) (q .nat-destination) (cookieIn (q .body) s)
 
 -- steps 1 to 3 on what was read
 abbrev pub decisionOn : Policy → Asked → Marks → Decision
@@ -53,34 +76,34 @@ decisionOn policy q m =
     let s = reading (q .first) (q .body) .seen in
     decided policy (noNatsSeen (q .body) s) s (q .pair) (q .id) m
 
--- The response to a request that passed checks 1 to 5, by its reading.
-unfoldable pub coreResponse : Policy → Asked → Marks → List ℕ
-coreResponse policy q m =
+-- The response to a request that passed checks 1 to 5, by its reading; and its octets.
+abbrev pub coreNotifies : Policy → Asked → Marks → List Notification
+coreNotifies policy q m =
     let r = reading (q .first) (q .body) in
-    cond (eqb (r .number) 0) (decidedResponse (decisionOn policy q m .verdict) q (r .seen)) (chainError r)
+    cond (eqb (r .number) (numberOf Done))
+    (decidedResponse (decisionOn policy q m .verdict) q (r .seen))
+    (chainError r)
+
+unfoldable pub coreResponse : Policy → Asked → Marks → List ℕ
+coreResponse policy q m = chained (coreNotifies policy q m) 0
 
 -- a chain that was read whole
 abbrev pub wholeAnswer : Policy → Asked → Marks → CoreAnswer
 wholeAnswer policy q m =
     let s = reading (q .first) (q .body) .seen in
     let d = decisionOn policy q m in
-    decidedAnswer d s (length (decidedResponse (d .verdict) q s))
+    decidedAnswer d s (toldOf (decidedResponse (d .verdict) q s))
 
 -- a chain that was not: the record stays as it is
 abbrev pub brokenAnswer : Asked → Marks → CoreAnswer
 brokenAnswer q m =
     let r = reading (q .first) (q .body) in
-    unchangedAnswer (refusalReply (r .number) (r .offset) (length (chainError r))) m
+    unchangedAnswer (errorReply (r .number) (r .offset) (toldOf (chainError r))) m
 
 -- The reply, and what changes in the record.
 unfoldable pub coreAnswer : Policy → Asked → Marks → CoreAnswer
-coreAnswer policy q m = cond (eqb (reading (q .first) (q .body) .number) 0) (wholeAnswer policy q m) (brokenAnswer q m)
-
--- The record after an answer to a request with this pair and this body. 01: "The first 16 are kept".
-unfoldable pub changedBy : CoreAnswer → Pair → List ℕ → IkeRecord → IkeRecord
-changedBy a p body r =
-    let new = remarked (a .marks) (a .moves) p r in
-    cond (a .relists) (relisted (min (a .list .count) addressesMost) (addressesIn body (a .list)) new) new
+coreAnswer policy q m =
+    cond (eqb (reading (q .first) (q .body) .number) (numberOf Done)) (wholeAnswer policy q m) (brokenAnswer q m)
 
 -- What a request comes to on its record: the reply, the record after it, and whether its IPsec records follow.
 pub record CoreResult : Type 0 where
@@ -91,4 +114,4 @@ pub record CoreResult : Type 0 where
 abbrev pub coreResult : Policy → Asked → IkeRecord → CoreResult
 coreResult policy q r =
     let a = coreAnswer policy q (marksIn r) in
-    record { reply = a .reply; entry = changedBy a (q .pair) (q .body) r; moves = a .moves }
+    record { reply = a .reply; entry = changedBy a (q .pair) (q .body) r; moves = moved a }

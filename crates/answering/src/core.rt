@@ -1,108 +1,83 @@
 // One request by the marks of the record that it means: read, decide, respond.
-use address::pair::Pair;
-use deciding::decide::Decision;
+use crate::packet::Packet;
 use deciding::decide::decide;
-use findings::seen::Seen;
-use payload::notify::NotifyType;
+use notify::notify::NotifyType;
+use octets::number::Number;
+use octets::number::number_of;
 use policy::rules::Policy;
 use reader::read::Reading;
-use reader::read::read;
-use records::ike::IkeRecord;
+use reader::read::read_short;
 use records::ike::Marks;
-use records::ike::relist;
-use records::ike::remark;
 use replying::reply::CoreAnswer;
 use replying::reply::Reply;
 use replying::reply::answer_to;
-use replying::reply::refusal;
+use replying::reply::error_reply;
 use replying::reply::unchanged;
 use responding::respond::put_error;
 use responding::respond::respond_decided;
 use responding::respond::wants_nats;
-use values::addresses_in;
 use values::cookie;
-use values::kept_count;
-use values::no_nats_at;
 ghost use mathlib.Core.Path.{_≡_};
 ghost use Prim.Native.Nat.{_≤_};
 ghost use lib.ListN.{length};
-ghost use Rattle.values.specs.Values.{noNatsSeen};
-ghost use Rattle.deciding.specs.Decide.{decided};
-ghost use Rattle.writing.specs.Notify.{placed};
-ghost use Rattle.replying.specs.Reply.{refusalReply};
-ghost use Rattle.answering.specs.Core.{asked, chainError, coreAnswer, coreResponse, changedBy};
+ghost use Rattle.octets.specs.Limits.{bodyMost, natOctets, responseRoom};
+ghost use Rattle.writing.specs.Notify.{placed, chained};
+ghost use Rattle.responding.specs.Respond.{toldOf};
+ghost use Rattle.replying.specs.Reply.{errorReply};
+ghost use Rattle.answering.specs.Core.{chainError, coreAnswer, coreResponse};
+ghost use Rattle.answering.specs.Packet.{askedBy};
 
 // A malformed chain or an unknown critical payload: the error, and nothing else.
 pub fn refuse_chain(r: Reading, out: &mut [u8]) -> Reply
-    requires { ⌜ 128 ≤ length (now out) ⌝ }
-    ensures { λ p. ⌜ p ≡ refusalReply (r .number) (r .offset) (length (chainError r)) ⌝ }
-    ensures { λ _. ⌜ now (out .exit) ≡ placed (now (out .entry)) 0 (chainError r) ⌝ }
+    requires { ⌜ responseRoom ≤ length (now out) ⌝ }
+    ensures { λ p. ⌜ p ≡ errorReply (r .number) (r .offset) (toldOf (chainError r)) ⌝ }
+    ensures { λ _. ⌜ now (out .exit) ≡ placed (now (out .entry)) 0 (chained (chainError r) 0) ⌝ }
 {
     let none = [0u8; 0];
-    let told = [r.critical];
-    if r.number == 7 {
-        let n = put_error(out, NotifyType::UNSUPPORTED_CRITICAL_PAYLOAD, &told, &none);
-        return refusal(r.number, r.offset, n as u16);
+    let critical = [r.critical];
+    if r.number == number_of(Number::UnknownCritical) {
+        let response = put_error(
+            out,
+            NotifyType::UNSUPPORTED_CRITICAL_PAYLOAD,
+            &critical,
+            &none,
+        );
+        return error_reply(r.number, r.offset, response);
     }
-    let n = put_error(out, NotifyType::INVALID_SYNTAX, &none, &none);
-    refusal(r.number, r.offset, n as u16)
-}
-
-// Steps 1 to 3 on what was read of a body.
-pub fn decide_seen(
-    policy: Policy,
-    seen: Seen,
-    body: &[u8],
-    pair: Pair,
-    id: u32,
-    marks: Marks,
-) -> Decision
-    ensures { λ r. ⌜ r ≡ decided policy (noNatsSeen (now (body .entry)) seen) seen pair id marks ⌝ }
-{
-    let n = no_nats_at(body, seen.no_nats, seen.no_nats_len);
-    decide(policy, n, seen, pair, id, marks)
+    let response = put_error(out, NotifyType::INVALID_SYNTAX, &none, &none);
+    error_reply(r.number, r.offset, response)
 }
 
 // One request that passed checks 1 to 5, by the marks of the record that it means.
 pub fn respond_to(
     policy: Policy,
     marks: Marks,
-    id: u32,
-    pair: Pair,
-    source: &[u8],
-    destination: &[u8],
-    first: u8,
+    packet: Packet,
+    nat_source: &[u8],
+    nat_destination: &[u8],
     body: &[u8],
     out: &mut [u8],
 ) -> CoreAnswer
-    requires { ⌜ (128 ≤ length (now out)) × (length (now source) ≡ 20) × (length (now destination) ≡ 20) ⌝ }
-    ensures { λ r. ⌜ r ≡ coreAnswer policy (asked id pair (now (source .entry)) (now (destination .entry)) first (now (body .entry))) marks ⌝ }
-    ensures { λ _. ⌜ now (out .exit) ≡ placed (now (out .entry)) 0 (coreResponse policy (asked id pair (now (source .entry)) (now (destination .entry)) first (now (body .entry))) marks) ⌝ }
+    requires { ⌜ responseRoom ≤ length (now out) ⌝ }
+    requires { ⌜ (length (now «nat_source») ≡ natOctets) × (length (now «nat_destination») ≡ natOctets) ⌝ }
+    requires { ⌜ length (now body) ≤ bodyMost ⌝ }
+    ensures { λ r. ⌜ (
+        let asks = askedBy packet (now («nat_source» .entry)) (now («nat_destination» .entry)) (now (body .entry)) in
+        (r ≡ coreAnswer policy asks marks)
+        × (now (out .exit) ≡ placed (now (out .entry)) 0 (coreResponse policy asks marks))
+        ) ⌝ }
 {
-    let r = read(first, body);
+    let r = read_short(packet.first, body);
     let seen = r.seen;
-    if r.number == 0 {
-        let d = decide_seen(policy, seen, body, pair, id, marks);
+    if r.number == number_of(Number::Done) {
+        let pair = packet.pair;
+        let d = decide(policy, body, seen, pair, packet.id, marks);
         let wanted = wants_nats(seen);
         let k = cookie(body, seen);
         let verdict = d.verdict;
-        let length = respond_decided(verdict, wanted, source, destination, k, out);
-        return answer_to(d, seen, length as u16);
+        let response = respond_decided(verdict, wanted, nat_source, nat_destination, k, out);
+        return answer_to(d, seen, response);
     }
     let reply = refuse_chain(r, out);
     unchanged(reply, marks)
-}
-
-// The record after an answer. The list is built only where it is replaced.
-pub fn changed(entry: IkeRecord, a: CoreAnswer, pair: Pair, body: &[u8]) -> IkeRecord
-    ensures { λ r. ⌜ r ≡ changedBy a pair (now (body .entry)) entry ⌝ }
-{
-    let marks = a.marks;
-    let after = remark(entry, marks, a.moves, pair);
-    if a.relists {
-        let l = a.list;
-        let addresses = addresses_in(body, l);
-        return relist(after, kept_count(l.count), addresses);
-    }
-    after
 }

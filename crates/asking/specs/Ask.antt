@@ -1,4 +1,7 @@
--- What a host asks for, from the octets that it gives.
+-- Trusted. What a host asks for, from the octets that it gives.
+--
+--   Ask          which notifications a request is to have, and how many addresses
+--   AskOctets    the same as a host gives it; `askOf` is what that means
 use Rattle.octets.specs.Flags.{isYes}
 use Rattle.asking.specs.declared.ask.Ask.{Ask}
 use Rattle.asking.specs.declared.ask.AskOctets.{AskOctets}

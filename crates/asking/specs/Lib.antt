@@ -1,2 +1,3 @@
 pub mod Ask
-pub mod Request
+pub mod Draft
+pub mod Fits

@@ -3,17 +3,24 @@ use crate::ask::Ask;
 use address::address::address_fits;
 use address::pair::Pair;
 use address::pair::pair_fits;
+use octets::limits::ADDRESS_OCTETS;
+use octets::limits::ADDRESSES_MOST;
+use octets::limits::COOKIE_LEAST;
+use octets::limits::COOKIE_MOST;
+use octets::limits::NAT_OCTETS;
 ghost use mathlib.Core.Path.{_≡_};
 ghost use Prim.Native.Nat.{_≤_};
+ghost use Rattle.octets.specs.Limits.{addressesMost};
 ghost use Rattle.octets.specs.Lists.{allBelow};
 ghost use Rattle.address.specs.Address.{pairFits};
-ghost use Rattle.asking.specs.Request.{request, unlessAsked, countFits, natsFit, listedFits, cookieFits, requestFits};
+ghost use Rattle.asking.specs.Draft.{draft};
+ghost use Rattle.asking.specs.Fits.{unlessAsked, countFits, natsFit, listedFits, cookieFits, requestFits};
 
-// At most 16 addresses, and none with NO_ADDITIONAL_ADDRESSES.
+// As many addresses as there may be, and none with NO_ADDITIONAL_ADDRESSES.
 pub fn count_fits(ask: Ask) -> bool
     ensures { λ r. ⌜ r ≡ countFits ask ⌝ }
 {
-    if 16 < ask.count {
+    if ADDRESSES_MOST < ask.count as usize {
         return false;
     }
     if ask.no_additional {
@@ -22,13 +29,13 @@ pub fn count_fits(ask: Ask) -> bool
     true
 }
 
-// Both NAT detection values, each of 20 octets, or neither.
-pub fn nats_fit(ask: Ask, source: usize, destination: usize) -> bool
-    ensures { λ r. ⌜ r ≡ natsFit ask source destination ⌝ }
+// Both NAT detection values, each of its length, or neither.
+pub fn nats_fit(ask: Ask, source_length: usize, destination_length: usize) -> bool
+    ensures { λ r. ⌜ r ≡ natsFit ask «source_length» «destination_length» ⌝ }
 {
     if ask.nat_source {
         if ask.nat_destination {
-            return source == 20 && destination == 20;
+            return source_length == NAT_OCTETS && destination_length == NAT_OCTETS;
         }
         return false;
     }
@@ -45,13 +52,17 @@ pub fn pair_fits_if(asked: bool, pair: Pair) -> bool
 }
 
 // Whether each of the first n addresses is one of its family.
-pub fn addresses_fit(families: [u8; 16], octets: [[u8; 16]; 16], n: usize) -> bool
-    requires { ⌜ n ≤ 16 ⌝ }
-    ensures { λ r. ⌜ r ≡ allBelow (listedFits families octets) n ⌝ }
+pub fn addresses_fit(
+    families: [u8; ADDRESSES_MOST],
+    addresses: [[u8; ADDRESS_OCTETS]; ADDRESSES_MOST],
+    n: usize,
+) -> bool
+    requires { ⌜ n ≤ addressesMost ⌝ }
+    ensures { λ r. ⌜ r ≡ allBelow (listedFits families addresses) n ⌝ }
 {
     let mut i = 0;
     while i < n {
-        let address = octets[i];
+        let address = addresses[i];
         if address_fits(families[i], address) {
             i += 1;
         } else {
@@ -68,27 +79,31 @@ pub fn cookie_fits(n: usize) -> bool
     if n == 0 {
         return true;
     }
-    if n < 8 {
+    if n < COOKIE_LEAST {
         return false;
     }
-    n <= 64
+    n <= COOKIE_MOST
 }
 
 pub fn request_fits(
     ask: Ask,
     pair: Pair,
-    families: [u8; 16],
-    octets: [[u8; 16]; 16],
-    source: &[u8],
-    destination: &[u8],
+    families: [u8; ADDRESSES_MOST],
+    addresses: [[u8; ADDRESS_OCTETS]; ADDRESSES_MOST],
+    nat_source: &[u8],
+    nat_destination: &[u8],
     cookie: &[u8],
 ) -> bool
-    ensures { λ r. ⌜ r ≡ requestFits (request ask pair families octets (now (source .entry)) (now (destination .entry)) (now (cookie .entry))) ⌝ }
+    ensures { λ r. ⌜ (
+        let nat-source = now («nat_source» .entry) in
+        let nat-destination = now («nat_destination» .entry) in
+        r ≡ requestFits (draft ask pair families addresses nat-source nat-destination (now (cookie .entry)))
+        ) ⌝ }
 {
     if count_fits(ask) {
-        if nats_fit(ask, source.len(), destination.len()) {
+        if nats_fit(ask, nat_source.len(), nat_destination.len()) {
             if pair_fits_if(ask.no_nats, pair) {
-                if addresses_fit(families, octets, ask.count as usize) {
+                if addresses_fit(families, addresses, ask.count as usize) {
                     return cookie_fits(cookie.len());
                 }
                 return false;

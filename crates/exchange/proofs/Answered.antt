@@ -1,36 +1,36 @@
 -- A written request, answered: never 6 or 7, and where the responder says done the initiator accepts its response.
 use Prim.Native.Nat.{ℕ, _+_, _-_}
-use mathlib.Core.Path.{_≡_, refl, sym, ap, _∙_}
-use mathlib.Core.List.{List, [], _∷_, _++_, zipWith}
+use mathlib.Core.Path.{_≡_, refl, ap, _∙_}
+use mathlib.Core.List.{List, [], zipWith}
 use mathlib.Core.Bool.{Bool, true, false, cond, _&&_, not}
 use native.Mathlib.Omega.{arith}
 use native.Mathlib.Decide.{ℕ-discrete}
-use borrow.Author.Tests.{eq-eqb, ne-eqb}
+use borrow.Author.Tests.{eq-eqb, ne-eqb, eqb-false, not-true}
 use lib.Dec.{eqb}
-use lib.ListN.{length, getD, replicate, length-append}
+use lib.ListN.{length, getD, replicate}
+use Rattle.octets.specs.Limits.{addressesMost, addressOctets, natOctets}
 use Rattle.octets.specs.Lists.{sameAt}
 use Rattle.octets.proofs.Small.{both}
 use Rattle.address.specs.Address.{noPair}
 use Rattle.policy.specs.declared.rules.Policy.{Policy}
-use Rattle.tables.specs.Calls.{listFits}
 use Rattle.records.specs.Records.{marksIn}
 use Rattle.records.specs.declared.ike.IkeRecord.{IkeRecord}
 use Rattle.records.specs.declared.ike.Marks.{Marks}
 use Rattle.records.specs.declared.ipsec.IpsecRecord.{IpsecRecord}
-use Rattle.writing.specs.Notify.{Notification, notification, notifyOctets, firstType, chained}
-use Rattle.writing.proofs.Placed.{length-notify}
-use Rattle.writing.proofs.Chained.{chained-one}
+use Rattle.writing.specs.Notify.{firstType}
 use Rattle.reader.specs.Chain.{reading}
-use Rattle.responding.specs.Respond.{nextFor, cookieNotify, doneResponse}
-use Rattle.replying.specs.Reply.{firstOf}
 use Rattle.answering.specs.Core.{cookieIn, decisionOn, coreAnswer, coreResponse}
-use Rattle.responding.specs.Respond.{wantsNats}
-use Rattle.responder.specs.Handle.{Request as Received, meant, earlyNumber, handled, handledResponse}
-use Rattle.deciding.proofs.Numbers.{verdict-of, number-accepted}
-use Rattle.responder.proofs.Checks.{passed, lent-fit, early-of}
-use Rattle.asking.specs.Request.{Request, request, ifAsked, natNotifies, cookieNotifies, requested, requestFits, requestOctets, cookieFits}
+use Rattle.responding.specs.Respond.{wantsNats, responseTo}
+use Rattle.verdict.specs.declared.update.Verdict.the-variants as verdict
+use Rattle.checking.specs.Checks.{Request as Received}
+use Rattle.responder.specs.Handle.{meant, earlyNumber, handled, handledResponse}
+use Rattle.verdict.proofs.Numbers.{verdict-of, number-accepted}
+use Rattle.checking.proofs.Checks.{passed, early-passes}
+use Rattle.asking.specs.Draft.{Draft, draft, requested, requestOctets}
+use Rattle.asking.specs.Fits.{requestFits, cookieFits}
 use Rattle.requests.specs.declared.request.Written.{Written}
 use Rattle.initiator.specs.Response.{same, closes, outcomeOf, tallyOf, assessment}
+use Rattle.initiator.proofs.Ways.{whole}
 use Rattle.asking.proofs.Fitting.{fitting}
 use Rattle.exchange.specs.RoundTrips.{given, Sized, allKnown, GivenBack}
 use Rattle.exchange.specs.Exchange.{Accepted, Understood, AllUnderstood}
@@ -41,57 +41,65 @@ use Rattle.exchange.proofs.FirstTrip.{given-back, fits-written, number-
 abbrev Other : ℕ → Type 0
 Other n = (n ≡ 6 → ⊥) × (n ≡ 7 → ⊥)
 
--- a chain's first type is 0 exactly if it has no octets
-type-of : (xs : List Notification) → firstOf (length (chained xs 0)) ≡ firstType xs 0
-unfolding chained
-type-of [] = refl
-type-of (x ∷ xs) =
-    rw (ne-eqb (length (chained (x ∷ xs) 0)) 0 (λ e. omega (arith, length-append (notifyOctets (firstType xs 0) (x .number) (x .octets)) (chained xs 0), length-notify (firstType xs 0) (x .number) (x .octets))))
+abbrev isOther : ℕ → Bool
+isOther n = not (eqb n 6) && not (eqb n 7)
+
+others : (n : ℕ) → isOther n ≡ true → Other n
+others n e =
+    let b = both (not (eqb n 6)) (not (eqb n 7)) e in
+    (eqb-false n 6 (not-true _ (b .0)), eqb-false n 7 (not-true _ (b .1)))
 
 -- A response that says done is a request for the NAT values, if they are wanted, and the cookie.
-module _ (wanted : Bool) (source destination cookie : List ℕ) where
-  abbrev reply : Request
+module _ (wanted : Bool) (nat-source nat-destination cookie : List ℕ) where
+  abbrev reply : Draft
   reply =
-      request
-      (record { update = false; «no_nats» = false; «nat_source» = wanted; «nat_destination» = wanted; «no_additional» = false; count = 0 })
-      noPair (replicate 16 0) (replicate 16 (replicate 16 0)) source destination cookie
+      draft
+      (record {
+        update = false;
+        «no_nats» = false;
+        «nat_source» = wanted;
+        «nat_destination» = wanted;
+        «no_additional» =
+            false;
+        count = 0;
+      })
+      noPair (replicate addressesMost 0) (replicate addressesMost (replicate addressOctets 0)) nat-source
+      nat-destination cookie
 
   reply-sized : Sized reply
-  reply-sized = record { source = refl; destination = refl; families = refl; addresses = refl; octets = sized-at [] 16 }
+  reply-sized =
+      record {
+        source = refl;
+        destination = refl;
+        families = refl;
+        addresses = refl;
+        octets = sized-at [] addressesMost;
+      }
 
-  reply-fits : (wanted ≡ true → (length source ≡ 20) × (length destination ≡ 20)) → cookieFits (length cookie) ≡ true → requestFits reply ≡ true
+  reply-fits : (wanted ≡ true → (length nat-source ≡ natOctets) × (length nat-destination ≡ natOctets))
+      → cookieFits (length cookie) ≡ true → requestFits reply ≡ true
   unfolding requestFits
   reply-fits n k = go wanted n
     where
-      go : (b : Bool) → (b ≡ true → (length source ≡ 20) × (length destination ≡ 20))
-          → cond b (b && (eqb (length source) 20 && eqb (length destination) 20)) (not b) && cookieFits (length cookie) ≡ true
-      go true h = let l = h refl in rw (eq-eqb (length source) 20 (l .0), eq-eqb (length destination) 20 (l .1)) k
+      go : (b : Bool) → (b ≡ true → (length nat-source ≡ natOctets) × (length nat-destination ≡ natOctets))
+          → cond b (b && (eqb (length nat-source) natOctets && eqb (length nat-destination) natOctets)) (not b)
+          && cookieFits (length cookie)
+          ≡ true
+      go true h =
+          let l = h refl in
+          rw (eq-eqb (length nat-source) natOctets (l .0), eq-eqb (length nat-destination) natOctets (l .1)) k
       go false h = k
 
-  cookie-octets : (b : Bool) → cond b [] (notifyOctets 0 16401 cookie) ≡ chained (ifAsked (not b) (notification 16401 cookie ∷ [])) 0
-  unfolding chained
-  cookie-octets true = refl
-  cookie-octets false = sym (chained-one (notification 16401 cookie) 0)
-
-  cookie-type : (b : Bool) → cond b 0 41 ≡ firstType (ifAsked (not b) (notification 16401 cookie ∷ [])) 0
-  cookie-type true = refl
-  cookie-type false = refl
-
-  reply-octets : doneResponse wanted source destination cookie ≡ requestOctets reply
-  unfolding doneResponse cookieNotify zipWith chained
-  reply-octets = go wanted
-    where
-      go : (b : Bool)
-          → cond b (notifyOctets 41 16388 source ++ (notifyOctets (nextFor cookie) 16389 destination ++ cond (eqb (length cookie) 0) [] (notifyOctets 0 16401 cookie)))
-          (cond (eqb (length cookie) 0) [] (notifyOctets 0 16401 cookie))
-          ≡ chained (ifAsked b (natNotifies source destination) ++ cookieNotifies cookie) 0
-      go true = rw (cookie-octets (eqb (length cookie) 0), cookie-type (eqb (length cookie) 0))
-      go false = cookie-octets (eqb (length cookie) 0)
+  reply-notifies : responseTo verdict.Accepted wanted nat-source nat-destination cookie ≡ requested reply
+  unfolding zipWith
+  reply-notifies = refl
 
 -- The cookie that comes back as it was sent doesn't close, and is not tallied.
 module _ (k : List ℕ) where
   same-self : same k k ≡ true
-  same-self = rw (eq-eqb (length k) (length k) refl) (all-below (sameAt k k) (length k) (λ i h. eq-eqb (getD k i 0) (getD k i 0) refl))
+  same-self =
+      rw (eq-eqb (length k) (length k) refl) (all-below (sameAt k k) (length k)
+      (λ i h. eq-eqb (getD k i 0) (getD k i 0) refl))
 
   kept-open : closes k k 0 ≡ false
   unfolding closes
@@ -110,19 +118,16 @@ module _ (k : List ℕ) where
       go false = omega arith
 
   -- a response that gives back nothing but the cookie, and no error
-  taken : (first n : ℕ) (body : List ℕ) → cookieFits (length k) ≡ true → reading first body .number ≡ 0 → reading first body .seen .tally ≡ allKnown n
+  taken : (first n : ℕ) (body : List ℕ) → cookieFits (length k) ≡ true → reading first body .number ≡ 0
+      → reading first body .seen .tally ≡ allKnown n
       → given first body .cookie ≡ k → Accepted k body (assessment k first body)
-  unfolding assessment outcomeOf
+  unfolding outcomeOf
   taken first n body f z t c =
-      record {
-        number = rw (f, eq-eqb (reading first body .number) 0 z);
-        outcome = rw (f, eq-eqb (reading first body .number) 0 z, t, c, kept-open);
-        tally = rw (f, eq-eqb (reading first body .number) 0 z, t, c) (not-tallied n);
-        cookie = rw (f, eq-eqb (reading first body .number) 0 z) c;
-      }
+      rw (← whole k first body (reading first body) refl f z)
+      (record { number = refl; outcome = rw (t, c, kept-open); tally = rw (t, c) (not-tallied n); cookie = c })
 
 -- What the responder makes of a written request.
-module _ (q : Request) (z : Sized q) (fits : requestFits q ≡ true) (policy : Policy) (r : Received)
+module _ (q : Draft) (z : Sized q) (fits : requestFits q ≡ true) (policy : Policy) (r : Received)
     (first : r .asks .first ≡ firstType (requested q) 0) (body : r .asks .body ≡ requestOctets q) where
   back : GivenBack q (r .asks .first) (r .asks .body)
   back = rw (first, body) (given-back q z fits)
@@ -130,23 +135,27 @@ module _ (q : Request) (z : Sized q) (fits : requestFits q ≡ true) (policy : P
   module _ (m : Marks) where
     core-fine : Other (coreAnswer policy (r .asks) m .reply .number)
     unfolding coreAnswer
-    core-fine = rw (eq-eqb (reading (r .asks .first) (r .asks .body) .number) 0 (back .number)) (verdict-of Other (omega arith) (omega arith) (omega arith) (decisionOn policy (r .asks) m .verdict))
+    core-fine =
+        rw (eq-eqb (reading (r .asks .first) (r .asks .body) .number) 0 (back .number))
+        (verdict-of Other (omega arith) (omega arith) (omega arith) (decisionOn policy (r .asks) m .verdict))
 
-    module _ (s : length (r .asks .nat-source) ≡ 20) (d : length (r .asks .nat-destination) ≡ 20) where
+    module _ (s : length (r .asks .nat-source) ≡ natOctets) (d : length (r .asks .nat-destination) ≡ natOctets) where
       core-accepted : coreAnswer policy (r .asks) m .reply .number ≡ 0
-          → Accepted (q .cookie) (coreResponse policy (r .asks) m) (assessment (q .cookie) (coreAnswer policy (r .asks) m .reply .first) (coreResponse policy (r .asks) m))
+          → Accepted (q .cookie) (coreResponse policy (r .asks) m)
+          (assessment (q .cookie) (coreAnswer policy (r .asks) m .reply .first) (coreResponse policy (r .asks) m))
       unfolding coreAnswer coreResponse
       core-accepted e =
           let read = eq-eqb (reading (r .asks .first) (r .asks .body) .number) 0 (back .number) in
           let seen = reading (r .asks .first) (r .asks .body) .seen in
           let w = wantsNats seen in
           let p = reply w (r .asks .nat-source) (r .asks .nat-destination) (q .cookie) in
-          let k : cookieIn (r .asks .body) seen ≡ q .cookie = ap (λ (x : Request). x .cookie) (back .values) in
+          let k : cookieIn (r .asks .body) seen ≡ q .cookie = ap (λ (x : Draft). x .cookie) (back .values) in
           let cf = fitting q fits .cookie in
           let g = given-back p (reply-sized w _ _ _) (reply-fits w _ _ _ (λ e. (s, d)) cf) in
           let done = number-accepted (decisionOn policy (r .asks) m .verdict) (rw read at e) in
-          rw (read, done, k, reply-octets w (r .asks .nat-source) (r .asks .nat-destination) (q .cookie), type-of (requested p))
-          (taken (q .cookie) (firstType (requested p) 0) (length (requested p)) (requestOctets p) cf (g .number) (g .tally) (ap (λ (x : Request). x .cookie) (g .values)))
+          rw (read, done, k, reply-notifies w (r .asks .nat-source) (r .asks .nat-destination) (q .cookie))
+          (taken (q .cookie) (firstType (requested p) 0) (length (requested p)) (requestOctets p) cf (g .number)
+          (g .tally) (ap (λ (x : Draft). x .cookie) (g .values)))
 
   module _ (ike : List IkeRecord) (ipsec : List IpsecRecord) where
     abbrev early : ℕ
@@ -159,12 +168,16 @@ module _ (q : Request) (z : Sized q) (fits : requestFits q ≡ true) (policy : P
         go : Dec (early ≡ 0) → Understood q (handled policy ike ipsec r .reply) (handledResponse policy ike ipsec r)
         go (yes e) =
             let o = core-fine (marksIn (meant ike (r .spi))) in
-            let f = passed _ _ _ _ e .fits in
-            let l = lent-fit (r .spi) (r .asks .pair) (r .asks .nat-source) (r .asks .nat-destination) (both (listFits ipsec) _ f .1) in
+            let p = passed _ _ _ r e in
             rw (eq-eqb early 0 e)
-            (record { not-malformed = o .0; not-critical = o .1; accepted = core-accepted (marksIn (meant ike (r .spi))) (l .0) (l .1) })
+            (record {
+              not-malformed = o .0;
+              not-critical = o .1;
+              accepted =
+                  core-accepted (marksIn (meant ike (r .spi))) (p .nat-source) (p .nat-destination);
+            })
         go (no n) =
-            let o = early-of Other (omega arith) (omega arith) (omega arith) (omega arith) (omega arith) (omega arith) _ (r .room) (length (r .asks .body)) ike (r .spi) in
+            let o = others early (early-passes _ _ _ r isOther refl refl) in
             rw (ne-eqb early 0 n) (record { not-malformed = o .0; not-critical = o .1; accepted = λ e. absurd (n e) })
 
 pub all-understood : AllUnderstood

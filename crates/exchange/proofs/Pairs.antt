@@ -9,6 +9,7 @@ use borrow.Author.Tests.{eqb-true}
 use lib.Dec.{eqb}
 use lib.ListN.{length, take, drop, replicate, length-append, take-append-drop}
 use lib.Seq.{take-append-add, length-take-le, take-at, drop-at}
+use Rattle.octets.specs.Limits.{addressOctets, ip4Octets, ip6Octets, noNatsSize}
 use Rattle.octets.specs.Octets.{be16, padded}
 use Rattle.octets.specs.Lists.{all}
 use Rattle.octets.proofs.Small.{both}
@@ -16,7 +17,7 @@ use Rattle.address.specs.Address.{widthOf, isZero, addressFits}
 use Rattle.address.proofs.Width.{width-small}
 use Rattle.values.specs.Values.{noNatsIn, noNatsOf}
 use Rattle.values.specs.declared.NoNats.{NoNats}
-use Rattle.asking.specs.Request.{portOctets, noNatsOctets}
+use Rattle.asking.specs.Draft.{portOctets, noNatsOctets}
 use Rattle.exchange.proofs.Payloads.{be16-behind}
 
 pub data Family : ℕ → Type 0 where
@@ -27,7 +28,8 @@ pub data Family : ℕ → Type 0 where
 pub family-of : (f : ℕ) (octets : List ℕ) → addressFits f octets ≡ true → Family f
 family-of f octets e = go (eqb f 4) (eqb f 6) refl refl (both _ _ e .0)
   where
-    go : (a b : Bool) → eqb f 4 ≡ a → eqb f 6 ≡ b → not (eqb (cond a 4 (cond b 16 0)) 0) ≡ true → Family f
+    go : (a b : Bool) → eqb f 4 ≡ a → eqb f 6 ≡ b → not (eqb (cond a ip4Octets (cond b ip6Octets 0)) 0) ≡ true
+        → Family f
     go true b i j e = rw (eqb-true f 4 i) four
     go false true i j e = rw (eqb-true f 6 j) six
     go false false i j e = absurd (false≢true e)
@@ -40,17 +42,20 @@ zeros (x ∷ s) (suc n) l z =
     let t = both _ _ z in
     rw (eqb-true x 0 (t .0), zeros s n (omega arith) (t .1))
 
-padded-zeros : (s t : List ℕ) → length s + length t ≡ 16 → all isZero t ≡ true → padded s ≡ s ++ t
+padded-zeros : (s t : List ℕ) → length s + length t ≡ addressOctets → all isZero t ≡ true → padded s ≡ s ++ t
 padded-zeros s t e z =
-    ap (λ (n : ℕ). take n (s ++ replicate 16 0)) (sym e) ∙ take-append-add s (replicate 16 0) (length t)
-    ∙ ap (λ (l : List ℕ). s ++ l) (zeros t 16 (omega arith) z)
+    ap (λ (n : ℕ). take n (s ++ replicate addressOctets 0)) (sym e)
+    ∙ take-append-add s (replicate addressOctets 0) (length t)
+    ∙ ap (λ (l : List ℕ). s ++ l) (zeros t addressOctets (omega arith) z)
 
 -- an address that fits is its family's octets, padded
-pub padded-back : (f : ℕ) (octets : List ℕ) → length octets ≡ 16 → addressFits f octets ≡ true → padded (take (widthOf f) octets) ≡ octets
+pub padded-back : (f : ℕ) (octets : List ℕ) → length octets ≡ addressOctets → addressFits f octets ≡ true
+    → padded (take (widthOf f) octets) ≡ octets
 padded-back f octets e z =
     let w = widthOf f in
     let whole = take-append-drop w octets in
-    padded-zeros (take w octets) (drop w octets) (sym (length-append (take w octets) (drop w octets)) ∙ ap length whole ∙ e) (both (not (eqb w 0)) _ z .1)
+    let long = sym (length-append (take w octets) (drop w octets)) ∙ ap length whole ∙ e in
+    padded-zeros (take w octets) (drop w octets) long (both (not (eqb w 0)) _ z .1)
     ∙ whole
 
 abbrev pub noNats : ℕ → List ℕ → List ℕ → ℕ → ℕ → NoNats
@@ -58,8 +63,9 @@ noNats f source destination from to =
     record { family = f; source = source; destination = destination; «source_port» = from; «destination_port» = to }
 
 -- The octets of NO_NATS_ALLOWED, taken apart again.
-module _ (source destination : List ℕ) (from to : ℕ) (s : length source ≡ 16) (d : length destination ≡ 16) where
-  module _ (w : ℕ) (small : w ≤ 16) where
+module _ (source destination : List ℕ) (from to : ℕ) (s : length source ≡ addressOctets)
+    (d : length destination ≡ addressOctets) where
+  module _ (w : ℕ) (small : w ≤ addressOctets) where
     abbrev Written : List ℕ
     Written = noNatsOctets w source destination from to
 
@@ -69,7 +75,7 @@ module _ (source destination : List ℕ) (from to : ℕ) (s : length source ≡ 
     long-d : length (take w destination) ≡ w
     long-d = length-take-le w destination (omega arith)
 
-    pair-length : length Written ≡ w + w + 4
+    pair-length : length Written ≡ noNatsSize w
     unfolding noNatsOctets
     pair-length = simp (length-append, long-s, long-d) (omega arith)
 
@@ -78,12 +84,14 @@ module _ (source destination : List ℕ) (from to : ℕ) (s : length source ≡ 
     port i =
         let front = take w source ++ take w destination in
         let long : w + w ≡ length front = simp (length-append, long-s, long-d) in
-        rw (← append-assoc (take w source) (take w destination) (portOctets from to), long) (be16-behind front (portOctets from to) i)
+        rw (← append-assoc (take w source) (take w destination) (portOctets from to), long)
+        (be16-behind front (portOctets from to) i)
 
     pair-in : (f : ℕ) → noNatsIn f w Written ≡ noNats f (padded (take w source)) (padded (take w destination)) from to
     unfolding noNatsOctets
     pair-in f =
-        let at-from : be16 Written (w + w) ≡ from = ap (be16 Written) (sym (add-zero (w + w))) ∙ port 0 ∙ div-add-mod' from 256 in
+        let at-from : be16 Written (w + w) ≡ from =
+        ap (be16 Written) (sym (add-zero (w + w))) ∙ port 0 ∙ div-add-mod' from 256 in
         let at-to : be16 Written (w + w + 2) ≡ to = port 2 ∙ div-add-mod' to 256 in
         rw (
           at-from,
@@ -96,10 +104,11 @@ module _ (source destination : List ℕ) (from to : ℕ) (s : length source ≡ 
   pair-read : {f : ℕ} → Family f
       → noNatsOf (noNatsOctets (widthOf f) source destination from to)
       ≡ noNats f (padded (take (widthOf f) source)) (padded (take (widthOf f) destination)) from to
-  pair-read four = rw (pair-length 4 (omega arith)) (pair-in 4 (omega arith) 4)
-  pair-read six = rw (pair-length 16 (omega arith)) (pair-in 16 (omega arith) 6)
+  pair-read four = rw (pair-length ip4Octets (omega arith)) (pair-in ip4Octets (omega arith) 4)
+  pair-read six = rw (pair-length ip6Octets (omega arith)) (pair-in ip6Octets (omega arith) 6)
 
-  pub pair-size : {f : ℕ} → Family f → length (noNatsOctets (widthOf f) source destination from to) ≡ widthOf f + widthOf f + 4
+  pub pair-size : {f : ℕ} → Family f
+      → length (noNatsOctets (widthOf f) source destination from to) ≡ noNatsSize (widthOf f)
   pair-size {f} g = pair-length (widthOf f) (width-small f)
 
   pub pair-back : {f : ℕ} → Family f → addressFits f source ≡ true → addressFits f destination ≡ true

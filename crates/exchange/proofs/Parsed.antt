@@ -8,12 +8,18 @@ use borrow.Author.Tests.{eqb-true, ltb-true, ltb-false, eq-eqb, ne-eqb, lt-ltb}
 use lib.Dec.{eqb, leb, ltb}
 use lib.ListN.{length, getD, take, drop, take-append-drop, drop-of-length-le, length-drop}
 use lib.Seq.{drop-drop, length-take-le, getD-drop}
+use Rattle.octets.specs.Limits.{notifyHeader}
+use Rattle.octets.specs.Wire.{notifyPayload}
 use Rattle.octets.specs.Octets.{be16}
 use Rattle.octets.proofs.Small.{both, neither, chosen}
-use Rattle.payload.specs.Notify.{kindOf, dataFits, isUnknown}
+use Rattle.notify.specs.Notify.{kindOf, dataFits, isUnknown}
 use Rattle.payload.specs.Payload.{spiFits, notifyAt, sized, payloadAt}
-use Rattle.payload.specs.declared.notify.NotifyKind.{NotifyKind}
-use Rattle.payload.specs.declared.notify.NotifyKind.the-variants.{NatDetectionSource, NatDetectionDestination, MobikeSupported, AdditionalIp4, AdditionalIp6, NoAdditionalAddresses, UpdateSaAddresses, Cookie2, NoNatsAllowed, UnacceptableAddresses, UnexpectedNatDetected, OtherError, OtherStatus}
+use Rattle.notify.specs.declared.notify.NotifyKind.{NotifyKind}
+use Rattle.notify.specs.declared.notify.NotifyKind.the-variants.{NatDetectionSource, NatDetectionDestination}
+use Rattle.notify.specs.declared.notify.NotifyKind.the-variants.{MobikeSupported, AdditionalIp4, AdditionalIp6}
+use Rattle.notify.specs.declared.notify.NotifyKind.the-variants.{NoAdditionalAddresses, UpdateSaAddresses, Cookie2}
+use Rattle.notify.specs.declared.notify.NotifyKind.the-variants.{NoNatsAllowed, UnacceptableAddresses}
+use Rattle.notify.specs.declared.notify.NotifyKind.the-variants.{UnexpectedNatDetected, OtherError, OtherStatus}
 use Rattle.payload.specs.declared.payload.Content.the-variants.{Skipped, Unknown as UnknownPayload, Notify}
 use Rattle.payload.specs.declared.payload.Fault.the-variants.{Leftover}
 use Rattle.payload.specs.declared.payload.Found.{Found}
@@ -27,7 +33,7 @@ use Rattle.exchange.proofs.Notifies.{AllFit, notifyChain}
 use Rattle.exchange.proofs.Places.{high, low, here, on, be16-on}
 
 abbrev pub rankOf : Notification → ℕ
-rankOf x = rank (kindOf (x .number))
+rankOf x = rank (kindOf (x .notifyType))
 
 -- The notifications have the writer's order, behind one of rank `last` (0: none).
 abbrev pub ranked : ℕ → List Notification → Bool
@@ -40,7 +46,7 @@ AllOctets (x ∷ xs) = Octets (x .octets) × AllOctets xs
 
 -- what a Notify with its kind, number and data's length was read from
 record ReadFrom (first : ℕ) (body : List ℕ) (at size : ℕ) (kind : NotifyKind) (number len : ℕ) : Type 0 where
-  type : first ≡ 41
+  type : first ≡ notifyPayload
   whole : size ≡ be16 body (at + 2)
   header : 8 ≤ size
   known : kind ≡ kindOf number
@@ -64,12 +70,12 @@ module _ (first : ℕ) (body : List ℕ) (at : ℕ) where
       let spi = getD body (at + 5) 0 in
       chosen Told (ltb (length body - at) 4) (λ e. tt)
       (λ e. chosen Told (ltb size 4 || ltb (length body - at) size) (λ e. tt)
-      (λ e. chosen Told (eqb first 41)
+      (λ e. chosen Told (eqb first notifyPayload)
       (λ t. chosen Told (ltb size 8 || ltb (size - 8) spi) (λ e. tt)
       (λ h. chosen Told (spiFits (kindOf number) spi)
       (λ s. chosen Told (dataFits (kindOf number) (size - 8 - spi))
       (λ e. record {
-        type = eqb-true first 41 t;
+        type = eqb-true first notifyPayload t;
         whole = refl;
         header = ltb-false size 8 (neither (ltb size 8) (ltb (size - 8) spi) h .0);
         known = refl;
@@ -83,17 +89,27 @@ module _ (first : ℕ) (body : List ℕ) (at : ℕ) where
       (λ e. chosen Told (leb 128 (getD body (at + 1) 0)) (λ e. tt) (λ e. tt)))))
 
 -- the octets of a Notify whose sizes are as its octets say
-notify-of : (next h l nh nl : ℕ) (octets : List ℕ) → l < 256 → nl < 256 → 8 + length octets ≡ h * 256 + l
+notify-of : (next h l nh nl : ℕ) (octets : List ℕ) → l < 256 → nl < 256 → notifyHeader + length octets ≡ h * 256 + l
     → notifyOctets next (nh * 256 + nl) octets ≡ next ∷ 0 ∷ h ∷ l ∷ 0 ∷ 0 ∷ nh ∷ nl ∷ octets
 unfolding notifyOctets
 notify-of next h l nh nl octets sl sn e = rw (e, high h l sl, low h l sl, high nh nl sn, low nh nl sn)
 
-eight : (body : List ℕ) (at : ℕ) → at + 8 ≤ length body
+eight : (body : List ℕ) (at : ℕ) → at + notifyHeader ≤ length body
     → drop at body
     ≡ getD body at 0 ∷ getD body (at + 1) 0 ∷ getD body (at + 2) 0 ∷ getD body (at + 3) 0
-    ∷ getD body (at + 4) 0 ∷ getD body (at + 5) 0 ∷ getD body (at + 6) 0 ∷ getD body (at + 7) 0 ∷ drop (at + 8) body
+    ∷ getD body (at + 4) 0 ∷ getD body (at + 5) 0 ∷ getD body (at + 6) 0 ∷ getD body (at + 7) 0 ∷ drop
+    (at + notifyHeader) body
 eight body at h =
-    rw (here body at (omega arith), next 1 (omega arith), next 2 (omega arith), next 3 (omega arith), next 4 (omega arith), next 5 (omega arith), next 6 (omega arith), next 7 (omega arith))
+    rw (
+      here body at (omega arith),
+      next 1 (omega arith),
+      next 2 (omega arith),
+      next 3 (omega arith),
+      next 4 (omega arith),
+      next 5 (omega arith),
+      next 6 (omega arith),
+      next 7 (omega arith),
+    )
   where
     next : (k : ℕ) → at + k < length body → drop (at + k) body ≡ getD body (at + k) 0 ∷ drop (at + (k + 1)) body
     next = on body at
@@ -106,11 +122,13 @@ pub follows : (last next : ℕ) → mayFollow last next ≡ true → after last 
 follows last next = go (ltb last next) refl
   where
     go : (b : Bool) → ltb last next ≡ b → b || (eqb last 6 && eqb next 6) ≡ true → after last ≤ next
-    go true l e = let h = ltb-true last next l in chosen (λ n. n ≤ next) (eqb last 6) (λ s. omega (arith, eqb-true last 6 s)) (λ s. omega arith)
+    go true l e = let h = ltb-true last next l in
+        chosen (λ n. n ≤ next) (eqb last 6) (λ s. omega (arith, eqb-true last 6 s)) (λ s. omega arith)
     go false l e = let s = both (eqb last 6) (eqb next 6) e in rw (s .0) (omega (arith, eqb-true next 6 (s .1)))
 
 pub after-more : (last : ℕ) → (last ≤ after last) × (0 < after last)
-after-more last = chosen (λ n. (last ≤ n) × (0 < n)) (eqb last 6) (λ s. omega (arith, eqb-true last 6 s)) (λ s. omega arith)
+after-more last = chosen (λ n. (last ≤ n) × (0 < n)) (eqb last 6) (λ s. omega (arith, eqb-true last 6 s))
+    (λ s. omega arith)
 
 -- an unknown kind has no rank
 known-ranks : (k : NotifyKind) → isUnknown k && ltb 0 (rank k) ≡ false
@@ -148,7 +166,7 @@ pub record Parsed (body : List ℕ) (first at last : ℕ) : Type 0 where
 
 -- the data of a Notify with no SPI at `at`
 abbrev dataAt : List ℕ → ℕ → ℕ → List ℕ
-dataAt body at len = take len (drop (at + 8) body)
+dataAt body at len = take len (drop (at + notifyHeader) body)
 
 bytes-taken : (n : ℕ) (l : List ℕ) → Octets l → Octets (take n l)
 bytes-taken zero l o i = omega arith
@@ -172,27 +190,30 @@ module _ (body : List ℕ) (bytes : Octets body) (first at last : ℕ) (inside :
       }
 
   -- a notification that may follow, with zero fields, and the rest behind it
-  module _ (size : ℕ) (kind : NotifyKind) (number len : ℕ) (found : payloadAt first body at ≡ Payload size (Notify kind number len))
+  module _ (size : ℕ) (kind : NotifyKind) (number len : ℕ) (found : payloadAt first body at
+      ≡ Payload size (Notify kind number len))
       (zeros : zeroFields body at ≡ true) (follow : mayFollow last (rank kind) ≡ true) where
     facts : ReadFrom first body at size kind number len
     facts = rw found at (told first body at)
 
     no-spi-here : getD body (at + 5) 0 ≡ 0
-    no-spi-here = no-spi kind (getD body (at + 5) 0) (facts .spi) (omega (arith, follows last (rank kind) follow, after-more last))
+    no-spi-here = no-spi kind (getD body (at + 5) 0) (facts .spi)
+        (omega (arith, follows last (rank kind) follow, after-more last))
 
     fits-here : (at + size ≤ length body) × (dataFits kind len ≡ true)
     fits-here = let t = takes first body at inside size (Notify kind number len) found in (t .1, t .2)
 
-    size-is : 8 + len ≡ size
+    size-is : notifyHeader + len ≡ size
     size-is = omega (arith, facts, no-spi-here)
 
     data-length : length (dataAt body at len) ≡ len
-    data-length = length-take-le len (drop (at + 8) body) (rw (length-drop (at + 8) body) (omega (arith, fits-here, size-is)))
+    data-length = length-take-le len (drop (at + notifyHeader) body)
+        (rw (length-drop (at + notifyHeader) body) (omega (arith, fits-here, size-is)))
 
-    data-rest : drop (at + 8) body ≡ dataAt body at len ++ drop (at + size) body
+    data-rest : drop (at + notifyHeader) body ≡ dataAt body at len ++ drop (at + size) body
     data-rest =
-        let e : at + size ≡ at + 8 + len = omega (arith, size-is) in
-        rw (e, ← drop-drop len (at + 8) body) (sym (take-append-drop len (drop (at + 8) body)))
+        let e : at + size ≡ at + notifyHeader + len = omega (arith, size-is) in
+        rw (e, ← drop-drop len (at + notifyHeader) body) (sym (take-append-drop len (drop (at + notifyHeader) body)))
 
     octets-here : drop at body ≡ notifyOctets (getD body at 0) number (dataAt body at len) ++ drop (at + size) body
     octets-here =
@@ -200,7 +221,8 @@ module _ (body : List ℕ) (bytes : Octets body) (first at last : ℕ) (inside :
         rw (
           facts .named,
           be16-on body at 6,
-          notify-of (getD body at 0) (getD body (at + 2) 0) (getD body (at + 3) 0) (getD body (at + 6) 0) (getD body (at + 7) 0) (dataAt body at len)
+          notify-of (getD body at 0) (getD body (at + 2) 0) (getD body (at + 3) 0) (getD body (at + 6) 0)
+              (getD body (at + 7) 0) (dataAt body at len)
               (bytes (at + 3)) (bytes (at + 7)) (omega (arith, data-length, size-is, facts, be16-on body at 2)),
           eight body at (omega (arith, fits-here, size-is)),
           eqb-true (getD body (at + 1) 0) 0 (z .0),
@@ -227,7 +249,11 @@ module _ (body : List ℕ) (bytes : Octets body) (first at last : ℕ) (inside :
               )
               (ap (payload at (Notify kind number len)) (rest .chain));
           fit = (rw (data-length, ← facts .known) (fits-here .1), rest .fit);
-          bytes = (bytes-taken len (drop (at + 8) body) (λ i. rw (getD-drop (at + 8) body i 0) (bytes (at + 8 + i))), rest .bytes);
+          bytes = (
+            bytes-taken len (drop (at + notifyHeader) body)
+                (λ i. rw (getD-drop (at + notifyHeader) body i 0) (bytes (at + notifyHeader + i))),
+            rest .bytes,
+          );
           order = rw (← facts .known, follow) (rest .order);
         }
 
@@ -239,14 +265,16 @@ parse (suc n) body first at last bytes inside h e =
     go (eqb first 0) refl (payloadAt first body at) refl (rw (chain-step first body at inside) at e)
     (λ size. parse n body (getD body at 0) (at + size))
   where
-    end : (b : Bool) → eqb at (length body) ≡ b → first ≡ 0 → inOrder body last (cond b ends (faulty Leftover at)) ≡ true → Parsed body first at last
+    end : (b : Bool) → eqb at (length body) ≡ b → first ≡ 0 → inOrder body last (cond b ends (faulty Leftover at))
+        ≡ true → Parsed body first at last
     end true t z e = at-end body bytes first at last inside z (eqb-true at (length body) t)
     end false t z e = absurd (false≢true e)
 
     go : (b : Bool) → eqb first 0 ≡ b → (x : Found) → payloadAt first body at ≡ x
         → inOrder body last (cond b (chainEnd body at) (link (chainAt body (getD body at 0)) at x)) ≡ true
         → ((size next : ℕ) → Octets body → at + size ≤ length body → length body - (at + size) < n
-        → inOrder body next (chainAt body (getD body at 0) (at + size)) ≡ true → Parsed body (getD body at 0) (at + size) next)
+        → inOrder body next (chainAt body (getD body at 0) (at + size)) ≡ true
+        → Parsed body (getD body at 0) (at + size) next)
         → Parsed body first at last
     go true z x p e r = end (eqb at (length body)) refl (eqb-true first 0 z) e
     go false z (Faulty f) p e r = absurd (false≢true e)
@@ -262,4 +290,5 @@ parse (suc n) body first at last bytes inside h e =
 -- A chain in order is notifications one behind the other.
 pub parsed : (body : List ℕ) (first at last : ℕ) → Octets body → at ≤ length body
     → inOrder body last (chainAt body first at) ≡ true → Parsed body first at last
-parsed body first at last bytes inside e = parse (suc (length body - at)) body first at last bytes inside (omega arith) e
+parsed body first at last bytes inside e = parse (suc (length body - at)) body first at last bytes inside
+    (omega arith) e

@@ -8,8 +8,10 @@ use native.Mathlib.Omega.{arith}
 use borrow.Author.Tests.{eq-eqb, le-ltb}
 use lib.ListN.{length, getD, length-append}
 use lib.Seq.{getD-append-add, getD-append-seam}
+use Rattle.octets.specs.Limits.{payloadHeader, notifyHeader}
+use Rattle.octets.specs.Wire.{notifyPayload}
 use Rattle.octets.specs.Octets.{be16}
-use Rattle.payload.specs.Notify.{kindOf, dataFits}
+use Rattle.notify.specs.Notify.{kindOf, dataFits}
 use Rattle.payload.specs.Payload.{payloadAt, sized, notifyAt}
 use Rattle.payload.specs.declared.payload.Content.the-variants.{Notify}
 use Rattle.payload.specs.declared.payload.Found.the-variants.{Payload}
@@ -27,9 +29,10 @@ module _ (front : List ℕ) (next number : ℕ) (octets rest : List ℕ) where
   abbrev Body : List ℕ
   Body = front ++ (notifyOctets next number octets ++ rest)
 
-  size-read : be16 Body (length front + 2) ≡ 8 + length octets
+  size-read : be16 Body (length front + 2) ≡ notifyHeader + length octets
   unfolding notifyOctets
-  size-read = be16-behind front (notifyOctets next number octets ++ rest) 2 ∙ div-add-mod' (8 + length octets) 256
+  size-read = be16-behind front (notifyOctets next number octets ++ rest) 2
+      ∙ div-add-mod' (notifyHeader + length octets) 256
 
   number-read : be16 Body (length front + 6) ≡ number
   unfolding notifyOctets
@@ -43,25 +46,26 @@ module _ (front : List ℕ) (next number : ℕ) (octets rest : List ℕ) where
   unfolding notifyOctets
   next-read = getD-append-seam front next _ 0
 
-  pub length-body : length Body ≡ length front + (8 + length octets + length rest)
+  pub length-body : length Body ≡ length front + (notifyHeader + length octets + length rest)
   length-body = simp (length-append, length-notify)
 
   -- one notification between other octets is read as itself
   pub payload-of : dataFits (kindOf number) (length octets) ≡ true
-      → payloadAt 41 Body (length front) ≡ Payload (8 + length octets) (Notify (kindOf number) number (length octets))
+      → payloadAt notifyPayload Body (length front)
+      ≡ Payload (notifyHeader + length octets) (Notify (kindOf number) number (length octets))
   unfolding payloadAt sized notifyAt
   payload-of fits =
-      let left : 8 + length octets - 8 - 0 ≡ length octets = omega arith in
+      let left : notifyHeader + length octets - notifyHeader - 0 ≡ length octets = omega arith in
       rw (
         size-read,
         number-read,
         spi-read,
         left,
         le-ltb (length Body - length front) 4 (omega (arith, length-body)),
-        le-ltb (length Body - length front) (8 + length octets) (omega (arith, length-body)),
-        le-ltb (8 + length octets) 4 (omega arith),
-        le-ltb (8 + length octets) 8 (omega arith),
-        le-ltb (8 + length octets - 8) 0 (omega arith),
+        le-ltb (length Body - length front) (notifyHeader + length octets) (omega (arith, length-body)),
+        le-ltb (notifyHeader + length octets) payloadHeader (omega arith),
+        le-ltb (notifyHeader + length octets) notifyHeader (omega arith),
+        le-ltb (notifyHeader + length octets - notifyHeader) 0 (omega arith),
         fits,
       )
 
@@ -72,13 +76,14 @@ unfolding chained
 chain-of [] fits front =
     rw (append-nil front, chain-step 0 front (length front) (omega arith), eq-eqb (length front) (length front) refl)
 chain-of (x ∷ xs) fits front =
-    let first = notifyOctets (firstType xs 0) (x .number) (x .octets) in
+    let first = notifyOctets (firstType xs 0) (x .notifyType) (x .octets) in
     let inside : length front ≤ length (front ++ (first ++ chained xs 0)) = rw length-append (omega arith) in
-    let more : length front + (8 + length (x .octets)) ≡ length (front ++ first) = simp (length-append, length-notify) in
+    let more : length front + (notifyHeader + length (x .octets)) ≡ length (front ++ first) =
+    simp (length-append, length-notify) in
     rw (
-      chain-step 41 _ _ inside,
-      payload-of front (firstType xs 0) (x .number) (x .octets) (chained xs 0) (fits .0),
-      next-read front (firstType xs 0) (x .number) (x .octets) (chained xs 0),
+      chain-step notifyPayload _ _ inside,
+      payload-of front (firstType xs 0) (x .notifyType) (x .octets) (chained xs 0) (fits .0),
+      next-read front (firstType xs 0) (x .notifyType) (x .octets) (chained xs 0),
       more,
       ← append-assoc front first (chained xs 0),
     )

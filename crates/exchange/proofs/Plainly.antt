@@ -7,18 +7,23 @@ use native.Mathlib.Omega.{arith}
 use borrow.Author.Tests.{eqb-true, not-false, leb-true, ne-eqb}
 use lib.Dec.{eqb}
 use lib.ListN.{length}
+use Rattle.octets.specs.Limits.{addressesMost, notifyHeader}
 use Rattle.octets.proofs.Small.{both, neither}
-use Rattle.payload.specs.Notify.{kindOf}
-use Rattle.payload.specs.declared.notify.NotifyKind.{NotifyKind}
-use Rattle.payload.specs.declared.notify.NotifyKind.the-variants.{NatDetectionSource, NatDetectionDestination, MobikeSupported, AdditionalIp4, AdditionalIp6, NoAdditionalAddresses, UpdateSaAddresses, Cookie2, NoNatsAllowed, UnacceptableAddresses, UnexpectedNatDetected, OtherError, OtherStatus}
+use Rattle.notify.specs.Notify.{kindOf}
+use Rattle.notify.specs.declared.notify.NotifyKind.{NotifyKind}
+use Rattle.notify.specs.declared.notify.NotifyKind.the-variants.{NatDetectionSource, NatDetectionDestination}
+use Rattle.notify.specs.declared.notify.NotifyKind.the-variants.{MobikeSupported, AdditionalIp4, AdditionalIp6}
+use Rattle.notify.specs.declared.notify.NotifyKind.the-variants.{NoAdditionalAddresses, UpdateSaAddresses, Cookie2}
+use Rattle.notify.specs.declared.notify.NotifyKind.the-variants.{NoNatsAllowed, UnacceptableAddresses}
+use Rattle.notify.specs.declared.notify.NotifyKind.the-variants.{UnexpectedNatDetected, OtherError, OtherStatus}
 use Rattle.payload.specs.declared.payload.Fault.the-variants.{Conflict}
 use Rattle.findings.specs.Seen.{nothingSeen, counted, withTally, noted, contentNoted, repeats}
 use Rattle.findings.specs.declared.seen.Seen.{Seen}
 use Rattle.writing.specs.Notify.{Notification, firstType}
-use Rattle.reader.specs.Chain.{Scan, chainAt, stopped, scanned, reading}
-use Rattle.reader.specs.declared.read.Outcome.the-variants.{Whole, Broken}
+use Rattle.reader.specs.Chain.{Scan, chainAt, Whole, Broken, stopped, scanned, reading}
 use Rattle.reader.proofs.Whole.{read-whole}
-use Rattle.asking.specs.Request.{Request, requested, requestOctets, requestFits}
+use Rattle.asking.specs.Draft.{Draft, requested, requestOctets}
+use Rattle.asking.specs.Fits.{requestFits}
 use Rattle.exchange.specs.Plain.{rank, inOrder, natsPaired, plainlyRead}
 use Rattle.exchange.specs.RoundTrips.{Octets, Sized, askedFor}
 use Rattle.exchange.proofs.Notifies.{contentOf, notifyChain}
@@ -34,7 +39,8 @@ there place = not (eqb place 0)
 abbrev Apart : Seen → Type 0
 Apart s = s .«no_additional» ≡ true → s .list .count ≡ 0
 
--- What is seen in `t` more than in `s`: n addresses, and if so a NAT source, a NAT destination, NO_ADDITIONAL_ADDRESSES.
+-- What is seen in `t` more than in `s`: n addresses, and if so a NAT source, a NAT destination,
+-- NO_ADDITIONAL_ADDRESSES.
 record More (s t : Seen) (n : ℕ) (a b c : Bool) : Type 0 where
   count : t .list .count ≡ n + s .list .count
   source : there (t .«nat_source») ≡ a || there (s .«nat_source»)
@@ -42,13 +48,13 @@ record More (s t : Seen) (n : ℕ) (a b c : Bool) : Type 0 where
   none : t .«no_additional» ≡ c || s .«no_additional»
   apart : Apart s → Apart t
 
-placed : (at : ℕ) → there (at + 8) ≡ true
-placed at = rw (ne-eqb (at + 8) 0 (omega arith))
+placed : (at : ℕ) → there (at + notifyHeader) ≡ true
+placed at = rw (ne-eqb (at + notifyHeader) 0 (omega arith))
 
-placed-once : (place at : ℕ) → there (cond (eqb place 0) (at + 8) place) ≡ true
+placed-once : (place at : ℕ) → there (cond (eqb place 0) (at + notifyHeader) place) ≡ true
 placed-once place at = go (eqb place 0) refl
   where
-    go : (b : Bool) → eqb place 0 ≡ b → there (cond b (at + 8) place) ≡ true
+    go : (b : Bool) → eqb place 0 ≡ b → there (cond b (at + notifyHeader) place) ≡ true
     go true e = placed at
     go false e = rw e
 
@@ -60,7 +66,8 @@ none-there b n e = eqb-true n 0 (not-false (eqb n 0) (neither b (there n) e .1))
 
 -- one notification that doesn't conflict
 one-more : (s : Seen) (k : NotifyKind) (number at len : ℕ) → repeats s k ≡ false
-    → More s (noted (withTally s (counted (s .tally) 0)) k number (at + 8) len) (cond (eqb (rank k) 6) 1 0) (eqb (rank k) 3) (eqb (rank k) 4) (eqb (rank k) 5)
+    → More s (noted (withTally s (counted (s .tally) 0)) k number (at + notifyHeader) len) (cond (eqb (rank k) 6) 1 0)
+    (eqb (rank k) 3) (eqb (rank k) 4) (eqb (rank k) 5)
 unfolding noted
 one-more s NatDetectionSource number at len e = search (arith, placed-once)
 one-more s NatDetectionDestination number at len e = search (arith, placed)
@@ -94,14 +101,17 @@ module _ (x : Notification) (ys : List Notification) where
 more : (xs : List Notification) (s t : Seen) (at : ℕ) → scanned s (notifyChain at xs) ≡ stopped Whole t → MoreBy s t xs
 unfolding scanned contentNoted
 more [] s t at e = let same : s ≡ t = ap (λ (r : Scan). r .seen) e in rw (← same) (search arith)
-more (x ∷ xs) s t at e = go (repeats s (kindOf (x .number))) refl e (more xs next t (at + (8 + length (x .octets))))
+more (x ∷ xs) s t at e =
+    go (repeats s (kindOf (x .notifyType))) refl e (more xs next t (at + (notifyHeader + length (x .octets))))
   where
     next : Seen
-    next = contentNoted s (contentOf x) (at + 8)
+    next = contentNoted s (contentOf x) (at + notifyHeader)
 
-    go : (b : Bool) → repeats s (kindOf (x .number)) ≡ b
-        → cond b (stopped (Broken Conflict at) s) (scanned next (notifyChain (at + (8 + length (x .octets))) xs)) ≡ stopped Whole t
-        → (scanned next (notifyChain (at + (8 + length (x .octets))) xs) ≡ stopped Whole t → MoreBy next t xs)
+    go : (b : Bool) → repeats s (kindOf (x .notifyType)) ≡ b
+        → cond b (stopped (Broken Conflict at) s)
+        (scanned next (notifyChain (at + (notifyHeader + length (x .octets))) xs)) ≡ stopped Whole t
+        → (scanned next (notifyChain (at + (notifyHeader + length (x .octets))) xs) ≡ stopped Whole t
+        → MoreBy next t xs)
         → MoreBy s t (x ∷ xs)
     go true r e h =
         let o : Broken Conflict at ≡ Whole = ap (λ (r : Scan). r .outcome) e in
@@ -109,7 +119,7 @@ more (x ∷ xs) s t at e = go (repeats s (kindOf (x .number))) refl e (more xs n
         absurd (omega arith)
     go false r e h =
         let m = h e in
-        let o = one-more s (kindOf (x .number)) (x .number) at (length (x .octets)) r in
+        let o = one-more s (kindOf (x .notifyType)) (x .notifyType) at (length (x .octets)) r in
         record {
           count = summed x (only 6 xs) (eqb (rankOf x) 6) _ _ _ (o .count) (m .count);
           source = added x (only 3 xs) (eqb (rankOf x) 3) _ _ _ (o .source) (m .source);
@@ -127,7 +137,7 @@ alike false false e = refl
 
 -- the request that writes a chain, with its first type and its octets
 pub record WrittenBy (first : ℕ) (body : List ℕ) : Type 0 where
-  pub q : Request
+  pub q : Draft
   pub sized : Sized q
   pub fits : requestFits q ≡ true
   pub starts : first ≡ firstType (requested q) 0
@@ -143,12 +153,24 @@ plain-request first body bytes e =
     let c = both (natsPaired seen) _ (b .1) in
     let p = parsed body first 0 0 bytes (omega arith) (b .0) in
     let xs = p .xs in
-    let m = more xs nothingSeen seen 0 (rw (p .chain) at (read-whole first body (eqb-true (reading first body .number) 0 (a .0)))) in
+    let m = more xs nothingSeen seen 0
+    (rw (p .chain) at (read-whole first body (eqb-true (reading first body .number) 0 (a .0)))) in
     let source : there (seen .«nat_source») ≡ asked (only 3 xs) = m .source ∙ or-false (asked (only 3 xs)) in
-    let destination : there (seen .«nat_destination») ≡ asked (only 4 xs) = m .destination ∙ or-false (asked (only 4 xs)) in
+    let destination : there (seen .«nat_destination») ≡ asked (only 4 xs) = m .destination
+    ∙ or-false (asked (only 4 xs)) in
     let none : seen .«no_additional» ≡ asked (only 5 xs) = m .none ∙ or-false (asked (only 5 xs)) in
-    let paired = sym source ∙ alike (eqb (seen .«nat_source») 0) (eqb (seen .«nat_destination») 0) (c .0) ∙ destination in
-    let few : length (only 6 xs) ≤ 16 = omega (arith, m .count, leb-true (seen .list .count) 16 (c .1)) in
-    let apart : asked (only 5 xs) ≡ true → length (only 6 xs) ≡ 0 = λ h. omega (arith, m .count, m .apart (λ z. refl) (none ∙ h)) in
+    let paired = sym source ∙ alike (eqb (seen .«nat_source») 0) (eqb (seen .«nat_destination») 0) (c .0)
+    ∙ destination in
+    let few : length (only 6 xs) ≤ addressesMost =
+    omega (arith, m .count, leb-true (seen .list .count) addressesMost (c .1)) in
+    let apart : asked (only 5 xs) ≡ true → length (only 6 xs)
+    ≡ 0 = λ h. omega (arith, m .count, m .apart (λ z. refl) (none ∙ h)) in
     let r = asked-for xs (sorted xs 0 (p .order) (p .fit) (p .bytes)) paired few apart in
-    record { q = r .q; sized = r .sized; fits = r .fits; starts = rw (r .is) (p .starts); octets = rw (r .is) (p .octets); normal = r .normal }
+    record {
+      q = r .q;
+      sized = r .sized;
+      fits = r .fits;
+      starts = rw (r .is) (p .starts);
+      octets = rw (r .is) (p .octets);
+      normal = r .normal;
+    }

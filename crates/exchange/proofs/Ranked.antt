@@ -8,11 +8,14 @@ use native.Mathlib.Decide.{decLt}
 use borrow.Author.Tests.{eqb-true, eq-eqb, ne-eqb, le-leb, lt-leb}
 use lib.Dec.{eqb, leb, ltb}
 use lib.ListN.{length}
+use Rattle.octets.specs.Wire.{additionalIp4Address, additionalIp6Address, noAdditionalAddresses, updateSaAddresses}
+use Rattle.octets.specs.Wire.{cookie2, noNatsAllowed, natDetectionSourceIp, natDetectionDestinationIp}
+use Rattle.octets.specs.Wire.{mobikeSupported, firstStatus, unacceptableAddresses, unexpectedNatDetected}
 use Rattle.octets.proofs.Small.{both, chosen}
-use Rattle.payload.specs.Notify.{kindOf, dataFits}
-use Rattle.payload.specs.declared.notify.NotifyKind.{NotifyKind}
+use Rattle.notify.specs.Notify.{kindOf, dataFits}
+use Rattle.notify.specs.declared.notify.NotifyKind.{NotifyKind}
 use Rattle.writing.specs.Notify.{Notification, notification}
-use Rattle.asking.specs.Request.{ifAsked}
+use Rattle.asking.specs.Draft.{ifAsked}
 use Rattle.exchange.specs.Plain.{rank, mayFollow}
 use Rattle.exchange.specs.RoundTrips.{Octets}
 use Rattle.exchange.proofs.Notifies.{AllFit}
@@ -30,7 +33,7 @@ module _ {A : Type 0} where
 
 -- data that fits, and that are octets
 abbrev pub Good : Notification → Type 0
-Good x = (dataFits (kindOf (x .number)) (length (x .octets)) ≡ true) × Octets (x .octets)
+Good x = (dataFits (kindOf (x .notifyType)) (length (x .octets)) ≡ true) × Octets (x .octets)
 
 -- of rank r
 abbrev pub Of : ℕ → Notification → Type 0
@@ -41,7 +44,8 @@ abbrev pub Sorted : ℕ → List Notification → Type 0
 Sorted low [] = Unit {0}
 Sorted low (x ∷ xs) = (low ≤ rankOf x) × Good x × Sorted (after (rankOf x)) xs
 
-pub sorted : (xs : List Notification) (last : ℕ) → ranked last xs ≡ true → AllFit xs → AllOctets xs → Sorted (after last) xs
+pub sorted : (xs : List Notification) (last : ℕ) → ranked last xs ≡ true → AllFit xs → AllOctets xs
+    → Sorted (after last) xs
 sorted [] last r f o = tt
 sorted (x ∷ xs) last r f o =
     let t = both (mayFollow last (rankOf x)) (ranked (rankOf x) xs) r in
@@ -68,7 +72,8 @@ module _ (r : ℕ) where
   only-none : (xs : List Notification) (low : ℕ) → Sorted low xs → r < low → only r xs ≡ []
   only-none [] low s h = refl
   only-none (x ∷ xs) low s h =
-      rw (ne-eqb (rankOf x) r (omega arith)) (only-none xs (after (rankOf x)) (s .2) (omega (arith, after-more (rankOf x))))
+      rw (ne-eqb (rankOf x) r (omega arith))
+      (only-none xs (after (rankOf x)) (s .2) (omega (arith, after-more (rankOf x))))
 
   only-one : (xs : List Notification) (low : ℕ) → Sorted low xs → (r ≡ 6 → ⊥) → length (only r xs) ≤ 1
   only-one [] low s h = omega arith
@@ -87,25 +92,33 @@ module _ (r : ℕ) where
     where
       go : Dec (rankOf x < r) → Dec (r < rankOf x) → from r xs ≡ only r xs ++ from (suc r) xs
           → from r (x ∷ xs) ≡ only r (x ∷ xs) ++ from (suc r) (x ∷ xs)
-      go (yes h) d i = rw (lt-leb r (rankOf x) h, ne-eqb (rankOf x) r (omega arith), lt-leb (suc r) (rankOf x) (omega arith)) i
+      go (yes h) d i = rw (
+        lt-leb r (rankOf x) h,
+        ne-eqb (rankOf x) r (omega arith),
+        lt-leb (suc r) (rankOf x) (omega arith),
+      ) i
       go (no h) (yes k) i =
           let none = only-none xs (after (rankOf x)) (s .2) (omega (arith, after-more (rankOf x))) in
           rw (le-leb r (rankOf x) (omega arith), ne-eqb (rankOf x) r (omega arith), le-leb (suc r) (rankOf x) k, none)
           (ap (λ (l : List Notification). x ∷ l) (rw none at i))
       go (no h) (no k) i =
-          rw (le-leb r (rankOf x) (omega arith), eq-eqb (rankOf x) r (omega arith), lt-leb (suc r) (rankOf x) (omega arith))
+          rw (
+            le-leb r (rankOf x) (omega arith),
+            eq-eqb (rankOf x) r (omega arith),
+            lt-leb (suc r) (rankOf x) (omega arith),
+          )
           (ap (λ (l : List Notification). x ∷ l) i)
 
 -- the numbers that have a rank: one for each, but two for rank 6
 abbrev pub lowest : ℕ → ℕ
 lowest r =
-    cond (eqb r 1) 16400
-    (cond (eqb r 2) 16402
-    (cond (eqb r 3) 16388
-    (cond (eqb r 4) 16389
-    (cond (eqb r 5) 16399
-    (cond (eqb r 6) 16397
-    16401)))))
+    cond (eqb r 1) updateSaAddresses
+    (cond (eqb r 2) noNatsAllowed
+    (cond (eqb r 3) natDetectionSourceIp
+    (cond (eqb r 4) natDetectionDestinationIp
+    (cond (eqb r 5) noAdditionalAddresses
+    (cond (eqb r 6) additionalIp4Address
+    cookie2)))))
 
 record Numbered (n : ℕ) (k : NotifyKind) : Type 0 where
   small : rank k ≤ 7
@@ -116,9 +129,13 @@ record Numbered (n : ℕ) (k : NotifyKind) : Type 0 where
 numbered : (n : ℕ) → Numbered n (kindOf n)
 unfolding kindOf
 numbered n =
-    test 16388 (omega arith) (test 16389 (omega arith) (test 16396 (omega arith) (test 16397 (omega arith) (test 16398 (omega arith)
-    (test 16399 (omega arith) (test 16400 (omega arith) (test 16401 (omega arith) (test 16402 (omega arith)
-    (test 40 (omega arith) (test 41 (omega arith) (chosen (Numbered n) (ltb n 16384) (λ e. omega arith) (λ e. omega arith))))))))))))
+    test natDetectionSourceIp (omega arith) (test natDetectionDestinationIp (omega arith)
+    (test mobikeSupported (omega arith)
+    (test additionalIp4Address (omega arith) (test additionalIp6Address (omega arith)
+    (test noAdditionalAddresses (omega arith)
+    (test updateSaAddresses (omega arith) (test cookie2 (omega arith) (test noNatsAllowed (omega arith)
+    (test unacceptableAddresses (omega arith) (test unexpectedNatDetected (omega arith)
+    (chosen (Numbered n) (ltb n firstStatus) (λ e. omega arith) (λ e. omega arith))))))))))))
   where
     test : (m : ℕ) {x y : NotifyKind} → Numbered m x → Numbered n y → Numbered n (cond (eqb n m) x y)
     test m p q = chosen (Numbered n) (eqb n m) (λ e. rw (eqb-true n m e) p) (λ e. q)
@@ -126,22 +143,25 @@ numbered n =
 from-all : (xs : List Notification) (low : ℕ) → Sorted low xs → 0 < low → from 1 xs ≡ xs
 from-all [] low s h = refl
 from-all (x ∷ xs) low s h =
-    rw (le-leb 1 (rankOf x) (omega arith)) (ap (λ (l : List Notification). x ∷ l) (from-all xs (after (rankOf x)) (s .2) (omega (arith, after-more (rankOf x)))))
+    rw (le-leb 1 (rankOf x) (omega arith)) (ap (λ (l : List Notification). x ∷ l)
+    (from-all xs (after (rankOf x)) (s .2) (omega (arith, after-more (rankOf x)))))
 
 from-none : (xs : List Notification) → from 8 xs ≡ []
 from-none [] = refl
-from-none (x ∷ xs) = rw (lt-leb 8 (rankOf x) (omega (arith, numbered (x .number)))) (from-none xs)
+from-none (x ∷ xs) = rw (lt-leb 8 (rankOf x) (omega (arith, numbered (x .notifyType)))) (from-none xs)
 
 pub by-rank : (xs : List Notification) → Sorted 1 xs
     → xs ≡ only 1 xs ++ (only 2 xs ++ (only 3 xs ++ (only 4 xs ++ (only 5 xs ++ (only 6 xs ++ only 7 xs)))))
-by-rank xs s = sym (from-all xs 1 s (omega arith)) ∙ rw (on 1, on 2, on 3, on 4, on 5, on 6, on 7, from-none xs, append-nil (only 7 xs))
+by-rank xs s = sym (from-all xs 1 s (omega arith))
+    ∙ rw (on 1, on 2, on 3, on 4, on 5, on 6, on 7, from-none xs, append-nil (only 7 xs))
   where
     on : (r : ℕ) → from r xs ≡ only r xs ++ from (suc r) xs
     on r = split r xs 1 s
 
 -- what a rank says of the number
-pub number-of : (r : ℕ) (x : Notification) → rankOf x ≡ r → 0 < r → (lowest r ≤ x .number) × (x .number ≤ lowest r + cond (eqb r 6) 1 0)
-number-of r x e h = (rw e at (numbered (x .number) .least) h, rw e at (numbered (x .number) .most) h)
+pub number-of : (r : ℕ) (x : Notification) → rankOf x ≡ r → 0 < r
+    → (lowest r ≤ x .notifyType) × (x .notifyType ≤ lowest r + cond (eqb r 6) 1 0)
+number-of r x e h = (rw e at (numbered (x .notifyType) .least) h, rw e at (numbered (x .notifyType) .most) h)
 
 -- whether there is one, and the data of the first
 abbrev pub asked : List Notification → Bool
@@ -161,20 +181,24 @@ one n f (x ∷ y ∷ ys) h e = absurd (omega arith)
 
 -- Of a rank other than 6 there is one number, and at most one notification.
 module _ (xs : List Notification) (s : Sorted 1 xs) (r : ℕ) (some : 0 < r) (other : r ≡ 6 → ⊥) where
-  its-kind : (x : Notification) → Of r x → (x .number ≡ lowest r) × (dataFits (kindOf (lowest r)) (length (x .octets)) ≡ true) × Octets (x .octets)
+  its-kind : (x : Notification) → Of r x
+      → (x .notifyType ≡ lowest r) × (dataFits (kindOf (lowest r)) (length (x .octets)) ≡ true) × Octets (x .octets)
   its-kind x p =
       let z : _≡_ {A = ℕ} (cond (eqb r 6) 1 0) 0 = rw (ne-eqb r 6 other) in
-      let e : x .number ≡ lowest r = omega (arith, number-of r x (p .0) some) in
+      let e : x .notifyType ≡ lowest r = omega (arith, number-of r x (p .0) some) in
       (e, rw e at (p .1 .0), p .1 .1)
 
-  pub one-kind : (f : List ℕ → List ℕ) → ((o : List ℕ) → dataFits (kindOf (lowest r)) (length o) ≡ true → Octets o → o ≡ f o)
+  pub one-kind : (f : List ℕ → List ℕ)
+      → ((o : List ℕ) → dataFits (kindOf (lowest r)) (length o) ≡ true → Octets o → o ≡ f o)
       → only r xs ≡ ifAsked (asked (only r xs)) (notification (lowest r) (f (dataOf (only r xs))) ∷ [])
   one-kind f h =
       one (lowest r) f (only r xs) (only-one r xs 1 s other)
-      (each (only r xs) (λ x p. let k = its-kind x p in ap₂ notification (k .0) (h (x .octets) (k .1) (k .2))) (only-good r xs 1 s))
+      (each (only r xs) (λ x p. let k = its-kind x p in ap₂ notification (k .0) (h (x .octets) (k .1) (k .2)))
+      (only-good r xs 1 s))
 
   pub its-data : (P : Bool → List ℕ → Type 0) → P false []
-      → ((o : List ℕ) → dataFits (kindOf (lowest r)) (length o) ≡ true → Octets o → P true o) → P (asked (only r xs)) (dataOf (only r xs))
+      → ((o : List ℕ) → dataFits (kindOf (lowest r)) (length o) ≡ true → Octets o → P true o)
+      → P (asked (only r xs)) (dataOf (only r xs))
   its-data P z h = go (only r xs) (only-good r xs 1 s)
     where
       go : (ys : List Notification) → Each (Of r) ys → P (asked ys) (dataOf ys)

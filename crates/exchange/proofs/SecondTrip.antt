@@ -5,6 +5,7 @@ use mathlib.Core.List.{List, [], zipWith}
 use mathlib.Core.Bool.{true}
 use native.Mathlib.Omega.{arith}
 use lib.ListN.{length, getD, replicate}
+use Rattle.octets.specs.Limits.{addressesMost, addressOctets, requestRoom}
 use Rattle.octets.proofs.Pad.{length-copied, copied-at}
 use Rattle.octets.proofs.Zip.{length-zip, getD-zip}
 use Rattle.address.specs.Address.{widthOf}
@@ -17,7 +18,7 @@ use Rattle.writing.specs.Notify.{firstType}
 use Rattle.reader.specs.Chain.{reading}
 use Rattle.reader.proofs.Chain.{DataFits}
 use Rattle.reader.proofs.Kept.{kept}
-use Rattle.asking.specs.Request.{requested, requestOctets}
+use Rattle.asking.specs.Draft.{requested, requestOctets}
 use Rattle.requests.specs.declared.request.Written.{Written}
 use Rattle.exchange.specs.Plain.{plainlyRead}
 use Rattle.exchange.specs.RoundTrips.{given, Sized, Octets, WrittenAgain, WritingRead}
@@ -30,7 +31,8 @@ use Rattle.exchange.proofs.Data.{length-padded, pair-sized}
 use Rattle.exchange.proofs.Plainly.{plain-request}
 use Rattle.exchange.proofs.Ordered.{plain-again}
 
-content-sixteen : (s : Seen) (content : Content) (place : ℕ) → Sixteen (s .list) → DataFits content → Sixteen (contentNoted s content place .list)
+content-sixteen : (s : Seen) (content : Content) (place : ℕ) → Sixteen (s .list) → DataFits content
+    → Sixteen (contentNoted s content place .list)
 unfolding contentNoted
 content-sixteen s Skipped place h f = h
 content-sixteen s UnknownPayload place h f = h
@@ -45,17 +47,22 @@ module _ (first : ℕ) (body : List ℕ) where
       let l = reading first body .seen .list in
       let at = addressAt body in
       let all = zipWith at (l .places) (l .families) in
-      let long : length all ≡ 16 = length-zip at (l .places) (l .families) (sixteen .0 ∙ sym (sixteen .1)) ∙ sixteen .0 in
-      let pair = pair-sized (partOf body (reading first body .seen .«no_nats») (reading first body .seen .«no_nats_len»)) in
+      let long : length all ≡ addressesMost = length-zip at (l .places) (l .families) (sixteen .0 ∙ sym (sixteen .1))
+      ∙ sixteen .0 in
+      let pair = pair-sized
+      (partOf body (reading first body .seen .«no_nats») (reading first body .seen .«no_nats_len»)) in
       record {
         source = pair .0;
         destination = pair .1;
-        families = rw (families-in body l sixteen) (length-copied 0 (l .families) 16 (l .count) (sixteen .1));
+        families = rw (families-in body l sixteen)
+            (length-copied 0 (l .families) addressesMost (l .count) (sixteen .1));
         addresses = rw (octets-in body l sixteen) (octets-sixteen body l sixteen);
         octets =
             λ i h. rw (octets-in body l sixteen)
-            (copied-at (replicate 16 0) (λ a. length a ≡ 16) [] refl all 16 (min (l .count) 16) i h (omega (arith, long))
-            (ap length (getD-zip at (l .places) (l .families) i 0 0 [] (omega (arith, sixteen .0)) (omega (arith, sixteen .1)))
+            (copied-at (replicate addressOctets 0) (λ a. length a ≡ addressOctets) [] refl all addressesMost
+            (min (l .count) addressesMost) i h (omega (arith, long))
+            (ap length (getD-zip at (l .places) (l .families) i 0 0 [] (omega (arith, sixteen .0))
+            (omega (arith, sixteen .1)))
             ∙ length-padded (partOf body (getD (l .places) i 0) (widthOf (getD (l .families) i 0)))));
       }
 
@@ -71,9 +78,9 @@ module _ (first : ℕ) (body : List ℕ) where
   plainly : WrittenAgain first body → plainlyRead first body ≡ true
   plainly h =
       let q = given first body in
-      let t = h 564 (omega arith) in
-      let n = number-zero q 564 (ap (λ (w : Written). w .number) (t .0)) in
-      let o = fits-written q 564 (n .0) (n .1) in
+      let t = h requestRoom (omega arith) in
+      let n = number-zero q requestRoom (ap (λ (w : Written). w .number) (t .0)) in
+      let o = fits-written q requestRoom (n .0) (n .1) in
       let starts : first ≡ firstType (requested q) 0 = ap (λ (w : Written). w .first) (sym (t .0) ∙ o .0) in
       let octets : body ≡ requestOctets q = sym (t .1) ∙ o .1 in
       let back = given-back q given-sized (n .0) in

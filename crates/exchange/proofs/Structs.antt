@@ -5,6 +5,7 @@ use mathlib.Core.List.{List, [], _∷_, _++_, map, zipWith}
 use native.Mathlib.Omega.{arith}
 use lib.ListN.{length, getD, take, drop, replicate}
 use lib.Seq.{take-at, length-take-le}
+use Rattle.octets.specs.Limits.{addressesMost, addressOctets}
 use Rattle.octets.specs.Lists.{firstOnly}
 use Rattle.octets.proofs.Pad.{length-copied}
 use Rattle.octets.proofs.Zip.{length-zip}
@@ -15,10 +16,11 @@ use Rattle.values.specs.Values.{addressAt, additionalOf, addressesIn}
 
 -- a list of sixteen places and families
 abbrev pub Sixteen : Places → Type 0
-Sixteen l = (length (l .places) ≡ 16) × (length (l .families) ≡ 16)
+Sixteen l = (length (l .places) ≡ addressesMost) × (length (l .families) ≡ addressesMost)
 
 -- what a function makes of the first i elements and of k times z behind them
-map-run : {A B : Type 0} (f : A → B) (z : A) (i k : ℕ) (xs : List A) → map f (take i xs ++ replicate k z) ≡ take i (map f xs) ++ replicate k (f z)
+map-run : {A B : Type 0} (f : A → B) (z : A) (i k : ℕ) (xs : List A) → map f (take i xs ++ replicate k z)
+    ≡ take i (map f xs) ++ replicate k (f z)
 map-run f z zero zero xs = refl
 map-run f z zero (suc k) xs = ap (λ l. f z ∷ l) (map-run f z zero k xs)
 map-run f z (suc i) zero [] = refl
@@ -48,28 +50,31 @@ same-structs (a ∷ x) (b ∷ y) f o =
     ap₂ _∷_ (ap₂ addressOf (ap (λ (l : List ℕ). getD l 0 0) f) (ap (λ (l : List (List ℕ)). getD l 0 []) o))
     (same-structs x y (ap (λ (l : List ℕ). drop 1 l) f) (ap (λ (l : List (List ℕ)). drop 1 l) o))
 
-pub structs-back : (x l : List Address) (n : ℕ) → familiesOf x ≡ firstOnly 0 n (familiesOf l) → octetsOf x ≡ firstOnly (replicate 16 0) n (octetsOf l)
+pub structs-back : (x l : List Address) (n : ℕ) → familiesOf x ≡ firstOnly 0 n (familiesOf l) → octetsOf x
+    ≡ firstOnly (replicate addressOctets 0) n (octetsOf l)
     → x ≡ firstOnly noAddress n l
 structs-back x l n f o =
-    same-structs x (firstOnly noAddress n l) (f ∙ sym (map-run (λ (a : Address). a .family) noAddress n (16 - n) l))
-    (o ∙ sym (map-run (λ (a : Address). a .octets) noAddress n (16 - n) l))
+    same-structs x (firstOnly noAddress n l)
+    (f ∙ sym (map-run (λ (a : Address). a .family) noAddress n (addressesMost - n) l))
+    (o ∙ sym (map-run (λ (a : Address). a .octets) noAddress n (addressesMost - n) l))
 
 -- what is cut off once stays as it is
-cut-again : {A : Type 0} (z : A) (n : ℕ) (xs : List A) → n ≤ length xs → firstOnly z n (firstOnly z n xs) ≡ firstOnly z n xs
-cut-again z n xs h = rw (take-at (take n xs) (replicate (16 - n) z) n (length-take-le n xs h))
+cut-again : {A : Type 0} (z : A) (n : ℕ) (xs : List A) → n ≤ length xs → firstOnly z n (firstOnly z n xs)
+    ≡ firstOnly z n xs
+cut-again z n xs h = rw (take-at (take n xs) (replicate (addressesMost - n) z) n (length-take-le n xs h))
 
 module _ (body : List ℕ) (l : Places) (sized : Sixteen l) where
   abbrev kept : ℕ
-  kept = min (l .count) 16
+  kept = min (l .count) addressesMost
 
   abbrev octets : List (List ℕ)
   octets = zipWith (addressAt body) (l .places) (l .families)
 
-  long : length octets ≡ 16
+  long : length octets ≡ addressesMost
   long = length-zip (addressAt body) (l .places) (l .families) (sized .0 ∙ sym (sized .1)) ∙ sized .0
 
-  pub octets-sixteen : length (additionalOf body l) ≡ 16
-  octets-sixteen = length-copied (replicate 16 0) octets 16 (l .count) long
+  pub octets-sixteen : length (additionalOf body l) ≡ addressesMost
+  octets-sixteen = length-copied (replicate addressOctets 0) octets addressesMost (l .count) long
 
   pub families-in : familiesOf (addressesIn body l) ≡ firstOnly 0 kept (l .families)
   families-in =
@@ -78,4 +83,4 @@ module _ (body : List ℕ) (l : Places) (sized : Sixteen l) where
   pub octets-in : octetsOf (addressesIn body l) ≡ additionalOf body l
   octets-in =
       rw (map-run, octets-back (l .families) (additionalOf body l) (sized .1 ∙ sym octets-sixteen))
-      (cut-again (replicate 16 0) kept octets (omega (arith, long)))
+      (cut-again (replicate addressOctets 0) kept octets (omega (arith, long)))

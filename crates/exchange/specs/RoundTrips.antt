@@ -1,5 +1,13 @@
--- The two round trips of demand 2, about the calls' own definitions: "Reading a written request gives back what was asked for;
--- writing a plainly read one gives back its octets."
+-- Trusted. The two round trips of demand 2, about the calls' own definitions: "Reading a written request gives back
+-- what was asked for; writing a plainly read one gives back its octets."
+--
+--   given             what the exported calls hand out of a chain, as the writer takes it; `givenBy` by what was seen
+--   askedFor          a request with 0 or nothing for what is not asked for
+--   Sized             the sizes of the arrays, which their types fix
+--   GivenBack         reading this chain gives back what was asked for
+--   ReadingWritten    the first round trip
+--   WrittenAgain      writing what this chain gave writes it again
+--   WritingRead       the second round trip
 use Prim.Native.Nat.{ℕ, _≤_, _<_}
 use mathlib.Core.Path.{_≡_}
 use mathlib.Core.List.{List, []}
@@ -16,18 +24,24 @@ use Rattle.findings.specs.declared.seen.Tally.{Tally}
 use Rattle.values.specs.Values.{partOf, natLength, noNatsAt, addressesIn}
 use Rattle.values.specs.declared.NoNats.{NoNats}
 use Rattle.reader.specs.Chain.{reading}
-use Rattle.asking.specs.Request.{Request, requested}
+use Rattle.asking.specs.Draft.{Draft, requested}
 use Rattle.requests.specs.Written.{written, writtenOctets}
 use Rattle.exchange.specs.Plain.{plainlyRead}
 
 abbrev pub pairOf : NoNats → Pair
 pairOf n =
-    record { family = n .family; source = n .source; destination = n .destination; «source_port» = n .«source_port»; «destination_port» = n .«destination_port» }
+    record {
+      family = n .family;
+      source = n .source;
+      destination = n .destination;
+      «source_port» = n .«source_port»;
+      «destination_port» = n .«destination_port»;
+    }
 
--- What the exported calls hand out of a body by what was seen in it, as `unmavreth_write` takes it: the parts that `unmavreth_nat_value`
--- and `unmavreth_cookie` give (`PartOf`), the pair that `unmavreth_no_nats` gives, and the address structs of `unmavreth_addresses`, whose
--- families and octets the writer takes.
-abbrev pub givenBy : List ℕ → Seen → Request
+-- What the exported calls hand out of a body by what was seen in it, as `unmavreth_write` takes it: the parts that
+-- `unmavreth_nat_value` and `unmavreth_cookie` give (`PartOf`), the pair that `unmavreth_no_nats` gives, and the
+-- address structs of `unmavreth_addresses`, whose families and octets the writer takes.
+abbrev pub givenBy : List ℕ → Seen → Draft
 givenBy body s =
     record {
       ask =
@@ -42,30 +56,30 @@ givenBy body s =
       pair = pairOf (noNatsAt body (s .«no_nats») (s .«no_nats_len»));
       families = familiesOf (addressesIn body (s .list));
       addresses = octetsOf (addressesIn body (s .list));
-      source = partOf body (s .«nat_source») natLength;
-      destination = partOf body (s .«nat_destination») natLength;
+      nat-source = partOf body (s .«nat_source») natLength;
+      nat-destination = partOf body (s .«nat_destination») natLength;
       cookie = partOf body (s .cookie) (s .«cookie_len»);
     }
 
 -- What reading a chain hands out.
-abbrev pub given : ℕ → List ℕ → Request
+abbrev pub given : ℕ → List ℕ → Draft
 given first body = givenBy body (reading first body .seen)
 
 -- What was asked for, with 0 or nothing for what was not.
-abbrev pub askedFor : Request → Request
+abbrev pub askedFor : Draft → Draft
 askedFor q =
     record {
       ask = q .ask;
       pair = cond (q .ask .«no_nats») (q .pair) noPair;
       families = firstOnly 0 (q .ask .count) (q .families);
       addresses = firstOnly (replicate addressOctets 0) (q .ask .count) (q .addresses);
-      source = cond (q .ask .«nat_source») (q .source) [];
-      destination = cond (q .ask .«nat_source») (q .destination) [];
+      nat-source = cond (q .ask .«nat_source») (q .nat-source) [];
+      nat-destination = cond (q .ask .«nat_source») (q .nat-destination) [];
       cookie = q .cookie;
     }
 
 -- The sizes of the arrays, which their types fix.
-pub record Sized (q : Request) : Type 0 where
+pub record Sized (q : Draft) : Type 0 where
   pub source : length (q .pair .source) ≡ addressOctets
   pub destination : length (q .pair .destination) ≡ addressOctets
   pub families : length (q .families) ≡ addressesMost
@@ -76,9 +90,9 @@ pub record Sized (q : Request) : Type 0 where
 abbrev pub allKnown : ℕ → Tally
 allKnown n = record { payloads = n; «unknown_payloads» = 0; «unknown_notifies» = 0; errors = 0; «first_error» = 0 }
 
--- "Reading a written request gives back what was asked for": every argument asked for, each value, and nothing else. The address
--- structs that the writer took apart come back as they were.
-pub record GivenBack (q : Request) (first : ℕ) (body : List ℕ) : Type 0 where
+-- "Reading a written request gives back what was asked for": every argument asked for, each value, and nothing else.
+-- The address structs that the writer took apart come back as they were.
+pub record GivenBack (q : Draft) (first : ℕ) (body : List ℕ) : Type 0 where
   pub number : reading first body .number ≡ 0
   pub tally : reading first body .seen .tally ≡ allKnown (length (requested q))
   pub values : given first body ≡ askedFor q
@@ -87,14 +101,15 @@ pub record GivenBack (q : Request) (first : ℕ) (body : List ℕ) : Type 0 wher
 
 abbrev pub ReadingWritten : Type 0
 ReadingWritten =
-    (q : Request) (room : ℕ) → Sized q → written q room .number ≡ 0
+    (q : Draft) (room : ℕ) → Sized q → written q room .number ≡ 0
     → GivenBack q (written q room .first) (writtenOctets q room)
 
 -- a chain's octets are octets
 abbrev pub Octets : List ℕ → Type 0
 Octets body = (i : ℕ) → getD body i 0 < 256
 
--- "writing a plainly read one gives back its octets": first type, length and every octet, in any output that is long enough.
+-- "writing a plainly read one gives back its octets": first type, length and every octet, in any output that is long
+-- enough.
 abbrev pub WrittenAgain : ℕ → List ℕ → Type 0
 WrittenAgain first body =
     (room : ℕ) → requestRoom ≤ room
@@ -105,4 +120,5 @@ WrittenAgain first body =
 abbrev pub WritingRead : Type 0
 WritingRead =
     (first : ℕ) (body : List ℕ) → Octets body
-    → (plainlyRead first body ≡ true → WrittenAgain first body) × (WrittenAgain first body → plainlyRead first body ≡ true)
+    → (plainlyRead first body ≡ true → WrittenAgain first body)
+    × (WrittenAgain first body → plainlyRead first body ≡ true)

@@ -1,4 +1,4 @@
--- What storing one number of the state does to what was seen.
+-- What storing one notifyType of the state does to what was seen.
 use Prim.Native.Nat.{ℕ, zero, suc, _+_, _≤_, _<_}
 use mathlib.Core.Path.{_≡_, refl, sym, ap, _∙_}
 use mathlib.Core.List.{List, [], _∷_, map}
@@ -9,19 +9,27 @@ use borrow.Author.Tests.{eq-eqb, ne-eqb}
 use lib.Dec.{eqb}
 use lib.ListN.{length, getD, take, drop, set, length-take, length-drop, length-map, length-set, replicate}
 use lib.Seq.{drop-cons, take-set-le, take-set-lt, drop-set-add, drop-set-lt, set-out}
+use Rattle.octets.specs.Limits.{addressesMost}
 use Rattle.octets.specs.Flags.{isYes}
-use Rattle.payload.specs.Notify.{isError}
-use Rattle.payload.specs.declared.notify.NotifyKind.{NotifyKind}
-use Rattle.payload.specs.declared.notify.NotifyKind.the-variants.{NatDetectionSource, NatDetectionDestination, MobikeSupported, NoAdditionalAddresses, UpdateSaAddresses, Cookie2, NoNatsAllowed}
-use Rattle.findings.specs.Seen.{nothingSeen, counted, unknownNotify, listed, noted, withTally, withList}
-use Rattle.findings.specs.State.{placesOf, octet, familiesOf, seenOf, Says}
+use Rattle.notify.specs.Notify.{isError}
+use Rattle.notify.specs.declared.notify.NotifyKind.{NotifyKind}
+use Rattle.notify.specs.declared.notify.NotifyKind.the-variants.{NatDetectionSource, NatDetectionDestination}
+use Rattle.notify.specs.declared.notify.NotifyKind.the-variants.{NoAdditionalAddresses, UpdateSaAddresses, Cookie2}
+use Rattle.notify.specs.declared.notify.NotifyKind.the-variants.{NoNatsAllowed}
+use Rattle.findings.specs.Seen.{nothingSeen, counted, unknownNotify, listed, noted, withTally}
+use Rattle.findings.specs.Slots.{payloadsSlot, unknownPayloadsSlot, unknownNotifiesSlot, errorsSlot}
+use Rattle.findings.specs.Slots.{firstErrorSlot}
+use Rattle.findings.specs.Slots.{updateSlot, noAdditionalSlot, natSourceSlot, natDestinationSlot}
+use Rattle.findings.specs.Slots.{noNatsSlot, noNatsLenSlot, cookieSlot, cookieLenSlot}
+use Rattle.findings.specs.Slots.{countSlot, placesSlot, familiesSlot, stateSize}
+use Rattle.findings.specs.State.{placesOf, octet, familiesOf, seenOf, Says, withList}
 use Rattle.findings.specs.declared.seen.Seen.{Seen}
 
 -- a state is its fourteen numbers, and the rest
-spread : (s : List ℕ) → length s ≡ 47
+spread : (s : List ℕ) → length s ≡ stateSize
     → s
     ≡ getD s 0 0 ∷ getD s 1 0 ∷ getD s 2 0 ∷ getD s 3 0 ∷ getD s 4 0 ∷ getD s 5 0 ∷ getD s 6 0
-    ∷ getD s 7 0 ∷ getD s 8 0 ∷ getD s 9 0 ∷ getD s 10 0 ∷ getD s 11 0 ∷ getD s 12 0 ∷ getD s 13 0 ∷ drop 14 s
+    ∷ getD s 7 0 ∷ getD s 8 0 ∷ getD s 9 0 ∷ getD s 10 0 ∷ getD s 11 0 ∷ getD s 12 0 ∷ getD s 13 0 ∷ drop placesSlot s
 spread s long =
     rw (
       ← drop-cons s 13 0 (omega arith),
@@ -41,12 +49,13 @@ spread s long =
     )
 
 -- with zeros nothing was seen
-pub nothing : Says (replicate 47 0) nothingSeen
+pub nothing : Says (replicate stateSize 0) nothingSeen
 unfolding seenOf
 nothing = record { long = refl; seen = refl }
 
 -- what both ways of a test make of a state
-pub either : (b : Bool) (s t : List ℕ) (u : Seen) → length s ≡ 47 → Says t u → Says (cond b s t) (cond b (seenOf s) u)
+pub either : (b : Bool) (s t : List ℕ) (u : Seen) → length s ≡ stateSize → Says t u
+    → Says (cond b s t) (cond b (seenOf s) u)
 either true s t u long e = record { long = long; seen = refl }
 either false s t u long e = e
 
@@ -55,124 +64,115 @@ map-set f [] i v = refl
 map-set f (x ∷ l) zero v = refl
 map-set f (x ∷ l) (suc i) v = ap (λ (r : List ℕ). f x ∷ r) (map-set f l i v)
 
-module _ (s : List ℕ) (long : length s ≡ 47) where
+module _ (s : List ℕ) (long : length s ≡ stateSize) where
   pub payload-counted : (unknown : ℕ)
-      → Says (set (set s 0 (getD s 0 0 + 1)) 1 (getD s 1 0 + unknown))
+      → let one-more = set s payloadsSlot (getD s payloadsSlot 0 + 1) in
+      Says (set one-more unknownPayloadsSlot (getD s unknownPayloadsSlot 0 + unknown))
       (withTally (seenOf s) (counted (seenOf s .tally) unknown))
   unfolding seenOf
   payload-counted unknown = record { long = simp length-set long; seen = rw (spread s long) }
 
-  -- the offset is no part of what was seen
-  pub stopped-at : (v : ℕ) → Says (set s 46 v) (seenOf s)
-  unfolding seenOf
-  stopped-at v =
-      record {
-        long = simp length-set long;
-        seen =
-            rw (
-              spread s long,
-              take-set-le 16 (drop 14 s) 32 v (omega arith),
-              drop-set-add 16 (drop 14 s) 16 v,
-              take-set-le 16 (drop 16 (drop 14 s)) 16 v (omega arith),
-            );
-      }
-
-  module _ (number place len : ℕ) where
+  module _ (notifyType at size : ℕ) where
     abbrev Notes : List ℕ → NotifyKind → Type 0
-    Notes t k = Says t (noted (seenOf s) k number place len)
+    Notes t kind = Says t (noted (seenOf s) kind notifyType at size)
 
-    pub updated : Notes (set s 5 1) UpdateSaAddresses
+    pub updated : Notes (set s updateSlot 1) UpdateSaAddresses
     unfolding seenOf noted
     updated = record { long = simp length-set long; seen = rw (spread s long) }
 
-    pub none-listed : Notes (set s 6 1) NoAdditionalAddresses
+    pub none-listed : Notes (set s noAdditionalSlot 1) NoAdditionalAddresses
     unfolding seenOf noted
     none-listed = record { long = simp length-set long; seen = rw (spread s long) }
 
     -- of several the first is kept
-    pub source-seen : Notes (cond (isYes (getD s 7 0)) s (set s 7 place)) NatDetectionSource
+    pub source-seen : Notes (cond (isYes (getD s natSourceSlot 0)) s (set s natSourceSlot at)) NatDetectionSource
     unfolding seenOf noted
-    source-seen = go (eqb (getD s 7 0) 0) refl
+    source-seen = go (eqb (getD s natSourceSlot 0) 0) refl
       where
-        go : (b : Bool) → eqb (getD s 7 0) 0 ≡ b → Notes (cond (isYes (getD s 7 0)) s (set s 7 place)) NatDetectionSource
+        go : (b : Bool) → eqb (getD s natSourceSlot 0) 0 ≡ b
+            → Notes (cond (isYes (getD s natSourceSlot 0)) s (set s natSourceSlot at)) NatDetectionSource
         go true e = rw e (record { long = simp length-set long; seen = rw (spread s long) })
         go false e = rw e (record { long = long; seen = refl })
 
-    pub destination-seen : Notes (set s 8 place) NatDetectionDestination
+    pub destination-seen : Notes (set s natDestinationSlot at) NatDetectionDestination
     unfolding seenOf noted
     destination-seen = record { long = simp length-set long; seen = rw (spread s long) }
 
-    pub no-nats-seen : Notes (set (set s 9 place) 10 len) NoNatsAllowed
+    pub no-nats-seen : Notes (set (set s noNatsSlot at) noNatsLenSlot size) NoNatsAllowed
     unfolding seenOf noted
     no-nats-seen = record { long = simp length-set long; seen = rw (spread s long) }
 
-    pub cookie-seen : Notes (set (set s 11 place) 12 len) Cookie2
+    pub cookie-seen : Notes (set (set s cookieSlot at) cookieLenSlot size) Cookie2
     unfolding seenOf noted
     cookie-seen = record { long = simp length-set long; seen = rw (spread s long) }
 
   -- a notification of a kind that is tallied as unknown
-  module _ (k : NotifyKind) (number : ℕ) where
+  module _ (kind : NotifyKind) (notifyType : ℕ) where
     abbrev Tallied : List ℕ → Type 0
-    Tallied t = Says t (withTally (seenOf s) (unknownNotify (seenOf s .tally) k number))
+    Tallied t = Says t (withTally (seenOf s) (unknownNotify (seenOf s .tally) kind notifyType))
 
     abbrev one-more : List ℕ
-    one-more = set s 2 (getD s 2 0 + 1)
+    one-more = set s unknownNotifiesSlot (getD s unknownNotifiesSlot 0 + 1)
 
-    pub status-tallied : isError k ≡ false → Tallied one-more
+    pub status-tallied : isError kind ≡ false → Tallied one-more
     unfolding seenOf
     status-tallied f = record { long = simp length-set long; seen = rw (f, spread s long) }
 
-    module _ (e : isError k ≡ true) where
+    module _ (e : isError kind ≡ true) where
       abbrev one-error : List ℕ
-      one-error = set one-more 3 (getD s 3 0 + 1)
+      one-error = set one-more errorsSlot (getD s errorsSlot 0 + 1)
 
-      pub first-tallied : getD s 3 0 ≡ 0 → Tallied (set one-error 4 number)
+      pub first-tallied : getD s errorsSlot 0 ≡ 0 → Tallied (set one-error firstErrorSlot notifyType)
       unfolding seenOf
-      first-tallied z = record { long = simp length-set long; seen = rw (e, eq-eqb (getD s 3 0) 0 z, spread s long) }
+      first-tallied z =
+          record { long = simp length-set long; seen = rw (e, eq-eqb (getD s errorsSlot 0) 0 z, spread s long) }
 
-      pub later-tallied : (getD s 3 0 ≡ 0 → ⊥) → Tallied one-error
+      pub later-tallied : (getD s errorsSlot 0 ≡ 0 → ⊥) → Tallied one-error
       unfolding seenOf
-      later-tallied z = record { long = simp length-set long; seen = rw (e, ne-eqb (getD s 3 0) 0 z, spread s long) }
+      later-tallied z =
+          record { long = simp length-set long; seen = rw (e, ne-eqb (getD s errorsSlot 0) 0 z, spread s long) }
 
--- the list begins behind fourteen numbers, the families behind sixteen more
-behind : (n : ℕ) → 14 + n ≡ suc (suc (suc (suc (suc (suc (suc (suc (suc (suc (suc (suc (suc (suc n)))))))))))))
+-- the list begins behind fourteen numbers, the families behind as many more as there are places
+behind : (n : ℕ) → placesSlot + n ≡ suc (suc (suc (suc (suc (suc (suc (suc (suc (suc (suc (suc (suc (suc n)))))))))))))
 behind n = omega arith
 
-behind-both : (n : ℕ) → 30 + n ≡ 14 + (16 + n)
+behind-both : (n : ℕ) → familiesSlot + n ≡ placesSlot + (addressesMost + n)
 behind-both n = omega arith
 
-module _ (s : List ℕ) (long : length s ≡ 47) (n family place : ℕ) (count : getD s 13 0 ≡ n) where
+module _ (s : List ℕ) (long : length s ≡ stateSize) (n family at : ℕ) (count : getD s countSlot 0 ≡ n) where
   abbrev Lists : List ℕ → Type 0
-  Lists t = Says t (withList (seenOf s) (listed (seenOf s .list) family place))
+  Lists t = Says t (withList (seenOf s) (listed (seenOf s .list) family at))
 
-  pub address-kept : n < 16 → family < 256 → Lists (set (set (set s 13 (n + 1)) (14 + n) place) (30 + n) family)
+  pub address-kept : n < addressesMost → family < 256
+      → Lists (set (set (set s countSlot (n + 1)) (placesSlot + n) at) (familiesSlot + n) family)
   unfolding seenOf
   address-kept h f =
+      let rest = drop placesSlot s in
       record {
         long = simp length-set long;
         seen =
             rw (
               behind-both n,
               behind n,
-              behind (16 + n),
+              behind (addressesMost + n),
               count,
               spread s long,
-              take-set-le 16 (set (drop 14 s) n place) (16 + n) family (omega arith),
-              take-set-lt 16 (drop 14 s) n place h,
-              drop-set-add 16 (set (drop 14 s) n place) n family,
-              drop-set-lt 16 (drop 14 s) n place h,
-              take-set-lt 16 (drop 16 (drop 14 s)) n family h,
+              take-set-le addressesMost (set rest n at) (addressesMost + n) family (omega arith),
+              take-set-lt addressesMost rest n at h,
+              drop-set-add addressesMost (set rest n at) n family,
+              drop-set-lt addressesMost rest n at h,
+              take-set-lt addressesMost (drop addressesMost rest) n family h,
               map-set octet,
               mod-eq-of-lt f,
             );
       }
 
-  pub address-left-off : 16 ≤ n → Lists (set s 13 (n + 1))
+  pub address-left-off : addressesMost ≤ n → Lists (set s countSlot (n + 1))
   unfolding seenOf
   address-left-off h =
       let places : length (placesOf s) ≤ n = simp (length-take, length-drop) (omega arith) in
       let families : length (familiesOf s) ≤ n = simp (length-map, length-take, length-drop) (omega arith) in
       record {
         long = simp length-set long;
-        seen = rw (count, set-out (placesOf s) n place places, set-out (familiesOf s) n family families, spread s long);
+        seen = rw (count, set-out (placesOf s) n at places, set-out (familiesOf s) n family families, spread s long);
       }

@@ -1,12 +1,28 @@
--- What a chain's payloads say, gathered one by one: the counts, the flags and the places of the data.
-use Prim.Native.Nat.{ℕ, _+_, _≤_}
+-- Trusted. What a chain's payloads say, gathered one by one, and which notifications may not stand together: 01, "The
+-- payload chain". Data is told by its offset in the body; it stands behind a header, so 0 means that there is none.
+--
+--   Seen                    what was seen: the tally, the flags, the offsets of what is handed out, and the list
+--   Tally                   payloads, unknown payloads, unknown notifications; errors among these, the first one's type
+--   Places                  the additional addresses: how many, and of the first sixteen the offset and the family
+--   nothingSeen             where no payload was read yet
+--   contentNoted            what was seen, with one payload more; its data would stand at the offset
+--   counted, unknownNotify  the tally, with one payload more, with one unknown notification more
+--   noted, notifyListed     what was seen, and its list, with one notification more
+--   conflicts, repeats      a payload, a notification of this kind, may not stand behind what was seen
+--   is                      two kinds are the same
+use Prim.Native.Nat.{ℕ, _+_}
 use mathlib.Core.Bool.{Bool, true, false, cond, _&&_, _||_, not}
 use lib.ListN.{set, replicate}
 use lib.Dec.{eqb}
 use Rattle.octets.specs.Limits.{addressesMost}
-use Rattle.payload.specs.Notify.{isUnknown, isError}
-use Rattle.payload.specs.declared.notify.NotifyKind.{NotifyKind}
-use Rattle.payload.specs.declared.notify.NotifyKind.the-variants.{NatDetectionSource, NatDetectionDestination, MobikeSupported, AdditionalIp4, AdditionalIp6, NoAdditionalAddresses, UpdateSaAddresses, Cookie2, NoNatsAllowed, UnacceptableAddresses, UnexpectedNatDetected, OtherError, OtherStatus}
+use Rattle.notify.specs.Notify.{isUnknown, isError}
+use Rattle.notify.specs.declared.notify.NotifyKind.{NotifyKind}
+use Rattle.notify.specs.declared.notify.NotifyKind.the-variants.{NatDetectionSource, NatDetectionDestination}
+use Rattle.notify.specs.declared.notify.NotifyKind.the-variants.{MobikeSupported, AdditionalIp4, AdditionalIp6}
+use Rattle.notify.specs.declared.notify.NotifyKind.the-variants.{NoAdditionalAddresses}
+use Rattle.notify.specs.declared.notify.NotifyKind.the-variants.{UpdateSaAddresses, Cookie2, NoNatsAllowed}
+use Rattle.notify.specs.declared.notify.NotifyKind.the-variants.{UnacceptableAddresses, UnexpectedNatDetected}
+use Rattle.notify.specs.declared.notify.NotifyKind.the-variants.{OtherError, OtherStatus}
 use Rattle.payload.specs.declared.payload.Content.{Content}
 use Rattle.payload.specs.declared.payload.Content.the-variants.{Skipped, Unknown as UnknownPayload, Notify}
 use Rattle.findings.specs.declared.seen.Tally.{Tally}
@@ -45,22 +61,26 @@ counted t unknown =
       «first_error» = t .«first_error»;
     }
 
--- 01: "Every other notify type is tallied as unknown, whatever its SPI or data." The errors among them are what the initiator's end
--- looks for ("the first error").
+-- 01: "Every other notify type is tallied as unknown, whatever its SPI or data." The errors among them are what the
+-- initiator's end looks for ("the first error").
 abbrev pub unknownNotify : Tally → NotifyKind → ℕ → Tally
-unknownNotify t k number =
+unknownNotify t kind notifyType =
     record {
       payloads = t .payloads;
       «unknown_payloads» = t .«unknown_payloads»;
       «unknown_notifies» = t .«unknown_notifies» + 1;
-      errors = cond (isError k) (t .errors + 1) (t .errors);
-      «first_error» = cond (isError k && eqb (t .errors) 0) number (t .«first_error»);
+      errors = cond (isError kind) (t .errors + 1) (t .errors);
+      «first_error» = cond (isError kind && eqb (t .errors) 0) notifyType (t .«first_error»);
     }
 
 -- 01: "The first 16 are kept"; all are counted. Both lists have 16 places, past which `set` changes nothing.
 abbrev pub listed : Places → ℕ → ℕ → Places
-listed l family place =
-    record { count = l .count + 1; places = set (l .places) (l .count) place; families = set (l .families) (l .count) family }
+listed l family at =
+    record {
+      count = l .count + 1;
+      places = set (l .places) (l .count) at;
+      families = set (l .families) (l .count) family;
+    }
 
 -- kinds as numbers, to compare them
 abbrev pub ordinal : NotifyKind → ℕ
@@ -83,24 +103,24 @@ is a b = eqb (ordinal a) (ordinal b)
 
 -- What a notification adds to the list of additional addresses.
 abbrev pub notifyListed : Places → NotifyKind → ℕ → Places
-notifyListed l k place =
-    cond (is k AdditionalIp4) (listed l 4 place) (cond (is k AdditionalIp6) (listed l 6 place) l)
+notifyListed l kind at =
+    cond (is kind AdditionalIp4) (listed l 4 at) (cond (is kind AdditionalIp6) (listed l 6 at) l)
 
--- What a notification adds to what was seen, its data at `place`. Of several NAT_DETECTION_SOURCE_IP the first is handed
--- out, a choice that 01 leaves free; of the others that hand out data a second one is a fault.
+-- What a notification adds to what was seen, its data, of so many octets, at `at`. Of several NAT_DETECTION_SOURCE_IP
+-- the first is handed out, a choice that 01 leaves free; of the others that hand out data a second one is a fault.
 unfoldable pub noted : Seen → NotifyKind → ℕ → ℕ → ℕ → Seen
-noted s k number place len =
+noted s kind notifyType at size =
     record {
-      tally = cond (isUnknown k) (unknownNotify (s .tally) k number) (s .tally);
-      update = cond (is k UpdateSaAddresses) true (s .update);
-      «no_additional» = cond (is k NoAdditionalAddresses) true (s .«no_additional»);
-      «nat_source» = cond (is k NatDetectionSource && eqb (s .«nat_source») 0) place (s .«nat_source»);
-      «nat_destination» = cond (is k NatDetectionDestination) place (s .«nat_destination»);
-      «no_nats» = cond (is k NoNatsAllowed) place (s .«no_nats»);
-      «no_nats_len» = cond (is k NoNatsAllowed) len (s .«no_nats_len»);
-      cookie = cond (is k Cookie2) place (s .cookie);
-      «cookie_len» = cond (is k Cookie2) len (s .«cookie_len»);
-      list = notifyListed (s .list) k place;
+      tally = cond (isUnknown kind) (unknownNotify (s .tally) kind notifyType) (s .tally);
+      update = cond (is kind UpdateSaAddresses) true (s .update);
+      «no_additional» = cond (is kind NoAdditionalAddresses) true (s .«no_additional»);
+      «nat_source» = cond (is kind NatDetectionSource && eqb (s .«nat_source») 0) at (s .«nat_source»);
+      «nat_destination» = cond (is kind NatDetectionDestination) at (s .«nat_destination»);
+      «no_nats» = cond (is kind NoNatsAllowed) at (s .«no_nats»);
+      «no_nats_len» = cond (is kind NoNatsAllowed) size (s .«no_nats_len»);
+      cookie = cond (is kind Cookie2) at (s .cookie);
+      «cookie_len» = cond (is kind Cookie2) size (s .«cookie_len»);
+      list = notifyListed (s .list) kind at;
     }
 
 abbrev pub withTally : Seen → Tally → Seen
@@ -118,26 +138,12 @@ withTally s t =
       list = s .list;
     }
 
-abbrev pub withList : Seen → Places → Seen
-withList s l =
-    record {
-      tally = s .tally;
-      update = s .update;
-      «no_additional» = s .«no_additional»;
-      «nat_source» = s .«nat_source»;
-      «nat_destination» = s .«nat_destination»;
-      «no_nats» = s .«no_nats»;
-      «no_nats_len» = s .«no_nats_len»;
-      cookie = s .cookie;
-      «cookie_len» = s .«cookie_len»;
-      list = l;
-    }
-
 -- What a payload adds: it is counted, and a Notify is noted too.
 unfoldable pub contentNoted : Seen → Content → ℕ → Seen
-contentNoted s Skipped place = withTally s (counted (s .tally) 0)
-contentNoted s UnknownPayload place = withTally s (counted (s .tally) 1)
-contentNoted s (Notify k number len) place = noted (withTally s (counted (s .tally) 0)) k number place len
+contentNoted s Skipped at = withTally s (counted (s .tally) 0)
+contentNoted s UnknownPayload at = withTally s (counted (s .tally) 1)
+contentNoted s (Notify kind notifyType size) at =
+    noted (withTally s (counted (s .tally) 0)) kind notifyType at size
 
 -- 01: "a second UPDATE_SA_ADDRESSES, NO_ADDITIONAL_ADDRESSES, COOKIE2, NO_NATS_ALLOWED or NAT_DETECTION_DESTINATION_IP;
 -- NO_ADDITIONAL_ADDRESSES together with an ADDITIONAL address".
@@ -159,12 +165,4 @@ repeats s OtherStatus = false
 abbrev pub conflicts : Seen → Content → Bool
 conflicts s Skipped = false
 conflicts s UnknownPayload = false
-conflicts s (Notify k number len) = repeats s k
-
--- No count is over n: what the code needs to count on.
-pub record Counted (n : ℕ) (s : Seen) : Type 0 where
-  pub payloads : s .tally .payloads ≤ n
-  pub unknown-payloads : s .tally .«unknown_payloads» ≤ n
-  pub unknown-notifies : s .tally .«unknown_notifies» ≤ n
-  pub errors : s .tally .errors ≤ n
-  pub addresses : s .list .count ≤ n
+conflicts s (Notify kind notifyType size) = repeats s kind

@@ -1,46 +1,76 @@
--- What was seen, as the numbers that the scan of a chain keeps: fourteen of them by themselves, then the places and the families of
--- sixteen additional addresses.
-use Prim.Native.Nat.{ℕ, _%_}
+-- Inner. What was seen, as the numbers that the scan of a chain keeps: `Says` ties them to the trusted `Seen`, and
+-- `proofs/Stored.antt` says what storing one of them does to it.
+use Prim.Native.Nat.{ℕ, _%_, _≤_}
 use mathlib.Core.Path.{_≡_}
 use mathlib.Core.List.{List, map}
 use lib.ListN.{length, getD, take, drop}
 use Rattle.octets.specs.Limits.{addressesMost}
 use Rattle.octets.specs.Flags.{isYes}
+use Rattle.findings.specs.Slots.{payloadsSlot, unknownPayloadsSlot, unknownNotifiesSlot, errorsSlot}
+use Rattle.findings.specs.Slots.{firstErrorSlot}
+use Rattle.findings.specs.Slots.{updateSlot, noAdditionalSlot, natSourceSlot, natDestinationSlot}
+use Rattle.findings.specs.Slots.{noNatsSlot, noNatsLenSlot, cookieSlot, cookieLenSlot}
+use Rattle.findings.specs.Slots.{countSlot, placesSlot, familiesSlot, stateSize}
+use Rattle.findings.specs.declared.seen.Places.{Places}
 use Rattle.findings.specs.declared.seen.Seen.{Seen}
 
 abbrev pub placesOf : List ℕ → List ℕ
-placesOf state = take addressesMost (drop 14 state)
+placesOf state = take addressesMost (drop placesSlot state)
 
 -- a number as an octet
 abbrev pub octet : ℕ → ℕ
 octet n = n % 256
 
 abbrev pub familiesOf : List ℕ → List ℕ
-familiesOf state = map octet (take addressesMost (drop 30 state))
+familiesOf state = map octet (take addressesMost (drop familiesSlot state))
 
 unfoldable pub seenOf : List ℕ → Seen
 seenOf state =
     record {
       tally =
           record {
-            payloads = getD state 0 0;
-            «unknown_payloads» = getD state 1 0;
-            «unknown_notifies» = getD state 2 0;
-            errors = getD state 3 0;
-            «first_error» = getD state 4 0;
+            payloads = getD state payloadsSlot 0;
+            «unknown_payloads» = getD state unknownPayloadsSlot 0;
+            «unknown_notifies» = getD state unknownNotifiesSlot 0;
+            errors = getD state errorsSlot 0;
+            «first_error» = getD state firstErrorSlot 0;
           };
-      update = isYes (getD state 5 0);
-      «no_additional» = isYes (getD state 6 0);
-      «nat_source» = getD state 7 0;
-      «nat_destination» = getD state 8 0;
-      «no_nats» = getD state 9 0;
-      «no_nats_len» = getD state 10 0;
-      cookie = getD state 11 0;
-      «cookie_len» = getD state 12 0;
-      list = record { count = getD state 13 0; places = placesOf state; families = familiesOf state };
+      update = isYes (getD state updateSlot 0);
+      «no_additional» = isYes (getD state noAdditionalSlot 0);
+      «nat_source» = getD state natSourceSlot 0;
+      «nat_destination» = getD state natDestinationSlot 0;
+      «no_nats» = getD state noNatsSlot 0;
+      «no_nats_len» = getD state noNatsLenSlot 0;
+      cookie = getD state cookieSlot 0;
+      «cookie_len» = getD state cookieLenSlot 0;
+      list = record { count = getD state countSlot 0; places = placesOf state; families = familiesOf state };
     }
 
 -- the numbers of a state, of which s was seen
 pub record Says (state : List ℕ) (s : Seen) : Type 0 where
-  pub long : length state ≡ 47
+  pub long : length state ≡ stateSize
   pub seen : seenOf state ≡ s
+
+-- what was seen, with another list of additional addresses
+abbrev pub withList : Seen → Places → Seen
+withList s l =
+    record {
+      tally = s .tally;
+      update = s .update;
+      «no_additional» = s .«no_additional»;
+      «nat_source» = s .«nat_source»;
+      «nat_destination» = s .«nat_destination»;
+      «no_nats» = s .«no_nats»;
+      «no_nats_len» = s .«no_nats_len»;
+      cookie = s .cookie;
+      «cookie_len» = s .«cookie_len»;
+      list = l;
+    }
+
+-- No count is over n: what the code needs to count on.
+pub record Counted (n : ℕ) (s : Seen) : Type 0 where
+  pub payloads : s .tally .payloads ≤ n
+  pub unknown-payloads : s .tally .«unknown_payloads» ≤ n
+  pub unknown-notifies : s .tally .«unknown_notifies» ≤ n
+  pub errors : s .tally .errors ≤ n
+  pub addresses : s .list .count ≤ n

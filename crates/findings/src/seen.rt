@@ -1,4 +1,5 @@
-// What the payloads of a chain have said: counts, flags, and the places of the data that is handed out.
+// What the payloads of a chain have said: counts, flags, and the offsets of the data that is handed out.
+use octets::limits::ADDRESSES_MOST;
 ghost use mathlib.Core.Path.{_≡_};
 ghost use Rattle.findings.specs.Seen.{nothingSeen};
 
@@ -14,15 +15,16 @@ pub struct Tally {
     pub first_error: u16,
 }
 
-// The additional addresses: all are counted, and the first sixteen have their data's place and family kept.
+// The additional addresses: all are counted, and of the first sixteen the offset of their data and their family are
+// kept.
 #[repr(C)]
 pub struct Places {
     pub count: u16,
-    pub places: [u16; 16],
-    pub families: [u8; 16],
+    pub places: [u16; ADDRESSES_MOST],
+    pub families: [u8; ADDRESSES_MOST],
 }
 
-// A place is the offset in the body at which the data begins. It is never under 8, so 0 means none.
+// Data is told by the offset in the body at which it begins. Behind a header that is never 0, so 0 means none.
 #[repr(C)]
 pub struct Seen {
     pub tally: Tally,
@@ -49,8 +51,8 @@ pub fn nothing_seen() -> Seen
     };
     let list = Places {
         count: 0,
-        places: [0u16; 16],
-        families: [0u8; 16],
+        places: [0u16; ADDRESSES_MOST],
+        families: [0u8; ADDRESSES_MOST],
     };
     Seen {
         tally,

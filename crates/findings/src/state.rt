@@ -1,15 +1,15 @@
-// What was seen so far, as numbers that are lent to the scan of a chain. They are changed in place, so that nothing travels from
-// payload to payload.
+// What was seen so far, as numbers that are lent to the scan of a chain. They are changed in place, so that nothing
+// travels from payload to payload.
 use crate::seen::Places;
 use crate::seen::Seen;
 use crate::seen::Tally;
+use octets::limits::ADDRESSES_MOST;
 ghost use mathlib.Core.Path.{_≡_};
 ghost use lib.ListN.{length};
+ghost use Rattle.findings.specs.Slots.{stateSize};
 ghost use Rattle.findings.specs.State.{placesOf, familiesOf, seenOf};
 
-pub type State = [u16; 47];
-
-// Where each number stands. Yes or no is 1 or 0.
+// Where each number stands, its slot, as `specs/Slots.antt` has it. Yes or no is 1 or 0.
 pub const PAYLOADS: usize = 0;
 
 pub const UNKNOWN_PAYLOADS: usize = 1;
@@ -28,7 +28,7 @@ pub const NAT_SOURCE: usize = 7;
 
 pub const NAT_DESTINATION: usize = 8;
 
-// The length of the data stands behind its place.
+// The length of the data stands behind its offset.
 pub const NO_NATS: usize = 9;
 
 pub const NO_NATS_LEN: usize = 10;
@@ -37,24 +37,30 @@ pub const COOKIE: usize = 11;
 
 pub const COOKIE_LEN: usize = 12;
 
-// How many additional addresses there were; then sixteen places, and sixteen families.
+// How many additional addresses there were; then the offsets of the first sixteen, and their families.
 pub const COUNT: usize = 13;
 
 pub const PLACES: usize = 14;
 
-pub const FAMILIES: usize = 30;
+pub const FAMILIES: usize = PLACES + ADDRESSES_MOST;
 
-// Where the scan stopped, if at a fault.
-pub const OFFSET: usize = 46;
+// Where the scan stopped, if at a fault, and the type of a critical payload there.
+pub const OFFSET: usize = FAMILIES + ADDRESSES_MOST;
 
-// The places of the additional addresses.
-fn places_of(state: &State) -> [u16; 16]
-    requires { ⌜ length (now state) ≡ 47 ⌝ }
+pub const CRITICAL: usize = OFFSET + 1;
+
+pub const STATE_SIZE: usize = CRITICAL + 1;
+
+pub type State = [u16; STATE_SIZE];
+
+// The offsets of the additional addresses.
+fn places_of(state: &State) -> [u16; ADDRESSES_MOST]
+    requires { ⌜ length (now state) ≡ stateSize ⌝ }
     ensures { λ r. ⌜ r ≡ placesOf (now (state .entry)) ⌝ }
 {
-    let mut out = [0u16; 16];
+    let mut out = [0u16; ADDRESSES_MOST];
     let mut i = 0;
-    while i < 16 {
+    while i < ADDRESSES_MOST {
         out[i] = state[PLACES + i];
         i += 1;
     }
@@ -62,13 +68,13 @@ fn places_of(state: &State) -> [u16; 16]
 }
 
 // Their families, which are octets.
-fn families_of(state: &State) -> [u8; 16]
-    requires { ⌜ length (now state) ≡ 47 ⌝ }
+fn families_of(state: &State) -> [u8; ADDRESSES_MOST]
+    requires { ⌜ length (now state) ≡ stateSize ⌝ }
     ensures { λ r. ⌜ r ≡ familiesOf (now (state .entry)) ⌝ }
 {
-    let mut out = [0u8; 16];
+    let mut out = [0u8; ADDRESSES_MOST];
     let mut i = 0;
-    while i < 16 {
+    while i < ADDRESSES_MOST {
         out[i] = (state[FAMILIES + i] % 256) as u8;
         i += 1;
     }
@@ -77,7 +83,7 @@ fn families_of(state: &State) -> [u8; 16]
 
 // What the numbers say.
 pub fn seen_of(state: &State) -> Seen
-    requires { ⌜ length (now state) ≡ 47 ⌝ }
+    requires { ⌜ length (now state) ≡ stateSize ⌝ }
     ensures { λ r. ⌜ r ≡ seenOf (now (state .entry)) ⌝ }
 {
     let tally = Tally {

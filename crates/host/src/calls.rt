@@ -1,5 +1,5 @@
-// The calls on tables and policy. The tables are lent: each call looks up, decides on what was found, and stores; a refusal changes
-// nothing.
+// The calls on tables and policy. The tables are lent: each call looks up, decides on what was found, and stores; a
+// refusal changes nothing.
 use address::pair::Pair;
 use lent_closed::closed::release_if;
 use lent_ike::ike::ike_at;
@@ -11,6 +11,8 @@ use lent_ipsec::places::ipsec_store;
 use lent_policy::rules::policy_of;
 use lent_policy::rules::policy_store;
 use lent_policy::rules::rules_of;
+use octets::limits::IKE_PLACES;
+use octets::limits::RULES_MOST;
 use policy::rules::Policy;
 use policy::rules::Rule;
 use policy::rules::is_acceptable;
@@ -29,7 +31,7 @@ ghost use Rattle.tables.specs.Calls.{openBoth, openIpsec, closeIke, closeIpsec}
 // Opens an IKE record and its first IPsec record, each at the lowest free place of its table, or neither.
 #[no_mangle]
 pub extern "C" fn unmavreth_open(
-    ike: &mut [IkeRecord; 32],
+    ike: &mut [IkeRecord; IKE_PLACES],
     ipsec: &mut [IpsecRecord],
     opening: Opening,
 ) -> u8
@@ -52,7 +54,7 @@ pub extern "C" fn unmavreth_open(
 // Opens another IPsec record at the lowest free place, with the pair of its IKE record.
 #[no_mangle]
 pub extern "C" fn unmavreth_open_ipsec(
-    ike: &[IkeRecord; 32],
+    ike: &[IkeRecord; IKE_PLACES],
     ipsec: &mut [IpsecRecord],
     spi: u32,
     owner: u64,
@@ -75,7 +77,7 @@ pub extern "C" fn unmavreth_open_ipsec(
 // Closes an IKE record and the IPsec records that it owns.
 #[no_mangle]
 pub extern "C" fn unmavreth_close_ike(
-    ike: &mut [IkeRecord; 32],
+    ike: &mut [IkeRecord; IKE_PLACES],
     ipsec: &mut [IpsecRecord],
     spi: u64,
 ) -> u8
@@ -109,7 +111,11 @@ pub extern "C" fn unmavreth_close_ipsec(ipsec: &mut [IpsecRecord], spi: u32) -> 
 
 // Sets the whole policy, or refuses and leaves it.
 #[no_mangle]
-pub extern "C" fn unmavreth_set_policy(policy: &mut Policy, count: u16, rules: &[Rule; 16]) -> u8
+pub extern "C" fn unmavreth_set_policy(
+    policy: &mut Policy,
+    count: u16,
+    rules: &[Rule; RULES_MOST],
+) -> u8
     ensures { λ r. ⌜ (
         let set = setPolicy (now (policy .entry)) count (now (rules .entry)) in
         (r ≡ set .number) × (now (policy .exit) ≡ set .policy)

@@ -6,33 +6,31 @@ use address::pair::Pair;
 use asking::ask::AskOctets;
 use asking::ask::ask_of;
 use requests::request::Written;
-ghost use mathlib.Core.Path.{_≡_};
-ghost use lib.ListN.{length};
 ghost use Rattle.address.specs.Address.{familiesOf, octetsOf};
-ghost use Rattle.writing.specs.Notify.{placed};
 ghost use Rattle.asking.specs.Ask.{askOf};
-ghost use Rattle.asking.specs.Request.{request};
-ghost use Rattle.requests.specs.Written.{written, writtenOctets};
+ghost use Rattle.asking.specs.Draft.{draft};
+ghost use Rattle.requests.specs.Written.{WrittenAs};
 
-// Writes the request that is asked for to the start of `out`, which must have 564 octets whatever is asked; each yes or no in
-// `ask` is an octet, of which 0 is no. Asking for everything writes 21 Notify payloads, which a peer may refuse: see
-// `requests::request::write`.
+// Writes the request that is asked for to the start of `out`, which must have room for the longest one whatever is
+// asked (`REQUEST_ROOM`, 564 octets); each yes or no in `ask` is an octet, of which 0 is no. Asking for everything
+// writes 21 Notify payloads, which a peer may refuse: see `requests::request::write`.
 #[no_mangle]
 pub extern "C" fn unmavreth_write(
     ask: AskOctets,
     pair: Pair,
     addresses: AddressList,
-    source: &[u8],
-    destination: &[u8],
+    nat_source: &[u8],
+    nat_destination: &[u8],
     cookie: &[u8],
     out: &mut [u8],
 ) -> Written
     ensures { λ r. ⌜ (
         let families = familiesOf (addresses .list) in
         let octets = octetsOf (addresses .list) in
-        let q = request (askOf ask) pair families octets (now (source .entry)) (now (destination .entry)) (now (cookie .entry)) in
-        let room = length (now (out .entry)) in
-        (r ≡ written q room) × (now (out .exit) ≡ placed (now (out .entry)) 0 (writtenOctets q room))
+        let nat-source = now («nat_source» .entry) in
+        let nat-destination = now («nat_destination» .entry) in
+        let q = draft (askOf ask) pair families octets nat-source nat-destination (now (cookie .entry)) in
+        WrittenAs q (now (out .entry)) r (now (out .exit))
         ) ⌝ }
 {
     let wanted = ask_of(ask);
@@ -44,8 +42,8 @@ pub extern "C" fn unmavreth_write(
         pair,
         families,
         octets,
-        source,
-        destination,
+        nat_source,
+        nat_destination,
         cookie,
         out,
     )

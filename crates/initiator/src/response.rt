@@ -1,15 +1,18 @@
 // The responder's answer to a request of ours: accepted, refused, or so wrong that the IKE SA is to be closed.
 use asking::fits::cookie_fits;
 use findings::seen::Tally;
-use payload::notify::NotifyKind;
-use payload::notify::NotifyType;
+use notify::notify::NotifyKind;
+use notify::notify::NotifyType;
+use octets::number::Number;
+use octets::number::number_of;
 use reader::read::read;
 use values::cookie;
 ghost use mathlib.Core.Path.{_≡_};
 ghost use Prim.Native.Nat.{_≤_};
 ghost use lib.ListN.{length};
 ghost use Rattle.octets.specs.Lists.{sameOctets};
-ghost use Rattle.initiator.specs.Response.{outcomeNumber, closes, errorOutcome, outcomeOf, tallyOf, refusal, AssessedAs};
+ghost use Rattle.initiator.specs.Response.{outcomeNumber, closes, errorOutcome, outcomeOf, tallyOf};
+ghost use Rattle.initiator.specs.Response.{refusal, AssessedAs};
 
 // What a response that was read whole comes to, in the words of 01.
 pub enum Outcome {
@@ -20,7 +23,7 @@ pub enum Outcome {
     Accepted,
 }
 
-// All that is told of a response; the outcome by its number, 0 with refusals. The cookie that came back is the part of the body at
+// All that is told of a response; the outcome by its number. The cookie that came back is the part of the body at
 // `cookie`.
 #[repr(C)]
 pub struct Assessment {
@@ -32,6 +35,9 @@ pub struct Assessment {
     pub cookie: u16,
     pub cookie_len: u16,
 }
+
+// What is told for an outcome with a refusal.
+pub const NO_OUTCOME: u8 = 0;
 
 pub fn outcome_number(outcome: Outcome) -> u8
     ensures { λ r. ⌜ r ≡ outcomeNumber outcome ⌝ }
@@ -79,10 +85,12 @@ pub fn must_close(sent: &[u8], got: &[u8], errors: u16) -> bool
 }
 
 // What an error of this notify type is told as.
-pub fn error_outcome(number: u16) -> Outcome
-    ensures { λ r. ⌜ r ≡ errorOutcome number ⌝ }
+pub fn error_outcome(notify_type: u16) -> Outcome
+    ensures { λ r. ⌜ r ≡ errorOutcome «notify_type» ⌝ }
 {
-    let kind = NotifyType { number }.kind();
+    let kind = NotifyType {
+        number: notify_type,
+    }.kind();
     match kind {
         NotifyKind::UnexpectedNatDetected => Outcome::NatSeen,
         NotifyKind::UnacceptableAddresses => Outcome::Unacceptable,
@@ -122,7 +130,7 @@ pub fn refuse(number: u8, offset: u16) -> Assessment
 {
     Assessment {
         number,
-        outcome: 0,
+        outcome: NO_OUTCOME,
         payloads: 0,
         offset,
         tally: 0,
@@ -153,5 +161,5 @@ pub fn assess(sent: &[u8], first: u8, body: &[u8]) -> Assessment
         }
         return refuse(r.number, r.offset);
     }
-    refuse(1, 0)
+    refuse(number_of(Number::BadArgument), 0)
 }

@@ -1,12 +1,14 @@
 -- The calls on the lent list and the lent table that several walks make, each as one step, known by the callee's contract alone. At the head of the context stand what the reference owns and its token, and while the operands are read two items in their stead; what is passed for good leaves what says its last value, behind one item.
 --     counts, finds-ipsec, stores-ipsec      a `&mut [IpsecRecord]` to `ipsec_count`, to `ipsec_place`, and for good to `ipsec_store`
---     finds-ike, reads-ike, stores-ike       a `&mut [IkeRecord; 32]` to `ike_place`, to `ike_at`, and for good to `ike_store`.        changes-ike      the same to `ike_change`, beside a `&[u8]`
+--     finds-ike, reads-ike, stores-ike       a `&mut [IkeRecord; IKE_PLACES]` to `ike_place`, to `ike_at`, and for good
+--                      to `ike_store`.        changes-ike      the same to `ike_change`, beside a `&[u8]`
 --     reads-policy, reads-lent, stores-policy      a `&Policy` to `policy_of`, a `&mut Policy` to it, and for good to `policy_store`.        reads-rules      a `&[Rule; 16]` to `rules_of`
 -- Assumes `Given`, and that the table of calls is monotone under a frame.
 use Rattle.walks.proofs.Kit.{_≡_, refl, ℕ, _<_, _^_, List, [], _∷_, length, getD, set, URA, fullShare, Place, Body, erased, w32, w64, seq, call, vunit, vint, vptr, SProp, id⊢, Lft, Share, flft, fres, Memory, Routine, Heap, Env, Calls, Loops, Atoms, Fun, Given, Item, ‵, Post, runs, lands, Seq}
 use Rattle.walks.proofs.Kit.{Step, step, _$_, move, drop, split, join, fsplit, fjoin, u8, ShrSlice, owned, nothing, Opds, FmC, Is, uint-makes, uint-vals, uint-tells, nothing-tells, u32, u64, usize, RefT, MutRef, ShrRef, ptr-vals, MutSlice, Room, slice-vals, finally, only, Triple}
 use mir.Syntax.{Opd as Operand}
 use denote.Struct.Laws as LL
+use Rattle.octets.specs.Limits.{ikePlaces}
 use Rattle.octets.specs.Lists.{placeOf}
 use Rattle.address.specs.declared.pair.Pair.{Pair}
 use Rattle.address.proofs.pair.Pair as P
@@ -22,7 +24,7 @@ use Rattle.records.proofs.ike.IkeRecord as I
 use Rattle.records.proofs.ike.IkeRecord.Laws as I′
 use Rattle.records.proofs.ipsec.IpsecRecord as S
 use Rattle.records.proofs.ipsec.IpsecRecord.Laws as S′
-use Rattle.answering.specs.Core.{changedBy}
+use Rattle.replying.specs.Change.{changedBy}
 use Rattle.replying.specs.declared.reply.CoreAnswer.{CoreAnswer}
 use Rattle.replying.proofs.reply.CoreAnswer as D
 use Rattle.replying.proofs.reply.CoreAnswer.Laws as D′
@@ -73,8 +75,13 @@ module _ {M : Type 1} {𝓤 : URA M} {H : Heap 𝓤} {A : Atoms 𝓤} {K : Type 
 
   module _ {κ : Lft} {q : Share} (x : RefT (List IkeRecord)) where
     pub finds-ike : Triple 𝓤 (C home-def.name) (Told 𝓤 H A home.ended (home.clauses 𝓤 H A at-mem run)) → (k : ℕ) → k < 2 ^ 64 → ((i j : Item 𝓤) → Opds K W (i ∷ j ∷ Γ) E ops (vptr (x .ptr .0) (x .ptr .1) ∷ vint w64 k ∷ []))
-        → (length (x .now) ≡ 32 → placeOf ikeSpi k (x .now) < 2 ^ 64 → Seq K W (‵ (MutRef erased κ Ike.Q .own x (ptr-vals x)) ∷ ‵ (flft κ q) ∷ Γ) (lands C Λ E d (vint w64 (placeOf ikeSpi k (x .now))) rest p)) → Seq K W (‵ (MutRef erased κ Ike.Q .own x (ptr-vals x)) ∷ ‵ (flft κ q) ∷ Γ) (runs C Λ E (seq (call home-def.name ops d) rest) p)
-    finds-ike known k fits os s = lent-array t tt Ike.R x (u64 ∷ []) (uint-makes 𝓤 H A W w64, tt) (k, tt) (uint-vals w64 k, tt) ((refl, fits), tt) 32 tt (λ ν δ long.
+        → (length (x .now) ≡ ikePlaces → placeOf ikeSpi k (x .now) < 2 ^ 64
+        → Seq K W (‵ (MutRef erased κ Ike.Q .own x (ptr-vals x)) ∷ ‵ (flft κ q)
+        ∷ Γ) (lands C Λ E d (vint w64 (placeOf ikeSpi k (x .now))) rest p))
+        → Seq K W (‵ (MutRef erased κ Ike.Q .own x (ptr-vals x)) ∷ ‵ (flft κ q)
+        ∷ Γ) (runs C Λ E (seq (call home-def.name ops d) rest) p)
+    finds-ike known k fits os s = lent-array t tt Ike.R x (u64
+        ∷ []) (uint-makes 𝓤 H A W w64, tt) (k, tt) (uint-vals w64 k, tt) ((refl, fits), tt) ikePlaces tt (λ ν δ long.
         calls-for t fm home.ended (home.clauses 𝓤 H A at-mem run) known (((ν ∷ [], tt), (fullShare, tt), tt, (renamed δ x, (k, tt)), (ptr-vals x, (uint-vals w64 k, tt))), tt) (id⊢ 𝓤 _) (os _ _)
         (uint-vals w64) (uint-tells w64) (placeOf ikeSpi k (x .now)) (λ r ws. id⊢ 𝓤 _) (λ is. ref-over t tt Ike.Q x $ s long (is .1)))
 

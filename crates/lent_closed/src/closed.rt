@@ -10,19 +10,22 @@ ghost use Rattle.records.specs.Records.{released};
 pub fn release_all(records: &mut [IpsecRecord], owner: u64)
     ensures { λ _. ⌜ now (records .exit) ≡ map (released owner) (now (records .entry)) ⌝ }
 {
-    let mut i = 0;
-    while i < records.len() {
-        if records[i].owner == owner {
-            let x = records[i];
-            records[i] = release(x, owner);
+    let mut place = 0;
+    while place < records.len() {
+        if records[place].owner == owner {
+            let x = records[place];
+            records[place] = release(x, owner);
         }
-        i += 1;
+        place += 1;
     }
 }
 
 // Closes the records of an owner, if it was closed.
 pub fn release_if(records: &mut [IpsecRecord], closed: bool, owner: u64)
-    ensures { λ _. ⌜ now (records .exit) ≡ cond closed (map (released owner) (now (records .entry))) (now (records .entry)) ⌝ }
+    ensures { λ _. ⌜ (
+        let before = now (records .entry) in
+        now (records .exit) ≡ cond closed (map (released owner) before) before
+        ) ⌝ }
 {
     if closed {
         release_all(records, owner);

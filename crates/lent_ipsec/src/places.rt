@@ -16,21 +16,21 @@ pub fn ipsec_count(records: &[IpsecRecord]) -> usize
 pub fn ipsec_place(records: &[IpsecRecord], spi: u32) -> usize
     ensures { λ r. ⌜ r ≡ placeOf ipsecSpi spi (now (records .entry)) ⌝ }
 {
-    let mut i = 0;
-    while i < records.len() {
-        if records[i].spi == spi {
-            return i;
+    let mut place = 0;
+    while place < records.len() {
+        if records[place].spi == spi {
+            return place;
         }
-        i += 1;
+        place += 1;
     }
-    i
+    place
 }
 
 // Stores a record at a place; nothing past the end.
-pub fn ipsec_store(records: &mut [IpsecRecord], i: usize, new: IpsecRecord)
-    ensures { λ _. ⌜ now (records .exit) ≡ set (now (records .entry)) i new ⌝ }
+pub fn ipsec_store(records: &mut [IpsecRecord], place: usize, new: IpsecRecord)
+    ensures { λ _. ⌜ now (records .exit) ≡ set (now (records .entry)) place new ⌝ }
 {
-    if i < records.len() {
-        records[i] = new;
+    if place < records.len() {
+        records[place] = new;
     }
 }

@@ -11,19 +11,22 @@ ghost use Rattle.records.specs.Records.{follows};
 pub fn follow_all(records: &mut [IpsecRecord], owner: u64, pair: Pair)
     ensures { λ _. ⌜ now (records .exit) ≡ map (follows owner pair) (now (records .entry)) ⌝ }
 {
-    let mut i = 0;
-    while i < records.len() {
-        if records[i].owner == owner {
-            let x = records[i];
-            records[i] = follow(x, owner, pair);
+    let mut place = 0;
+    while place < records.len() {
+        if records[place].owner == owner {
+            let x = records[place];
+            records[place] = follow(x, owner, pair);
         }
-        i += 1;
+        place += 1;
     }
 }
 
 // Moves the records of an owner, if it moved.
 pub fn follow_if(records: &mut [IpsecRecord], moves: bool, owner: u64, pair: Pair)
-    ensures { λ _. ⌜ now (records .exit) ≡ cond moves (map (follows owner pair) (now (records .entry))) (now (records .entry)) ⌝ }
+    ensures { λ _. ⌜ (
+        let before = now (records .entry) in
+        now (records .exit) ≡ cond moves (map (follows owner pair) before) before
+        ) ⌝ }
 {
     if moves {
         follow_all(records, owner, pair);

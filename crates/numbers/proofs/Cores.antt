@@ -5,16 +5,20 @@ use mathlib.Core.List.{List}
 use mathlib.Core.Bool.{Bool, true, false, cond}
 use borrow.Author.Tests.{eq-eqb, ne-eqb}
 use lib.ListN.{length}
+use Rattle.octets.specs.Limits.{addressesMost}
+use Rattle.writing.specs.Notify.{Notification, firstType, chained}
 use Rattle.values.specs.Values.{addressesIn}
 use Rattle.policy.specs.declared.rules.Policy.{Policy}
 use Rattle.reader.specs.Chain.{reading}
 use Rattle.records.specs.Records.{marksIn, rewritten, remarked, relisted}
 use Rattle.records.specs.declared.ike.IkeRecord.{IkeRecord}
 use Rattle.records.specs.declared.ike.Marks.{Marks}
-use Rattle.deciding.specs.Decide.{verdictNumber}
-use Rattle.deciding.specs.declared.decide.Verdict.{Verdict}
-use Rattle.answering.specs.Core.{decidedResponse, chainError, decisionOn, coreAnswer, coreResponse, coreResult, changedBy}
-use Rattle.responder.specs.Handle.{Request, seenIn}
+use Rattle.verdict.specs.Verdict.{verdictNumber}
+use Rattle.verdict.specs.declared.update.Verdict.{Verdict}
+use Rattle.answering.specs.Core.{decidedResponse, chainError, decisionOn, coreAnswer, coreResponse, coreResult}
+use Rattle.replying.specs.Change.{changedBy}
+use Rattle.checking.specs.Checks.{Request}
+use Rattle.responder.specs.Handle.{seenIn}
 use Rattle.numbers.proofs.Decisions.{Comes}
 
 -- the number that reading the chain gives
@@ -25,23 +29,29 @@ chainNumber q = reading (q .asks .first) (q .asks .body) .number
 abbrev pub entryBy : Request → IkeRecord → Bool → Bool → Marks → IkeRecord
 entryBy q e u l m =
     let list = seenIn q .list in
-    rewritten (cond u (q .asks .pair) (e .pair)) (m .«update_mark») (m .«list_mark») (cond l (min (list .count) 16) (e .count))
+    rewritten (cond u (q .asks .pair) (e .pair)) (m .«update_mark») (m .«list_mark»)
+    (cond l (min (list .count) addressesMost) (e .count))
     (cond l (addressesIn (q .asks .body) list) (e .addresses)) (m .unknown) e
 
--- number, octets with the length told, the record after it, and whether what it owns follows
-pub record CoreComes (policy : Policy) (q : Request) (e : IkeRecord) (n : ℕ) (response : List ℕ) (after : IkeRecord) (u : Bool) : Type 0 where
+-- number, response with what is told of it, the record after it, and whether what it owns follows
+pub record CoreComes (policy : Policy) (q : Request) (e : IkeRecord) (n : ℕ) (response : List Notification)
+    (after : IkeRecord) (u : Bool) : Type 0 where
   pub number : coreResult policy (q .asks) e .reply .number ≡ n
-  pub octets : coreResponse policy (q .asks) (marksIn e) ≡ response
-  pub long : coreResult policy (q .asks) e .reply .length ≡ length response
+  pub octets : coreResponse policy (q .asks) (marksIn e) ≡ chained response 0
+  pub first : coreResult policy (q .asks) e .reply .first ≡ firstType response 0
+  pub long : coreResult policy (q .asks) e .reply .length ≡ length (chained response 0)
   pub entry : coreResult policy (q .asks) e .entry ≡ after
   pub moves : coreResult policy (q .asks) e .moves ≡ u
 
 module _ (policy : Policy) (q : Request) (e : IkeRecord) where
-  pub core-refused : (chainNumber q ≡ 0 → ⊥) → CoreComes policy q e (chainNumber q) (chainError (reading (q .asks .first) (q .asks .body))) e false
+  pub core-refused : (chainNumber q ≡ 0 → ⊥)
+      → CoreComes policy q e (chainNumber q) (chainError (reading (q .asks .first) (q .asks .body))) e false
   unfolding coreAnswer coreResponse changedBy
-  core-refused n = let g = ne-eqb (chainNumber q) 0 n in record { number = rw g; octets = rw g; long = rw g; entry = rw g; moves = rw g }
+  core-refused n = let g = ne-eqb (chainNumber q) 0 n in
+      record { number = rw g; octets = rw g; first = rw g; long = rw g; entry = rw g; moves = rw g }
 
-  pub core-decided : chainNumber q ≡ 0 → {v : Verdict} {u l : Bool} {m : Marks} → Comes v u l m (decisionOn policy (q .asks) (marksIn e))
+  pub core-decided : chainNumber q ≡ 0 → {v : Verdict} {u l : Bool} {m : Marks}
+      → Comes v u l m (decisionOn policy (q .asks) (marksIn e))
       → CoreComes policy q e (verdictNumber v) (decidedResponse v (q .asks) (seenIn q)) (entryBy q e u l m) u
   unfolding coreAnswer coreResponse changedBy
   core-decided w {v} {u} {l} {m} c =
@@ -49,6 +59,7 @@ module _ (policy : Policy) (q : Request) (e : IkeRecord) where
       record {
         number = rw (g, c .verdict-is);
         octets = rw (g, c .verdict-is);
+        first = rw (g, c .verdict-is);
         long = rw (g, c .verdict-is);
         entry = rw (g, c .moves, c .relists, c .marks) (go l);
         moves = rw g (c .moves);
@@ -56,6 +67,7 @@ module _ (policy : Policy) (q : Request) (e : IkeRecord) where
     where
       go : (b : Bool)
           → let new = remarked m u (q .asks .pair) e in
-          cond b (relisted (min (seenIn q .list .count) 16) (addressesIn (q .asks .body) (seenIn q .list)) new) new ≡ entryBy q e u b m
+          cond b (relisted (min (seenIn q .list .count) addressesMost) (addressesIn (q .asks .body) (seenIn q .list))
+          new) new ≡ entryBy q e u b m
       go true = refl
       go false = refl

@@ -2,20 +2,23 @@
 use Prim.Native.Nat.{_+_}
 use mathlib.Core.Path.{_≡_, refl}
 use mathlib.Core.Logic.{_⊎_, inl, inr}
-use mathlib.Core.Bool.{Bool, true, false, cond, _&&_}
+use mathlib.Core.Bool.{Bool, true, false, cond, _&&_, not}
 use lib.Dec.{leb}
 use Rattle.values.specs.Values.{noNatsSeen}
 use Rattle.policy.specs.Policy.{acceptable}
 use Rattle.policy.specs.declared.rules.Policy.{Policy}
 use Rattle.records.specs.declared.ike.Marks.{Marks}
-use Rattle.deciding.specs.Decide.{isDone, tallied, unaltered, verdict, listMarked, decision, leftOff, hasList, listDecided, updateDecided, decided}
+use Rattle.verdict.specs.Verdict.{unaltered, verdict}
+use Rattle.deciding.specs.Decide.{saysDone, effectNumber, tallied, listMarked, decision, leftOff, hasList, listDecided}
+use Rattle.deciding.specs.Decide.{updateDecided, decided}
 use Rattle.deciding.specs.declared.decide.Decision.{Decision}
 use Rattle.deciding.specs.declared.decide.Effect.{Effect}
 use Rattle.deciding.specs.declared.decide.Effect.the-variants.{None, Done, Stale}
-use Rattle.deciding.specs.declared.decide.Verdict.{Verdict}
-use Rattle.deciding.specs.declared.decide.Verdict.the-variants.{Accepted, Altered, Unacceptable}
+use Rattle.verdict.specs.declared.update.Verdict.{Verdict}
+use Rattle.verdict.specs.declared.update.Verdict.the-variants.{Accepted, Altered, Unacceptable}
 use Rattle.answering.specs.Core.{decisionOn}
-use Rattle.responder.specs.Handle.{Request, seenIn}
+use Rattle.checking.specs.Checks.{Request}
+use Rattle.responder.specs.Handle.{seenIn}
 use Rattle.numbers.specs.Numbers.{unknownIn}
 
 -- whether the update counts, and whether the list does
@@ -38,8 +41,8 @@ marksBy q u l m =
 -- a decision's verdict, whether the record moves, whether its list is replaced, and its marks
 pub record Comes (v : Verdict) (u l : Bool) (m : Marks) (d : Decision) : Type 0 where
   pub verdict-is : d .verdict ≡ v
-  pub moves : isDone (d .update) ≡ u
-  pub relists : isDone (d .list) ≡ l
+  pub moves : saysDone (effectNumber (d .update)) ≡ u
+  pub relists : saysDone (effectNumber (d .list)) ≡ l
   pub marks : d .marks ≡ m
 
 -- what 8 and 9 need: an update that counts, on which this is the verdict
@@ -55,10 +58,11 @@ pub data Decides (policy : Policy) (q : Request) (m : Marks) (d : Decision) : Ty
 -- step 3, after an update that came to `u`, which counts by `b`
 abbrev listed : Request → Bool → Bool → Effect → Marks → Decision
 listed q x y u m =
-    cond x (cond y (decision Accepted u Done (leftOff (seenIn q .list .count)) (listMarked (q .asks .id) m)) (decision Accepted u Stale 0 m))
-    (decision Accepted u None 0 m)
+    cond (not x) (decision Accepted u None 0 m)
+    (cond (not y) (decision Accepted u Stale 0 m)
+    (decision Accepted u Done (leftOff (seenIn q .list .count)) (listMarked (q .asks .id) m)))
 
-list-comes : (q : Request) (x y : Bool) (u : Effect) (b : Bool) (m : Marks) → isDone u ≡ b
+list-comes : (q : Request) (x y : Bool) (u : Effect) (b : Bool) (m : Marks) → saysDone (effectNumber u) ≡ b
     → Comes Accepted b (x && y) (marksBy q b (x && y) m) (listed q x y u (marksBy q b false m))
 list-comes q true true u b m e = record { verdict-is = refl; moves = e; relists = refl; marks = refl }
 list-comes q true false u b m e = record { verdict-is = refl; moves = e; relists = refl; marks = refl }
@@ -67,7 +71,8 @@ list-comes q false y u b m e = record { verdict-is = refl; moves = e; relists = 
 pub decides : (policy : Policy) (q : Request) (m : Marks) → Decides policy q m (decisionOn policy (q .asks) m)
 unfolding decided updateDecided listDecided verdict
 decides policy q m =
-    go (seenIn q .update) refl (leb (m .«update_mark») (q .asks .id)) refl (unaltered (noNatsSeen (q .asks .body) (seenIn q)) (q .asks .pair)) refl
+    go (seenIn q .update) refl (leb (m .«update_mark») (q .asks .id)) refl
+    (unaltered (noNatsSeen (q .asks .body) (seenIn q)) (q .asks .pair)) refl
     (acceptable policy (q .asks .pair)) refl
   where
     x : Bool
@@ -79,13 +84,21 @@ decides policy q m =
     refuses : (v : Verdict) → seenIn q .update ≡ true → leb (m .«update_mark») (q .asks .id) ≡ true
         → verdict policy (noNatsSeen (q .asks .body) (seenIn q)) (q .asks .pair) ≡ v
         → Refuses policy q m v (decision v None None 0 (marksBy q true false m))
-    refuses v f g e = record { counts = rw (f, g); verdict-is = e; comes = record { verdict-is = refl; moves = refl; relists = refl; marks = refl } }
+    refuses v f g e =
+        record {
+          counts = rw (f, g);
+          verdict-is = e;
+          comes = record
+              { verdict-is = refl; moves = refl; relists = refl; marks = refl };
+        }
 
     go : (a : Bool) → seenIn q .update ≡ a → (b : Bool) → leb (m .«update_mark») (q .asks .id) ≡ b
-        → (c : Bool) → unaltered (noNatsSeen (q .asks .body) (seenIn q)) (q .asks .pair) ≡ c → (e : Bool) → acceptable policy (q .asks .pair) ≡ e
+        → (c : Bool) → unaltered (noNatsSeen (q .asks .body) (seenIn q)) (q .asks .pair) ≡ c → (e : Bool)
+        → acceptable policy (q .asks .pair) ≡ e
         → Decides policy q m (decisionOn policy (q .asks) m)
     go true f true g true h true k = rw (f, g, h, k) (done (rw (f, g) (list-comes q x y Done true m refl)))
-    go true f true g true h false k = rw (f, g, h, k) (refused Unacceptable (inr refl) (refuses Unacceptable f g (rw (h, k))))
+    go true f true g true h false k =
+        rw (f, g, h, k) (refused Unacceptable (inr refl) (refuses Unacceptable f g (rw (h, k))))
     go true f true g false h e k = rw (f, g, h) (refused Altered (inl refl) (refuses Altered f g (rw h)))
     go true f false g c h e k = rw (f, g) (done (rw (f, g) (list-comes q x y Stale false m refl)))
     go false f b g c h e k = rw f (done (rw f (list-comes q x y None false m refl)))

@@ -6,7 +6,7 @@ use mathlib.Core.List.{List, [], _∷_}
 use mathlib.Core.Bool.{Bool, true, false}
 use native.Mathlib.Omega.{arith}
 use native.Mathlib.Decide.{ℕ-discrete}
-use borrow.Author.Tests.{leb-true}
+use borrow.Author.Tests.{leb-true, ltb-true}
 use lib.Dec.{leb}
 use lib.ListN.{length}
 use lib.Seq.{getD-set-same, getD-set-other}
@@ -18,10 +18,11 @@ use Rattle.records.specs.Records.{ikeSpi, noIke}
 use Rattle.tables.specs.Tables.{Tables}
 use Rattle.records.specs.declared.ike.IkeRecord.{IkeRecord}
 use Rattle.records.specs.declared.ike.Marks.{Marks}
-use Rattle.responder.specs.Handle.{Request, seenIn, afterRequest}
-use Rattle.responder.proofs.Checks.{passed, record-there}
+use Rattle.checking.specs.Checks.{Request}
+use Rattle.responder.specs.Handle.{seenIn, afterRequest}
+use Rattle.checking.proofs.Checks.{passed}
 use Rattle.numbers.specs.Numbers.{applies, Some}
-use Rattle.numbers.specs.Marks.{at, Moves, MarkKept, MarksKept, Sent, taken, NeverLate, NoneLate}
+use Rattle.numbers.specs.Marks.{recordAt, Moves, MarkKept, MarksKept, Sent, taken, NeverLate, NoneLate}
 use Rattle.numbers.proofs.Cores.{entryBy}
 use Rattle.numbers.proofs.Ways.{place, entry, Changes, Way, stays, changes, way}
 
@@ -31,14 +32,15 @@ module _ (policy : Policy) (t : Tables) (q : Request) (i : ℕ) where
 
   -- an update that counts carries an ID that exceeds the mark
   newer : applies q (entry t q) ≡ true → (seenIn q .update ≡ true) × (entry t q .«update_mark» ≤ q .asks .id)
-  newer e = let b = both (seenIn q .update) (leb (entry t q .«update_mark») (q .asks .id)) e in (b .0, leb-true _ _ (b .1))
+  newer e = let b = both (seenIn q .update) (leb (entry t q .«update_mark») (q .asks .id)) e in
+      (b .0, leb-true _ _ (b .1))
 
   module _ (u l : Bool) (m : Marks) (c : Changes policy t q u l m) where
     raised : entry t q .«update_mark» ≤ m .«update_mark»
     raised = ⊎-elim (λ e. omega arith) (λ e. omega (arith, newer (e .0) .1, e .1)) (c .update-mark)
 
     here : place t q < length (t .ike)
-    here = record-there (t .ike) (q .spi) (passed _ _ _ _ (c .passes) .there) .0
+    here = ltb-true _ _ (passed _ _ _ q (c .passes) .found)
 
     changed : MarkKept policy t q i
     changed = go (ℕ-discrete i (place t q))
@@ -46,16 +48,28 @@ module _ (policy : Policy) (t : Tables) (q : Request) (i : ℕ) where
         by : (b : Bool) → (b ≡ true → applies q (entry t q) ≡ true) → i ≡ place t q
             → let e = entryBy q (entry t q) b l m in
             (e .pair ≡ entry t q .pair) ⊎ ((i ≡ place t q) × Moves (entry t q) e q)
-        by true c e = let n = newer (c refl) in inr (e, record { spi = place-has ikeSpi (q .spi) (t .ike) noIke here; update = n .0; newer = n .1; pair = refl })
+        by true c e = let n = newer (c refl) in
+            inr (
+              e,
+              record {
+                spi = place-has ikeSpi (q .spi) (t .ike) noIke here;
+                update = n .0;
+                newer = n .1;
+                pair =
+                    refl;
+              },
+            )
         by false c e = inl refl
 
         go : Dec (i ≡ place t q) → MarkKept policy t q i
         go (yes e) =
-            let now : at i (afterRequest policy q t) ≡ entryBy q (entry t q) u l m = rw (c .is, e) (getD-set-same (t .ike) (place t q) (entryBy q (entry t q) u l m) noIke here) in
-            let was : at i t ≡ entry t q = ap (λ (j : ℕ). at j t) e in
+            let now : recordAt i (afterRequest policy q t) ≡ entryBy q (entry t q) u l m =
+            rw (c .is, e) (getD-set-same (t .ike) (place t q) (entryBy q (entry t q) u l m) noIke here) in
+            let was : recordAt i t ≡ entry t q = ap (λ (j : ℕ). recordAt j t) e in
             record { spi = rw (now, was); rises = rw (now, was) raised; moved = rw (now, was) (by u (c .moves) e) }
         go (no n) =
-            let now : at i (afterRequest policy q t) ≡ at i t = rw (c .is) (getD-set-other (t .ike) (place t q) i (entryBy q (entry t q) u l m) noIke n) in
+            let now : recordAt i (afterRequest policy q t) ≡ recordAt i t =
+            rw (c .is) (getD-set-other (t .ike) (place t q) i (entryBy q (entry t q) u l m) noIke n) in
             record { spi = rw now; rises = rw now (omega arith); moved = inl (rw now) }
 
   kept : MarkKept policy t q i
@@ -71,7 +85,7 @@ marks-kept = kept
 -- one request before others: the last that moved the record had an ID above a mark that was no lower than at the start
 module _ (t : Tables) (x : Sent) (xs : List Sent) (i : ℕ) (rest : NeverLate (taken x t) xs i) where
   abbrev end : IkeRecord
-  end = at i (after taken (taken x t) xs)
+  end = recordAt i (after taken (taken x t) xs)
 
   first : MarkKept (x .policy) t (x .request) i
   first = kept (x .policy) t (x .request) i
@@ -79,19 +93,32 @@ module _ (t : Tables) (x : Sent) (xs : List Sent) (i : ℕ) (rest : NeverLate (t
   abbrev Moved : IkeRecord → Sent → Type 0
   Moved before y = Moves before end (y .request)
 
-  still-newer : (ys : List Sent) → Some (Moved (at i (taken x t))) ys → Some (Moved (at i t)) ys
+  still-newer : (ys : List Sent) → Some (Moved (recordAt i (taken x t))) ys → Some (Moved (recordAt i t)) ys
   still-newer [] f = f
   still-newer (y ∷ ys) f =
-      ⊎-elim (λ m. inl (record { spi = sym (first .spi) ∙ m .spi; update = m .update; newer = omega (arith, first .rises, m .newer); pair = m .pair }))
+      ⊎-elim (λ m. inl
+      (record {
+        spi = sym (first .spi) ∙ m .spi;
+        update = m .update;
+        newer = omega (arith, first .rises, m .newer);
+        pair = m .pair;
+      }))
       (λ m. inr (still-newer ys m)) f
 
-  unmoved : end .pair ≡ at i (taken x t) .pair → (end .pair ≡ at i t .pair) ⊎ Some (Moved (at i t)) (x ∷ xs)
+  unmoved : end .pair ≡ recordAt i (taken x t) .pair
+      → (end .pair ≡ recordAt i t .pair) ⊎ Some (Moved (recordAt i t)) (x ∷ xs)
   unmoved e =
       ⊎-elim (λ f. inl (e ∙ f))
-      (λ m. inr (inl (record { spi = m .1 .spi; update = m .1 .update; newer = m .1 .newer; pair = e ∙ m .1 .pair }))) (first .moved)
+      (λ m. inr (inl (record { spi = m .1 .spi; update = m .1 .update; newer = m .1 .newer; pair = e ∙ m .1 .pair })))
+      (first .moved)
 
   one-more : NeverLate t (x ∷ xs) i
-  one-more = record { rises = omega (arith, first .rises, rest .rises); moved = ⊎-elim unmoved (λ f. inr (inr (still-newer xs f))) (rest .moved) }
+  one-more =
+      record {
+        rises = omega (arith, first .rises, rest .rises);
+        moved = ⊎-elim unmoved
+            (λ f. inr (inr (still-newer xs f))) (rest .moved);
+      }
 
 pub none-late : NoneLate
 none-late t [] i = record { rises = omega arith; moved = inl refl }

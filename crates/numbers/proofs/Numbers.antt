@@ -2,21 +2,21 @@
 use Prim.Native.Nat.{ℕ, zero, suc, _<_}
 use mathlib.Core.Path.{_≡_, refl, ap, _∙_}
 use mathlib.Core.Logic.{inl, inr, ⊎-elim}
-use mathlib.Core.List.{List, [], _∷_, append-nil}
+use mathlib.Core.List.{List, [], _∷_}
 use native.Mathlib.Omega.{arith}
 use native.Mathlib.Decide.{ℕ-discrete}
 use borrow.Author.Tests.{eq-eqb, ne-eqb}
 use lib.ListN.{length, getD}
+use Rattle.octets.specs.declared.number.Number.the-variants.{Done}
 use Rattle.policy.specs.declared.rules.Policy.{Policy}
 use Rattle.records.specs.Records.{marksIn}
 use Rattle.tables.specs.Tables.{Tables}
-use Rattle.writing.specs.Notify.{notifyOctets}
-use Rattle.responding.specs.Respond.{cookieNotify, errorResponse}
+use Rattle.writing.specs.Notify.{Notification, firstType, chained}
 use Rattle.answering.specs.Core.{chainError, decisionOn}
-use Rattle.responder.specs.Handle.{Request}
+use Rattle.checking.specs.Checks.{Request}
 use Rattle.reader.proofs.Refused.{broken-number}
-use Rattle.responder.proofs.Checks.{passed, early-of}
-use Rattle.numbers.specs.Numbers.{same, none, Row, row, rows, Some, Gives, AsTheTable}
+use Rattle.checking.proofs.Checks.{passed, early-of}
+use Rattle.numbers.specs.Numbers.{same, none, NumberRow, numberRow, numberRows, Some, Gives, AsTheTable}
 use Rattle.numbers.proofs.Decisions.{Decides, done, refused, decides}
 use Rattle.numbers.proofs.Cores.{chainNumber}
 use Rattle.numbers.proofs.Ways.{early, entry, ComesTo, refused-early, refused-chain, decided-here}
@@ -27,28 +27,40 @@ some-at P d [] k l p = absurd (omega arith)
 some-at P d (x ∷ xs) zero l p = inl p
 some-at P d (x ∷ xs) (suc k) l p = inr (some-at P d xs k (omega arith) p)
 
--- an error alone
-alone : (type : ℕ) (octets : List ℕ) → errorResponse type octets [] ≡ notifyOctets 0 type octets
-unfolding errorResponse cookieNotify
-alone type octets = append-nil (notifyOctets 0 type octets)
+abbrev octetsOf : List Notification → List ℕ
+octetsOf xs = chained xs 0
 
-abbrev rowAt : ℕ → Row
-rowAt k = getD rows k (row 0 none same)
+abbrev rowAt : ℕ → NumberRow
+rowAt k = getD numberRows k (numberRow Done none same)
 
 module _ (policy : Policy) (t : Tables) (q : Request) where
   abbrev Found : Type 0
-  Found = Some (Gives policy t q) rows
+  Found = Some (Gives policy t q) numberRows
 
-  at : (k : ℕ) → k < length rows → {n : ℕ} {octets : List ℕ} {s : Tables} → ComesTo policy t q n octets s
-      → n ≡ rowAt k .number → octets ≡ rowAt k .response q → s ≡ rowAt k .tables q t → Found
+  at : (k : ℕ) → k < length numberRows → {n : ℕ} {xs : List Notification} {s : Tables} → ComesTo policy t q n xs s
+      → n ≡ rowAt k .number → xs ≡ rowAt k .response q → s ≡ rowAt k .tables q t → Found
   at k l c n o s =
-      some-at (Gives policy t q) (row 0 none same) rows k l
-      (record { number = c .number ∙ n; octets = c .octets ∙ o; long = c .long ∙ ap length o; after = c .after ∙ s })
+      some-at (Gives policy t q) (numberRow Done none same) numberRows k l
+      (record {
+        number = c .number ∙ n;
+        octets = c .octets ∙ ap octetsOf o;
+        first = c .first ∙ ap (λ (xs : List Notification). firstType xs 0) o;
+        long = c .long ∙ ap (λ (xs : List Notification). length (octetsOf xs)) o;
+        left = c .after ∙ s;
+      })
 
   early-row : (early t q ≡ 0 → ⊥) → Found
   early-row n =
-      early-of (λ (k : ℕ). early t q ≡ k → Found) (λ e. absurd (n e)) (λ e. at 1 (omega arith) c e refl refl) (λ e. at 2 (omega arith) c e refl refl)
-      (λ e. at 3 (omega arith) c e refl refl) (λ e. at 4 (omega arith) c e refl refl) (λ e. at 5 (omega arith) c e refl refl) _ _ _ _ _ refl
+      early-of _ _ _ q (λ (k : ℕ). early t q ≡ k → Found) (
+        λ f e. at 1 (omega arith) c e refl refl,
+        (
+          λ f e. at 2 (omega arith) c e refl refl,
+          (
+            λ f e. at 3 (omega arith) c e refl refl,
+            (λ f e. at 4 (omega arith) c e refl refl, (λ f e. at 5 (omega arith) c e refl refl, λ e. absurd (n e))),
+          ),
+        ),
+      ) refl
     where
       c : ComesTo policy t q (early t q) [] t
       c = refused-early policy t q n
@@ -58,12 +70,12 @@ module _ (policy : Policy) (t : Tables) (q : Request) where
   chain-row e n =
       let c = refused-chain policy t q e n in
       ⊎-elim
-      (λ six. at 6 (omega arith) c six (rw (ne-eqb (chainNumber q) 7 (omega arith)) (alone 7 [])) refl)
-      (λ seven. at 7 (omega arith) c seven (rw (eq-eqb (chainNumber q) 7 seven) (alone 1 _)) refl)
-      (broken-number (q .asks .first) (q .asks .body) (passed _ _ _ _ e .short) n)
+      (λ six. at 6 (omega arith) c six (rw (ne-eqb (chainNumber q) 7 (omega arith))) refl)
+      (λ seven. at 7 (omega arith) c seven (rw (eq-eqb (chainNumber q) 7 seven)) refl)
+      (broken-number (q .asks .first) (q .asks .body) (passed _ _ _ q e .short) n)
 
-  whole-row : early t q ≡ 0 → chainNumber q ≡ 0 → Decides policy q (marksIn (entry t q)) (decisionOn policy (q .asks) (marksIn (entry t q))) → Found
-  unfolding errorResponse
+  whole-row : early t q ≡ 0 → chainNumber q ≡ 0
+      → Decides policy q (marksIn (entry t q)) (decisionOn policy (q .asks) (marksIn (entry t q))) → Found
   whole-row e w (done c) = at 0 (omega arith) (decided-here policy t q e w c) refl refl refl
   whole-row e w (refused v which r) =
       let c = decided-here policy t q e w (r .comes) in

@@ -9,8 +9,10 @@ use native.Mathlib.Decide.{ℕ-discrete}
 use borrow.Author.Tests.{eq-eqb, ne-eqb}
 use lib.ListN.{length, set}
 use lib.Seq.{set-getD}
+use Rattle.octets.specs.Limits.{tallyMost}
 use Rattle.octets.specs.Lists.{placeOf}
 use Rattle.octets.proofs.Small.{chosen}
+use Rattle.writing.specs.Notify.{Notification, firstType, chained}
 use Rattle.policy.specs.declared.rules.Policy.{Policy}
 use Rattle.reader.specs.Chain.{reading}
 use Rattle.records.specs.Records.{ikeSpi, noIke, marksIn, follows}
@@ -18,9 +20,10 @@ use Rattle.tables.specs.Tables.{Tables, tables}
 use Rattle.records.specs.declared.ike.IkeRecord.{IkeRecord}
 use Rattle.records.specs.declared.ike.Marks.{Marks}
 use Rattle.answering.specs.Core.{decidedResponse, chainError, decisionOn}
-use Rattle.responder.specs.Handle.{Request, meant, earlyNumber, handled, handledResponse, seenIn, afterRequest}
-use Rattle.deciding.specs.Decide.{verdictNumber}
-use Rattle.deciding.specs.declared.decide.Verdict.{Verdict}
+use Rattle.checking.specs.Checks.{Request}
+use Rattle.responder.specs.Handle.{meant, earlyNumber, handled, handledResponse, seenIn, afterRequest}
+use Rattle.verdict.specs.Verdict.{verdictNumber}
+use Rattle.verdict.specs.declared.update.Verdict.{Verdict}
 use Rattle.numbers.specs.Numbers.{applies, replaces}
 use Rattle.numbers.proofs.Decisions.{marksBy, Comes, Decides, done, refused, decides}
 use Rattle.numbers.proofs.Cores.{chainNumber, entryBy, CoreComes, core-refused, core-decided}
@@ -37,35 +40,49 @@ entry t q = meant (t .ike) (q .spi)
 
 -- the tables with the record meant so, and, if it moves, what it owns moved with it
 abbrev pub changedTo : Tables → Request → IkeRecord → Bool → Tables
-changedTo t q e u = tables (set (t .ike) (place t q) e) (cond u (map (follows (q .spi) (q .asks .pair)) (t .ipsec)) (t .ipsec))
+changedTo t q e u =
+    tables (set (t .ike) (place t q) e) (cond u (map (follows (q .spi) (q .asks .pair)) (t .ipsec)) (t .ipsec))
 
 module _ (policy : Policy) (t : Tables) (q : Request) where
-  -- number, octets with the length told, and tables
-  pub record ComesTo (n : ℕ) (response : List ℕ) (s : Tables) : Type 0 where
+  -- number, response with what is told of it, and tables
+  pub record ComesTo (n : ℕ) (response : List Notification) (s : Tables) : Type 0 where
     pub number : handled policy (t .ike) (t .ipsec) q .reply .number ≡ n
-    pub octets : handledResponse policy (t .ike) (t .ipsec) q ≡ response
-    pub long : handled policy (t .ike) (t .ipsec) q .reply .length ≡ length response
+    pub octets : handledResponse policy (t .ike) (t .ipsec) q ≡ chained response 0
+    pub first : handled policy (t .ike) (t .ipsec) q .reply .first ≡ firstType response 0
+    pub long : handled policy (t .ike) (t .ipsec) q .reply .length ≡ length (chained response 0)
     pub after : afterRequest policy q t ≡ s
 
   pub refused-early : (early t q ≡ 0 → ⊥) → ComesTo (early t q) [] t
-  unfolding afterRequest handled handledResponse
-  refused-early n = let f = ne-eqb (early t q) 0 n in record { number = rw f; octets = rw f; long = rw f; after = rw f }
+  unfolding afterRequest handled handledResponse chained
+  refused-early n =
+      let f = ne-eqb (early t q) 0 n in
+      record { number = rw f; octets = rw f; first = rw f; long = rw f; after = rw f }
 
   module _ (passes : early t q ≡ 0) where
-    by-core : {n : ℕ} {response : List ℕ} {e : IkeRecord} {u : Bool} → CoreComes policy q (entry t q) n response e u → ComesTo n response (changedTo t q e u)
+    by-core : {n : ℕ} {response : List Notification} {e : IkeRecord} {u : Bool}
+        → CoreComes policy q (entry t q) n response e u → ComesTo n response (changedTo t q e u)
     unfolding afterRequest handled handledResponse
     by-core c =
         let f = eq-eqb (early t q) 0 passes in
-        record { number = rw f (c .number); octets = rw f (c .octets); long = rw f (c .long); after = rw (f, c .entry, c .moves) }
+        record {
+          number = rw f (c .number);
+          octets = rw f (c .octets);
+          first = rw f (c .first);
+          long = rw f (c .long);
+          after = rw (f, c .entry, c .moves);
+        }
 
-    pub refused-chain : (chainNumber q ≡ 0 → ⊥) → ComesTo (chainNumber q) (chainError (reading (q .asks .first) (q .asks .body))) t
+    pub refused-chain : (chainNumber q ≡ 0 → ⊥)
+        → ComesTo (chainNumber q) (chainError (reading (q .asks .first) (q .asks .body))) t
     refused-chain n =
         let c = by-core (core-refused policy q (entry t q) n) in
         let same = ap (λ (ike : List IkeRecord). tables ike (t .ipsec)) (set-getD (t .ike) (place t q) noIke) in
-        record { number = c .number; octets = c .octets; long = c .long; after = c .after ∙ same }
+        record { number = c .number; octets = c .octets; first = c .first; long = c .long; after = c .after ∙ same }
 
-    pub decided-here : chainNumber q ≡ 0 → {v : Verdict} {u l : Bool} {m : Marks} → Comes v u l m (decisionOn policy (q .asks) (marksIn (entry t q)))
-        → ComesTo (verdictNumber v) (decidedResponse v (q .asks) (seenIn q)) (changedTo t q (entryBy q (entry t q) u l m) u)
+    pub decided-here : chainNumber q ≡ 0 → {v : Verdict} {u l : Bool} {m : Marks}
+        → Comes v u l m (decisionOn policy (q .asks) (marksIn (entry t q)))
+        → ComesTo (verdictNumber v) (decidedResponse v (q .asks) (seenIn q))
+        (changedTo t q (entryBy q (entry t q) u l m) u)
     decided-here w c = by-core (core-decided policy q (entry t q) w c)
 
   -- A change of the record meant: it moves only with an update that counts, and its marks stay or become the ID.
@@ -73,9 +90,10 @@ module _ (policy : Policy) (t : Tables) (q : Request) where
     pub passes : early t q ≡ 0
     pub is : afterRequest policy q t ≡ changedTo t q (entryBy q (entry t q) u l m) u
     pub moves : u ≡ true → applies q (entry t q) ≡ true
-    pub update-mark : (m .«update_mark» ≡ entry t q .«update_mark») ⊎ ((applies q (entry t q) ≡ true) × (m .«update_mark» ≡ q .asks .id + 1))
+    pub update-mark : (m .«update_mark» ≡ entry t q .«update_mark») ⊎
+        ((applies q (entry t q) ≡ true) × (m .«update_mark» ≡ q .asks .id + 1))
     pub list-mark : (m .«list_mark» ≡ entry t q .«list_mark») ⊎ (m .«list_mark» ≡ q .asks .id + 1)
-    pub tally : m .unknown ≤ 4294967295
+    pub tally : m .unknown ≤ tallyMost
 
   -- What a request does to the tables.
   pub data Way : Type 0 where
@@ -83,7 +101,8 @@ module _ (policy : Policy) (t : Tables) (q : Request) where
     changes : (u l : Bool) (m : Marks) → Changes u l m → Way
 
   module _ (passes : early t q ≡ 0) (w : chainNumber q ≡ 0) where
-    by-marks : {v : Verdict} {u l : Bool} (a b : Bool) → (u ≡ true → applies q (entry t q) ≡ true) → (a ≡ true → applies q (entry t q) ≡ true)
+    by-marks : {v : Verdict} {u l : Bool} (a b : Bool) → (u ≡ true → applies q (entry t q) ≡ true)
+        → (a ≡ true → applies q (entry t q) ≡ true)
         → Comes v u l (marksBy q a b (marksIn (entry t q))) (decisionOn policy (q .asks) (marksIn (entry t q))) → Way
     by-marks {v} {u} {l} a b moves raises c =
         changes u l (marksBy q a b (marksIn (entry t q)))
@@ -92,9 +111,12 @@ module _ (policy : Policy) (t : Tables) (q : Request) where
           is = decided-here passes w c .after;
           moves = moves;
           update-mark =
-              chosen (λ (x : ℕ). (x ≡ entry t q .«update_mark») ⊎ ((applies q (entry t q) ≡ true) × (x ≡ q .asks .id + 1))) a
+              chosen (λ (x : ℕ). (x ≡ entry t q .«update_mark») ⊎
+              ((applies q (entry t q) ≡ true) × (x ≡ q .asks .id + 1))) a
               (λ f. inr (raises f, refl)) (λ f. inl refl);
-          list-mark = chosen (λ (x : ℕ). (x ≡ entry t q .«list_mark») ⊎ (x ≡ q .asks .id + 1)) b (λ f. inr refl) (λ f. inl refl);
+          list-mark =
+              chosen (λ (x : ℕ). (x ≡ entry t q .«list_mark») ⊎ (x ≡ q .asks .id + 1)) b (λ f. inr refl)
+              (λ f. inl refl);
           tally = omega arith;
         })
 

@@ -30,7 +30,8 @@ module _ {A : Type 0} (f : A → A) (xs : List A) where
         ∙ sym (append-assoc (map f (take i xs)) (f (getD xs i d) ∷ []) (drop (suc i) xs)))
 
   -- one turn of the loop: `out` is done up to i, and y is made of the element that stands there
-  pub turn : (out : List A) (i : ℕ) (d : A) (y : A) → i < length xs → out ≡ upTo i → y ≡ f (getD out i d) → set out i y ≡ upTo (i + 1)
+  pub turn : (out : List A) (i : ℕ) (d : A) (y : A) → i < length xs → out ≡ upTo i → y ≡ f (getD out i d)
+      → set out i y ≡ upTo (i + 1)
   turn out i d y h e m = rw (m, e, still i d h) (replaced i d h)
 
   pub all-replaced : (i : ℕ) → length xs ≤ i → upTo i ≡ map f xs

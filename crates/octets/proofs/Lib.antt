@@ -8,3 +8,4 @@ pub mod Places
 pub mod Each
 pub mod Below
 pub mod Checks
+pub mod Rooms

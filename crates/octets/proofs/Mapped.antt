@@ -17,8 +17,11 @@ module _ {A C : Type 0} (f : A → C) (z : C) (xs : List A) (n : ℕ) where
   mapped i = copied z (map f xs) n i
 
   module _ (long : length xs ≡ n) where
-    pub maps-one : (out : List C) (i : ℕ) (a : A) → i < n → out ≡ mapped i → set out i (f (getD xs i a)) ≡ mapped (i + 1)
-    maps-one out i a h e = rw (e, ← List·getD-map f xs i a) (stored z (map f xs) n i (omega (arith, long, length-map xs f)) h (f a))
+    pub maps-one : (out : List C) (i : ℕ) (a : A) → i < n → out ≡ mapped i
+        → set out i (f (getD xs i a)) ≡ mapped (i + 1)
+    maps-one out i a h e =
+        rw (e, ← List·getD-map f xs i a) (stored z (map f xs) n i (omega (arith, long, length-map xs f)) h (f a))
 
     pub maps-all : (out : List C) (i : ℕ) → i ≡ n → out ≡ mapped i → out ≡ map f xs
-    maps-all out i h e = e ∙ copied-all z (map f xs) n i h ∙ take-all n (map f xs) (omega (arith, long, length-map xs f))
+    maps-all out i h e =
+        e ∙ copied-all z (map f xs) n i h ∙ take-all n (map f xs) (omega (arith, long, length-map xs f))

@@ -6,7 +6,8 @@ use native.Mathlib.Nat.{sub-self, sub-zero, suc-sub-suc}
 use native.Mathlib.Decide.{decLt}
 use native.Mathlib.Omega.{arith}
 use native.Mathlib.Numerals.{add-one}
-use lib.ListN.{length, getD, take, replicate, set, length-append, length-replicate, length-take, getD-replicate, List·getD-append}
+use lib.ListN.{length, getD, take, replicate, set, length-append, length-replicate, length-take, getD-replicate}
+use lib.ListN.{List·getD-append}
 use lib.Seq.{take-suc, take-suc-set, take-all, set-at, set-out, set-getD, length-take-le, getD-append-add}
 
 module _ {A : Type 0} (z : A) where
@@ -66,12 +67,14 @@ module _ {A : Type 0} (z : A) where
     length-copied = simp (length-append, length-replicate, length-take) (omega arith)
 
   -- what holds of z and of an element of p holds at its place
-  pub copied-at : (P : A → Type 0) (d : A) → P z → (p : List A) (n i k : ℕ) → k < n → k < length p → P (getD p k d) → P (getD (copied p n i) k d)
+  pub copied-at : (P : A → Type 0) (d : A) → P z → (p : List A) (n i k : ℕ) → k < n → k < length p → P (getD p k d)
+      → P (getD (copied p n i) k d)
   copied-at P d o p n zero k h l e = rw (sub-zero n, getD-replicate n k z d h) o
   copied-at P d o [] n (suc i) k h l e = absurd (omega arith)
   copied-at P d o (x ∷ p) zero (suc i) k h l e = absurd (omega arith)
   copied-at P d o (x ∷ p) (suc n) (suc i) zero h l e = e
-  copied-at P d o (x ∷ p) (suc n) (suc i) (suc k) h l e = rw (suc-sub-suc n i) (copied-at P d o p n i k (omega arith) (omega arith) e)
+  copied-at P d o (x ∷ p) (suc n) (suc i) (suc k) h l e =
+      rw (suc-sub-suc n i) (copied-at P d o p n i k (omega arith) (omega arith) e)
 
   getD-same : (n k : ℕ) → getD (replicate n z) k z ≡ z
   getD-same zero k = refl
@@ -93,4 +96,5 @@ module _ {A : Type 0} (z : A) where
         split = omega arith
 
         past-is-z : getD (s ++ replicate n z) i z ≡ getD (replicate n z) (i - length s) z
-        past-is-z = ap (λ (k : ℕ). getD (s ++ replicate n z) k z) split ∙ getD-append-add s (replicate n z) (i - length s) z
+        past-is-z =
+            ap (λ (k : ℕ). getD (s ++ replicate n z) k z) split ∙ getD-append-add s (replicate n z) (i - length s) z

@@ -17,7 +17,8 @@ module _ {A : Type 0} (key : A → ℕ) (k : ℕ) where
     pub found-here : (d : A) → i < length xs → key (getD xs i d) ≡ k → placeOf key k (drop i xs) ≡ 0
     found-here d h e = rw (drop-cons xs i d h, eq-eqb _ _ e)
 
-    pub not-here : (d : A) → i < length xs → (key (getD xs i d) ≡ k → ⊥) → placeOf key k (drop i xs) ≡ suc (placeOf key k (drop (i + 1) xs))
+    pub not-here : (d : A) → i < length xs → (key (getD xs i d) ≡ k → ⊥)
+        → placeOf key k (drop i xs) ≡ suc (placeOf key k (drop (i + 1) xs))
     not-here d h e = rw (drop-cons xs i d h, ne-eqb _ _ e, add-one)
 
     pub nowhere : length xs ≤ i → placeOf key k (drop i xs) ≡ 0
@@ -74,21 +75,25 @@ module _ {A : Type 0} (key : A → ℕ) (k : ℕ) where
         → placeOf key k (set xs i y) ≡ placeOf key k xs
     store-other [] i d h e f = refl
     store-other (x ∷ xs) zero d h e f = rw (ne-eqb (key x) k e, ne-eqb (key y) k f)
-    store-other (x ∷ xs) (suc i) d h e f = ap (λ (n : ℕ). cond (eqb (key x) k) 0 (suc n)) (store-other xs i d (omega arith) e f)
+    store-other (x ∷ xs) (suc i) d h e f =
+        ap (λ (n : ℕ). cond (eqb (key x) k) 0 (suc n)) (store-other xs i d (omega arith) e f)
 
     -- of the key that was stored, which did not stand below: that place
-    pub store-found : (xs : List A) (i : ℕ) → i < length xs → i ≤ placeOf key k xs → key y ≡ k → placeOf key k (set xs i y) ≡ i
+    pub store-found : (xs : List A) (i : ℕ) → i < length xs → i ≤ placeOf key k xs → key y ≡ k
+        → placeOf key k (set xs i y) ≡ i
     store-found [] i h l e = absurd (omega arith)
     store-found (x ∷ xs) zero h l e = rw (eq-eqb (key y) k e)
     store-found (x ∷ xs) (suc i) h l e = go (eqb (key x) k) l (store-found xs i (omega arith))
       where
-        go : (b : Bool) → suc i ≤ cond b 0 (suc (placeOf key k xs)) → (i ≤ placeOf key k xs → key y ≡ k → placeOf key k (set xs i y) ≡ i)
+        go : (b : Bool) → suc i ≤ cond b 0 (suc (placeOf key k xs))
+            → (i ≤ placeOf key k xs → key y ≡ k → placeOf key k (set xs i y) ≡ i)
             → cond b 0 (suc (placeOf key k (set xs i y))) ≡ suc i
         go true l r = absurd (omega arith)
         go false l r = ap suc (r (omega arith) e)
 
 -- storing an element with the key that stood there changes no lookup
-pub store-same : {A : Type 0} (key : A → ℕ) (k : ℕ) (xs : List A) (i : ℕ) (y d : A) → key y ≡ key (getD xs i d) → placeOf key k (set xs i y) ≡ placeOf key k xs
+pub store-same : {A : Type 0} (key : A → ℕ) (k : ℕ) (xs : List A) (i : ℕ) (y d : A) → key y ≡ key (getD xs i d)
+    → placeOf key k (set xs i y) ≡ placeOf key k xs
 store-same key k [] i y d e = refl
 store-same key k (x ∷ xs) zero y d e = ap (λ (n : ℕ). cond (eqb n k) 0 (suc (placeOf key k xs))) e
 store-same key k (x ∷ xs) (suc i) y d e = ap (λ (n : ℕ). cond (eqb (key x) k) 0 (suc n)) (store-same key k xs i y d e)

@@ -1,4 +1,10 @@
--- Tests over the elements of a list, the place of an element, and the first elements of a list of sixteen.
+-- Trusted. Tests over the elements of a list, the place of an element, and the first elements of a list.
+--
+--   all, any     every element passes a test, some element does
+--   placeOf      the lowest place whose element has a key
+--   allBelow     a test holds of every number below another
+--   sameOctets   two lists begin with the same n octets
+--   firstOf      the first n elements of a list of so many places; firstOnly: of a list of addresses
 use Prim.Native.Nat.{ℕ, zero, suc, _-_}
 use mathlib.Core.List.{List, [], _∷_, _++_}
 use mathlib.Core.Bool.{Bool, true, false, cond, _&&_, _||_}
@@ -35,7 +41,10 @@ sameAt a b i = eqb (getD a i 0) (getD b i 0)
 abbrev pub sameOctets : ℕ → List ℕ → List ℕ → Bool
 sameOctets n a b = allBelow (sameAt a b) n
 
--- 01: "Places past a list's count ... aren't looked at; in a list newly kept or given they are 0": the first n of a list of
--- sixteen, and `none` in the places after them.
+-- 01: "Places past a list's count ... aren't looked at; in a list newly kept or given they are 0": the first n, and
+-- `none` in the places after them.
+abbrev pub firstOf : {A : Type 0} → ℕ → A → ℕ → List A → List A
+firstOf places none n xs = take n xs ++ replicate (places - n) none
+
 abbrev pub firstOnly : {A : Type 0} → A → ℕ → List A → List A
-firstOnly none n xs = take n xs ++ replicate (addressesMost - n) none
+firstOnly none n xs = firstOf addressesMost none n xs

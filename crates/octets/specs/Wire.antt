@@ -1,4 +1,11 @@
--- The payload types and notify types of 01, each named once.
+-- Trusted. The payload types and notify types of 01 ("The payload chain"), each named once. The code has the payload
+-- types in `octets/src/wire.rt`, the notify types as constants of theirs (`notify::notify::NotifyType`).
+--
+--   notifyPayload                          the payload type of a Notify
+--   firstKnownPayload, lastKnownPayload    payload types in between are known
+--   criticalBit                            a payload's flags, if it is critical, are at least this
+--   firstStatus                            notify types below this are errors
+--   the others                             the notify types of 01's table, and its errors, under the RFC's names
 use Prim.Native.Nat.{ℕ}
 
 -- "Type 41 is Notify"; "Types 33 to 48 other than 41 are skipped."
@@ -43,8 +50,8 @@ cookie2 = 16401
 abbrev pub noNatsAllowed : ℕ
 noNatsAllowed = 16402
 
--- Error types: "INVALID_SYNTAX (7)", "UNSUPPORTED_CRITICAL_PAYLOAD (1)", "UNEXPECTED_NAT_DETECTED (41)", "UNACCEPTABLE_ADDRESSES (40)";
--- "any other type below 16384".
+-- Error types: "INVALID_SYNTAX (7)", "UNSUPPORTED_CRITICAL_PAYLOAD (1)", "UNEXPECTED_NAT_DETECTED (41)",
+-- "UNACCEPTABLE_ADDRESSES (40)"; "any other type below 16384".
 abbrev pub unsupportedCriticalPayload : ℕ
 unsupportedCriticalPayload = 1
 

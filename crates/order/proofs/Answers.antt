@@ -39,10 +39,12 @@ module _ {R S : Type 0} (step : R → S → S) (Free : R → R → Type 0) (P : 
   front-has u v a o = all-front P u v (order-all P o (a .1))
 
   module _ (swap : (s : S) → I s → (x y : R) → Free x y → step y (step x s) ≡ step x (step y s)) where
-    slide : (x : R) (u v : List R) (s : S) → I s → All P u → All (Free x) u → after step (step x s) (u ++ v) ≡ after step s (u ++ (x ∷ v))
+    slide : (x : R) (u v : List R) (s : S) → I s → All P u → All (Free x) u
+        → after step (step x s) (u ++ v) ≡ after step s (u ++ (x ∷ v))
     slide x [] v s i a f = refl
     slide x (y ∷ u) v s i a f =
-        ap (λ (t : S). after step t (u ++ v)) (swap s i x y (f .0)) ∙ slide x u v (step y s) (keep y (a .0) s i) (a .1) (f .1)
+        ap (λ (t : S). after step t (u ++ v)) (swap s i x y (f .0)) ∙ slide x u v (step y s) (keep y (a .0) s i) (a .1)
+        (f .1)
 
     pub keeps-state : {xs ys : List R} (s : S) → I s → All P xs → Order Free xs ys → after step s xs ≡ after step s ys
     keeps-state s i a none = refl
@@ -51,21 +53,26 @@ module _ {R S : Type 0} (step : R → S → S) (Free : R → R → Type 0) (P : 
 
   module _ {A : Type 0} (answer : R → S → A)
       (apart : (s : S) → I s → (x y : R) → Free x y
-      → (step y (step x s) ≡ step x (step y s)) × (answer x (step y s) ≡ answer x s) × (answer y (step x s) ≡ answer y s)) where
+      → (step y (step x s) ≡ step x (step y s)) × (answer x (step y s) ≡ answer x s) ×
+      (answer y (step x s) ≡ answer y s)) where
     slide-answers : (x : R) (u v : List R) (s : S) → I s → All P u → All (Free x) u
         → Put (FreeAnswered Free) (record { request = x; got = answer x s })
         (answered step answer s (u ++ (x ∷ v))) (answered step answer (step x s) (u ++ v))
-    slide-answers x [] v s i a f = record { front = []; back = answered step answer (step x s) v; with = refl; without = refl; free = tt }
+    slide-answers x [] v s i a f =
+        record { front = []; back = answered step answer (step x s) v; with = refl; without = refl; free = tt }
     slide-answers x (y ∷ u) v s i a f =
         let p = apart s i x y (f .0) in
-        rw (p .0, ← p .1, p .2) (put-further (slide-answers x u v (step y s) (keep y (a .0) s i) (a .1) (f .1)) _ (f .0))
+        rw (p .0, ← p .1, p .2)
+        (put-further (slide-answers x u v (step y s) (keep y (a .0) s i) (a .1) (f .1)) _ (f .0))
 
     keeps-order : {xs ys : List R} (s : S) → I s → All P xs → Order Free xs ys
         → Order (FreeAnswered Free) (answered step answer s xs) (answered step answer s ys)
     keeps-order s i a none = none
     keeps-order s i a (first x xs u v ys e f o) =
-        rw e (put-first (slide-answers x u v s i (front-has u v a o) f) (keeps-order (step x s) (keep x (a .0) s i) (a .1) o))
+        rw e (put-first (slide-answers x u v s i (front-has u v a o) f)
+        (keeps-order (step x s) (keep x (a .0) s i) (a .1) o))
 
     pub keeps-answers : {xs ys : List R} (s : S) → I s → All P xs → Order Free xs ys
-        → (Order (FreeAnswered Free) (answered step answer s xs) (answered step answer s ys)) × (after step s xs ≡ after step s ys)
+        → (Order (FreeAnswered Free) (answered step answer s xs) (answered step answer s ys)) ×
+        (after step s xs ≡ after step s ys)
     keeps-answers s i a o = (keeps-order s i a o, keeps-state (λ s i x y f. apart s i x y f .0) s i a o)

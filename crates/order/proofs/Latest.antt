@@ -17,9 +17,11 @@ module _ {A : Type 0} where
   unfolding latest greater
   two u w h = go (leb (h .mark) (u .id)) refl (leb (w .id) (u .id)) refl
     where
-      go : (a : Bool) → leb (h .mark) (u .id) ≡ a → (b : Bool) → leb (w .id) (u .id) ≡ b → latest w (latest u h) ≡ latest (greater u (some w)) h
+      go : (a : Bool) → leb (h .mark) (u .id) ≡ a → (b : Bool) → leb (w .id) (u .id) ≡ b
+          → latest w (latest u h) ≡ latest (greater u (some w)) h
       go true a true b = rw (latest, b, a, lt-leb (u .id + 1) (w .id) (omega tests))
-      go true a false b = rw (latest, b, a, le-leb (u .id + 1) (w .id) (omega tests), le-leb (h .mark) (w .id) (omega tests))
+      go true a false b =
+          rw (latest, b, a, le-leb (u .id + 1) (w .id) (omega tests), le-leb (h .mark) (w .id) (omega tests))
       go false a true b = rw (latest, b, a, lt-leb (h .mark) (w .id) (omega tests))
       go false a false b = rw (latest, b, a)
 

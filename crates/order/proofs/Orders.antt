@@ -1,4 +1,5 @@
--- What holds of every request of a list holds of them in another order, and which requests are free may be said otherwise.
+-- What holds of every request of a list holds of them in another order, and which requests are free may be said
+-- otherwise.
 use mathlib.Core.List.{List, [], _∷_, _++_}
 use Rattle.order.specs.Order.{All, Pairwise, Order, none, first}
 
@@ -36,7 +37,8 @@ module _ {R : Type 0} {Free Free' : R → R → Type 0} where
   order-weaken (first x xs u v ys e f o) h = first x xs u v ys e (all-map (h x) u f) (order-weaken o h)
 
   -- all that x stands behind in ys stand behind x in xs
-  pub order-pairs : (Q : R → R → Type 0) {xs ys : List R} → Order Free xs ys → Pairwise Q xs → ((x y : R) → Free x y → Q x y → Free' x y)
+  pub order-pairs : (Q : R → R → Type 0) {xs ys : List R} → Order Free xs ys → Pairwise Q xs
+      → ((x y : R) → Free x y → Q x y → Free' x y)
       → Order Free' xs ys
   order-pairs Q none q h = none
   order-pairs Q (first x xs u v ys e f o) q h =

@@ -1,4 +1,11 @@
--- Lists of requests in another order, the answers they get, and updates of which the one with the greatest ID counts.
+-- Trusted. Lists of requests in another order, and updates of which the one with the greatest ID counts: what demand 3
+-- is said with, whatever the requests are.
+--
+--   All, Pairwise           of every element; of every two
+--   Order Free              another order, in which only requests that are free with each other change places
+--   after, answered         the state after all requests, and each request with the answer that it got
+--   Update, Held, latest    a numbered value, the one that is held with its mark, and one update of it
+--   greatest                the update with the greatest ID
 use Prim.Native.Nat.{ℕ, _+_}
 use mathlib.Core.Path.{_≡_}
 use mathlib.Core.List.{List, [], _∷_, _++_}
@@ -19,10 +26,12 @@ module _ {R : Type 0} (Q : R → R → Type 0) where
   Pairwise (x ∷ xs) = All (Q x) xs × Pairwise xs
 
 -- ys is xs in another order, which keeps the order of every two requests that are not free to change places:
--- the first of xs stands in ys behind only such later ones, u, as it is free with, and the rest is in such an order too.
+-- the first of xs stands in ys behind only such later ones, u, as it is free with, and the rest is in such an order
+-- too.
 pub data Order {R : Type 0} (Free : R → R → Type 0) : List R → List R → Type 0 where
   none : Order Free [] []
-  first : (x : R) (xs u v ys : List R) → ys ≡ u ++ (x ∷ v) → All (Free x) u → Order Free xs (u ++ v) → Order Free (x ∷ xs) ys
+  first : (x : R) (xs u v ys : List R) → ys ≡ u ++ (x ∷ v) → All (Free x) u → Order Free xs (u ++ v)
+      → Order Free (x ∷ xs) ys
 
 -- The state after all requests, one by one.
 module _ {R S : Type 0} (step : R → S → S) where
@@ -50,7 +59,8 @@ pub record Update (A : Type 0) : Type 0 where
   pub id : ℕ
   pub value : A
 
--- The value that is held, and the mark, the least ID that exceeds all that counted so far: an update below it comes too late.
+-- The value that is held, and the mark, the least ID that exceeds all that counted so far: an update below it comes too
+-- late.
 pub record Held (A : Type 0) : Type 0 where
   pub mark : ℕ
   pub value : A

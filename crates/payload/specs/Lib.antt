@@ -1,2 +1,2 @@
-pub mod Notify
 pub mod Payload
+pub mod Spi

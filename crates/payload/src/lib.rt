@@ -1,3 +1,2 @@
-// One payload of a chain: the notify types that are known, and what stands at a place of a body.
-pub mod notify;
+// One payload of a chain: what stands at an offset of a body, or what is wrong with it.
 pub mod payload;

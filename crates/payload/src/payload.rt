@@ -1,29 +1,37 @@
 // One payload of a chain: where it ends and what it is, or what is wrong with it.
-use crate::notify::NotifyKind;
-use crate::notify::NotifyType;
-use crate::notify::data_fits;
+use notify::notify::NotifyKind;
+use notify::notify::NotifyType;
+use notify::notify::data_fits;
 use octets::be16_at;
+use octets::limits::NOTIFY_HEADER;
+use octets::limits::PAYLOAD_HEADER;
+use octets::wire::CRITICAL_BIT;
+use octets::wire::FIRST_KNOWN_PAYLOAD;
+use octets::wire::LAST_KNOWN_PAYLOAD;
+use octets::wire::NOTIFY_PAYLOAD;
 ghost use mathlib.Core.Path.{_≡_};
 ghost use Prim.Native.Nat.{_+_, _≤_, _<_};
 ghost use lib.ListN.{length};
-ghost use Rattle.payload.specs.Payload.{spiInside, notifyAt, payloadAt};
-ghost use Rattle.payload.specs.Notify.{kindOf};
+ghost use Rattle.payload.specs.Payload.{notifyAt, payloadAt};
+ghost use Rattle.payload.specs.Spi.{spiInside};
+ghost use Rattle.notify.specs.Notify.{kindOf};
 
-// The type of a Notify payload, and the first and last of the types that are known.
-pub const NOTIFY: u8 = 41;
+// Where the fields of a payload stand, counted from its first octet, as `specs/Payload.antt` has them with the
+// diagram. The next payload's type is the first octet itself.
+const FLAGS: usize = 1;
 
-pub const FIRST_KNOWN: u8 = 33;
+const LENGTH: usize = 2;
 
-pub const LAST_KNOWN: u8 = 48;
+// Two more of a Notify, behind the header.
+const SPI_SIZE: usize = 5;
 
-// The bit of the flags that says critical.
-pub const CRITICAL: u8 = 128;
+const NOTIFY_TYPE: usize = 6;
 
 // What can be wrong with a chain.
 pub enum Fault {
-    // Fewer octets left than a header has, or a length under 4 or past the end.
+    // Fewer octets left than a header has, or a length under a header's or past the end.
     ChainLength,
-    // A Notify under 8 octets, an SPI past its length, or an SPI where the type has none.
+    // A Notify shorter than its header, an SPI past its length, or an SPI where the type has none.
     NotifyShape,
     // Notification data of a size that its type does not allow.
     DataSize,
@@ -41,7 +49,7 @@ pub enum Content {
     Skipped,
     // A type that is not known, not marked critical.
     Unknown,
-    // A Notify: its kind, its type's number, and how many octets of data it has.
+    // A Notify: its kind, its notify type, and how many octets of data it has.
     Notify(NotifyKind, u16, u16),
 }
 
@@ -51,18 +59,23 @@ pub enum Found {
     Faulty(Fault),
 }
 
-// Whether a Notify of this type and of `size` octets may have an SPI of so many. Most have none, so that is asked first.
-pub fn spi_fits(number: u16, spi: usize, size: usize) -> bool
-    requires { ⌜ spi < 256 ⌝ }
-    ensures { λ r. ⌜ r ≡ spiInside (kindOf number) spi size ⌝ }
+// Whether a Notify of this type and of `size` octets may have an SPI of so many. Most have none, so that is asked
+// first.
+pub fn spi_fits(notify_type: u16, spi_size: usize, size: usize) -> bool
+    requires { ⌜ «spi_size» < 256 ⌝ }
+    ensures { λ r. ⌜ r ≡ spiInside (kindOf «notify_type») «spi_size» size ⌝ }
 {
-    if spi == 0 {
+    if spi_size == 0 {
         return true;
     }
-    if size < 8 + spi {
+    if size < NOTIFY_HEADER + spi_size {
         return false;
     }
-    NotifyType { number }.kind().is_unknown()
+    NotifyType {
+        number: notify_type,
+    }
+        .kind()
+        .is_unknown()
 }
 
 // The Notify at `at`, of `size` octets. Its data, which starts in the middle of the body, is passed on as a part.
@@ -70,17 +83,20 @@ pub fn notify_at(body: &[u8], at: usize, size: usize) -> Found
     requires { ⌜ (at + size ≤ length (now body)) × (size < 65536) ⌝ }
     ensures { λ r. ⌜ r ≡ notifyAt (now (body .entry)) at size ⌝ }
 {
-    if size < 8 {
+    if size < NOTIFY_HEADER {
         return Found::Faulty(Fault::NotifyShape);
     }
-    let spi = body[at + 5] as usize;
-    let number = be16_at(body, at + 6);
-    if spi_fits(number, spi, size) {
-        let kind = NotifyType { number }.kind();
-        let start = at + 8 + spi;
+    let spi_size = body[at + SPI_SIZE] as usize;
+    let notify_type = be16_at(body, at + NOTIFY_TYPE);
+    if spi_fits(notify_type, spi_size, size) {
+        let kind = NotifyType {
+            number: notify_type,
+        }.kind();
+        let start = at + NOTIFY_HEADER + spi_size;
         let end = at + size;
         if data_fits(kind, &body[start..end]) {
-            Found::Payload(size, Content::Notify(kind, number, (size - 8 - spi) as u16))
+            let data_size = (size - NOTIFY_HEADER - spi_size) as u16;
+            Found::Payload(size, Content::Notify(kind, notify_type, data_size))
         } else {
             Found::Faulty(Fault::DataSize)
         }
@@ -89,32 +105,32 @@ pub fn notify_at(body: &[u8], at: usize, size: usize) -> Found
     }
 }
 
-// The payload of type `first` at `at`.
-pub fn payload_at(first: u8, body: &[u8], at: usize) -> Found
+// The payload of type `payload_type` at `at`.
+pub fn payload_at(payload_type: u8, body: &[u8], at: usize) -> Found
     requires { ⌜ at ≤ length (now body) ⌝ }
-    ensures { λ r. ⌜ r ≡ payloadAt first (now (body .entry)) at ⌝ }
+    ensures { λ r. ⌜ r ≡ payloadAt «payload_type» (now (body .entry)) at ⌝ }
 {
     let left = body.len() - at;
-    if left < 4 {
+    if left < PAYLOAD_HEADER {
         return Found::Faulty(Fault::ChainLength);
     }
-    let size = be16_at(body, at + 2) as usize;
-    if size < 4 {
+    let size = be16_at(body, at + LENGTH) as usize;
+    if size < PAYLOAD_HEADER {
         return Found::Faulty(Fault::ChainLength);
     }
     if left < size {
         return Found::Faulty(Fault::ChainLength);
     }
-    if first == NOTIFY {
+    if payload_type == NOTIFY_PAYLOAD {
         return notify_at(body, at, size);
     }
-    if FIRST_KNOWN <= first {
-        if first <= LAST_KNOWN {
+    if FIRST_KNOWN_PAYLOAD <= payload_type {
+        if payload_type <= LAST_KNOWN_PAYLOAD {
             return Found::Payload(size, Content::Skipped);
         }
     }
-    if CRITICAL <= body[at + 1] {
-        Found::Faulty(Fault::Critical(first))
+    if CRITICAL_BIT <= body[at + FLAGS] {
+        Found::Faulty(Fault::Critical(payload_type))
     } else {
         Found::Payload(size, Content::Unknown)
     }

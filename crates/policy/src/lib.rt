@@ -1,3 +1,2 @@
 // The address policy: which address pairs an update may move a record to.
-pub mod prefix;
 pub mod rules;

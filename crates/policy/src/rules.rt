@@ -1,20 +1,28 @@
 // The policy's rules: checked as a whole when they are set, and asked one by one for a pair.
-use crate::prefix::prefix_matches;
-use address::address::address_fits;
+use address::address::both_fit;
 use address::address::width_of;
 use address::pair::Pair;
+use octets::limits::ADDRESS_OCTETS;
+use octets::limits::RULES_MOST;
+use octets::number::Number;
+use octets::number::number_of;
+use prefix::prefix::prefix_matches;
 ghost use mathlib.Core.Path.{_≡_};
 ghost use mathlib.Core.Bool.{cond};
 ghost use Prim.Native.Nat.{_≤_};
 ghost use lib.ListN.{take};
+ghost use Rattle.octets.specs.Checks.{firstFailed};
+ghost use Rattle.octets.specs.Limits.{rulesMost};
 ghost use Rattle.octets.specs.Lists.{all};
-ghost use Rattle.policy.specs.Policy.{ruleFits, lengthsFit, ruleMatches, acceptable, kept, setPolicy};
+ghost use Rattle.octets.specs.Numbers.{numberOf};
+ghost use Rattle.policy.specs.Policy.{ruleFits, lengthsFit, ruleMatches, acceptable};
+ghost use Rattle.policy.specs.Policy.{kept, policyChecks, setPolicy};
 
 #[repr(C)]
 pub struct Rule {
     pub family: u8,
-    pub source: [u8; 16],
-    pub destination: [u8; 16],
+    pub source: [u8; ADDRESS_OCTETS],
+    pub destination: [u8; ADDRESS_OCTETS],
     pub source_len: u8,
     pub destination_len: u8,
 }
@@ -22,7 +30,7 @@ pub struct Rule {
 #[repr(C)]
 pub struct Policy {
     pub count: u16,
-    pub rules: [Rule; 16],
+    pub rules: [Rule; RULES_MOST],
 }
 
 // The number that setting a policy gives, and the policy after it.
@@ -38,11 +46,7 @@ pub fn rule_fits(rule: Rule) -> bool
 {
     let source = rule.source;
     let destination = rule.destination;
-    if address_fits(rule.family, source) {
-        address_fits(rule.family, destination)
-    } else {
-        false
-    }
+    both_fit(rule.family, source, destination)
 }
 
 // Whether both lengths are at most the bits that an address of the family has.
@@ -88,7 +92,7 @@ pub fn is_acceptable(policy: Policy, pair: Pair) -> bool
 {
     let count = policy.count as usize;
     let mut i = 0;
-    while i < 16 {
+    while i < RULES_MOST {
         if count <= i {
             return false;
         }
@@ -113,8 +117,8 @@ pub fn passes(rule: Rule, lengths: bool) -> bool
 }
 
 // Whether each of the first n rules passes that test.
-pub fn all_pass(rules: [Rule; 16], n: usize, lengths: bool) -> bool
-    requires { ⌜ n ≤ 16 ⌝ }
+pub fn all_pass(rules: [Rule; RULES_MOST], n: usize, lengths: bool) -> bool
+    requires { ⌜ n ≤ rulesMost ⌝ }
     ensures { λ r. ⌜ r ≡ all (cond lengths lengthsFit ruleFits) (take n rules) ⌝ }
 {
     let mut i = 0;
@@ -130,18 +134,18 @@ pub fn all_pass(rules: [Rule; 16], n: usize, lengths: bool) -> bool
 }
 
 // The first n rules, and nothing in the places after them.
-pub fn kept_rules(rules: [Rule; 16], n: usize) -> [Rule; 16]
-    requires { ⌜ n ≤ 16 ⌝ }
+pub fn kept_rules(rules: [Rule; RULES_MOST], n: usize) -> [Rule; RULES_MOST]
+    requires { ⌜ n ≤ rulesMost ⌝ }
     ensures { λ r. ⌜ r ≡ kept rules n ⌝ }
 {
     let none = Rule {
         family: 0,
-        source: [0u8; 16],
-        destination: [0u8; 16],
+        source: [0u8; ADDRESS_OCTETS],
+        destination: [0u8; ADDRESS_OCTETS],
         source_len: 0,
         destination_len: 0,
     };
-    let mut out = [none; 16];
+    let mut out = [none; RULES_MOST];
     let mut i = 0;
     while i < n {
         let rule = rules[i];
@@ -151,26 +155,38 @@ pub fn kept_rules(rules: [Rule; 16], n: usize) -> [Rule; 16]
     out
 }
 
-// Sets the whole policy, or refuses and leaves it.
-pub fn set_policy(policy: Policy, count: u16, rules: [Rule; 16]) -> PolicyAnswer
-    ensures { λ r. ⌜ r ≡ setPolicy policy count rules ⌝ }
+// The number of setting these rules: each test is made of the whole list before the next.
+pub fn policy_number(n: usize, rules: [Rule; RULES_MOST]) -> Number
+    ensures { λ r. ⌜ numberOf r ≡ firstFailed (policyChecks n rules) ⌝ }
 {
-    if 16 < count {
-        return PolicyAnswer { number: 12, policy };
+    if RULES_MOST < n {
+        return Number::BadPolicy;
     }
-    let n = count as usize;
     if all_pass(rules, n, false) {
         if all_pass(rules, n, true) {
-            let kept = kept_rules(rules, n);
-            let new = Policy { count, rules: kept };
-            PolicyAnswer {
-                number: 0,
-                policy: new,
-            }
+            Number::Done
         } else {
-            PolicyAnswer { number: 12, policy }
+            Number::BadPolicy
         }
     } else {
-        PolicyAnswer { number: 1, policy }
+        Number::BadArgument
+    }
+}
+
+// Sets the whole policy, or refuses and leaves it.
+pub fn set_policy(policy: Policy, count: u16, rules: [Rule; RULES_MOST]) -> PolicyAnswer
+    ensures { λ r. ⌜ r ≡ setPolicy policy count rules ⌝ }
+{
+    let n = count as usize;
+    let number = number_of(policy_number(n, rules));
+    if number == 0 {
+        let kept = kept_rules(rules, n);
+        let new = Policy { count, rules: kept };
+        PolicyAnswer {
+            number,
+            policy: new,
+        }
+    } else {
+        PolicyAnswer { number, policy }
     }
 }

@@ -1,8 +1,8 @@
 -- Laws of the additional addresses that are written one behind the other.
 use Prim.Native.Nat.{ℕ, zero, suc, _+_, _-_, _*_, _≤_}
-use mathlib.Core.Path.{_≡_, refl}
+use mathlib.Core.Path.{_≡_, refl, _∙_}
 use mathlib.Core.List.{List, [], _∷_, _++_, zipWith}
-use mathlib.Core.Bool.{cond, not}
+use mathlib.Core.Bool.{not}
 use native.Mathlib.Omega.{arith}
 use native.Mathlib.Numerals.{add-one}
 use borrow.Author.Tests.{ne-eqb}
@@ -13,15 +13,23 @@ use Rattle.address.specs.Address.{widthOf}
 use Rattle.address.proofs.Width.{width-small}
 use Rattle.writing.specs.Notify.{Notification, firstType, chained}
 use Rattle.writing.proofs.Chained.{chained-append, length-one}
-use Rattle.asking.specs.Request.{addressNotify, addressNotifies}
+use Rattle.asking.specs.Draft.{addressNotify, addressNotifies}
+use Rattle.putting.specs.Put.{addressRoom, TypeIf}
 
-pub address-length : (next family : ℕ) (octets : List ℕ) → length (chained (addressNotify family octets ∷ []) next) ≤ 24
+pub address-length : (next family : ℕ) (octets : List ℕ)
+    → length (chained (addressNotify family octets ∷ []) next) ≤ addressRoom
 address-length next family octets =
-    omega (arith, length-one (addressNotify family octets) next, length-take (widthOf family) octets, width-small family)
+    omega (
+      arith,
+      length-one (addressNotify family octets) next,
+      length-take (widthOf family) octets,
+      width-small family,
+    )
 
-pub list-length : (families : List ℕ) (octets : List (List ℕ)) (next : ℕ) → length (chained (addressNotifies families octets) next) ≤ length families * 24
+pub list-length : (families : List ℕ) (addresses : List (List ℕ)) (next : ℕ)
+    → length (chained (addressNotifies families addresses) next) ≤ length families * addressRoom
 unfolding chained zipWith
-list-length [] octets next = omega arith
+list-length [] addresses next = omega arith
 list-length (f ∷ fs) [] next = omega arith
 list-length (f ∷ fs) (o ∷ os) next =
     let one = addressNotify f o ∷ [] in
@@ -30,38 +38,45 @@ list-length (f ∷ fs) (o ∷ os) next =
     (omega (arith, address-length (firstType rest next) f o, list-length fs os next))
 
 -- what is left of the lists, from the address at i on
-module _ (families : List ℕ) (octets : List (List ℕ)) (long : length families ≡ 16) (all : length octets ≡ 16) where
+module _ (families : List ℕ) (addresses : List (List ℕ)) where
   abbrev pub part : ℕ → ℕ → List Notification
-  part left i = addressNotifies (take left (drop i families)) (take left (drop i octets))
+  part left i = addressNotifies (take left (drop i families)) (take left (drop i addresses))
 
   pub part-none : (left i : ℕ) → left ≡ 0 → part left i ≡ []
   unfolding zipWith
   part-none left i e = rw e
 
-  pub part-step : (left i : ℕ) → (left ≡ 0 → ⊥) → i + left ≤ 16
-      → part left i ≡ (addressNotify (getD families i 0) (getD octets i []) ∷ []) ++ part (left - 1) (i + 1)
+  pub part-step : (left i : ℕ) → (left ≡ 0 → ⊥) → i + left ≤ length families → i + left ≤ length addresses
+      → part left i ≡ (addressNotify (getD families i 0) (getD addresses i []) ∷ []) ++ part (left - 1) (i + 1)
   unfolding zipWith
-  part-step zero i h fits = absurd (h refl)
-  part-step (suc left) i h fits =
+  part-step zero i h f a = absurd (h refl)
+  part-step (suc left) i h f a =
       let less : suc left - 1 ≡ left = omega arith in
-      rw (drop-cons families i 0 (omega (arith, long)), drop-cons octets i [] (omega (arith, all)), less, add-one i)
+      rw (drop-cons families i 0 (omega arith), drop-cons addresses i [] (omega arith), less, add-one i)
 
-  pub part-length : (left i next : ℕ) → length (chained (part left i) next) ≤ left * 24
+  pub part-length : (left i next : ℕ) → length (chained (part left i) next) ≤ left * addressRoom
   part-length left i next =
-      omega (arith, list-length (take left (drop i families)) (take left (drop i octets)) next, length-take left (drop i families))
+      omega (
+        arith,
+        list-length (take left (drop i families)) (take left (drop i addresses)) next,
+        length-take left (drop i families),
+      )
 
-  pub part-type : (left i next : ℕ) → i + left ≤ 16 → firstType (part left i) next ≡ cond (not (eqb left 0)) 41 next
+  pub part-type : (left i next r : ℕ) → i + left ≤ length families → i + left ≤ length addresses
+      → TypeIf (not (eqb left 0)) next r → r ≡ firstType (part left i) next
   unfolding zipWith
-  part-type zero i next fits = refl
-  part-type (suc left) i next fits =
-      rw (drop-cons families i 0 (omega (arith, long)), drop-cons octets i [] (omega (arith, all)), ne-eqb (suc left) 0 (λ e. omega arith))
+  part-type zero i next r f a t = t (addressNotify 0 []) []
+  part-type (suc left) i next r f a t =
+      rw (drop-cons families i 0 (omega arith), drop-cons addresses i [] (omega arith))
+      (t (addressNotify 0 []) [] ∙ rw (ne-eqb (suc left) 0 (λ e. omega arith)))
 
   -- the type of what follows the first of `left`
-  pub next-type : (left i next : ℕ) → i + left ≤ 16 → (left ≡ 0 → ⊥) → cond (not (eqb left 1)) 41 next ≡ firstType (part (left - 1) (i + 1)) next
-  next-type zero i next fits h = absurd (h refl)
-  next-type (suc left) i next fits h =
+  pub next-type : (left i next r : ℕ) → i + left ≤ length families → i + left ≤ length addresses → (left ≡ 0 → ⊥)
+      → TypeIf (not (eqb left 1)) next r → r ≡ firstType (part (left - 1) (i + 1)) next
+  next-type zero i next r f a h t = absurd (h refl)
+  next-type (suc left) i next r f a h t =
       let less : suc left - 1 ≡ left = omega arith in
-      rw (less, part-type left (i + 1) next (omega arith), last-one left)
+      rw less (part-type left (i + 1) next r (omega arith) (omega arith) (rw (last-one left) at t))
     where
       last-one : (n : ℕ) → eqb (suc n) 1 ≡ eqb n 0
       last-one zero = refl

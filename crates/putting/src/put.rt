@@ -1,39 +1,59 @@
-// The parts of a request, each put into the output behind the one before it.
+// The parts of a request, each put into the output behind the one before it, and the payload types between them.
 use address::address::width_of;
+use address::pair::Pair;
 use asking::no_nats::no_nats_octets;
-use payload::notify::NotifyType;
+use notify::notify::NotifyType;
+use octets::limits::ADDRESS_OCTETS;
+use octets::limits::ADDRESSES_MOST;
+use octets::limits::PORT_SIZE;
+use octets::wire::NOTIFY_PAYLOAD;
 use writing::put_notify;
 ghost use mathlib.Core.Path.{_≡_};
-ghost use mathlib.Core.Bool.{true, cond, not};
+ghost use mathlib.Core.Bool.{true};
 ghost use mathlib.Core.List.{[], _∷_};
-ghost use lib.Dec.{eqb};
 ghost use Prim.Native.Nat.{_+_, _*_, _≤_};
 ghost use lib.ListN.{length, take, drop};
-ghost use Rattle.writing.specs.Notify.{notification, placed, chained};
-ghost use Rattle.asking.specs.Request.{ifAsked, addressNumber, addressNotify, addressNotifies, noNatsOctets, natNotifies, tailNotifies};
+ghost use Rattle.octets.specs.Limits.{notifyHeader, natOctets, addressesMost, cookieMost};
+ghost use Rattle.octets.specs.Wire.{noNatsAllowed};
+ghost use Rattle.writing.specs.Notify.{notification};
+ghost use Rattle.writing.specs.Wrote.{Wrote};
+ghost use Rattle.asking.specs.Draft.{ifAsked, addressNotifyType, addressNotify, addressNotifies, pairOctets};
+ghost use Rattle.writing.specs.Parts.{natNotifies};
+ghost use Rattle.asking.specs.Draft.{tailNotifies};
+ghost use Rattle.putting.specs.Put.{noNatsRoom, natsRoom, addressRoom, tailRoom, TypeIf, TailType};
 
 // The type of what stands here: a Notify if one is asked for, else what follows.
 pub fn type_if(asked: bool, next: u8) -> u8
-    ensures { λ r. ⌜ r ≡ cond asked 41 next ⌝ }
+    ensures { λ r. ⌜ TypeIf asked next r ⌝ }
 {
-    if asked { 41 } else { next }
+    if asked { NOTIFY_PAYLOAD } else { next }
 }
 
-// Writes a notification if it is asked for, and returns the place after it.
-pub fn put_if(out: &mut [u8], at: usize, asked: bool, next: u8, number: u16, octets: &[u8]) -> usize
-    requires { ⌜ (at + 8 + length (now octets) ≤ length (now out)) × (length (now octets) ≤ 64) ⌝ }
-    ensures { λ r. ⌜ r ≡ at + length (chained (ifAsked asked (notification number (now (octets .entry)) ∷ [])) next) ⌝ }
-    ensures { λ _. ⌜ now (out .exit) ≡ placed (now (out .entry)) at (chained (ifAsked asked (notification number (now (octets .entry)) ∷ [])) next) ⌝ }
+// Writes a notification if it is asked for, and returns the offset after it.
+pub fn put_if(
+    out: &mut [u8],
+    at: usize,
+    asked: bool,
+    next: u8,
+    notify_type: u16,
+    octets: &[u8],
+) -> usize
+    requires { ⌜ at + notifyHeader + length (now octets) ≤ length (now out) ⌝ }
+    requires { ⌜ length (now octets) ≤ cookieMost ⌝ }
+    ensures { λ r. ⌜ (
+        let notifies = ifAsked asked (notification «notify_type» (now (octets .entry)) ∷ []) in
+        Wrote (now (out .entry)) at notifies next (now (out .exit)) r
+        ) ⌝ }
 {
     if asked {
-        return put_notify(out, at, next, number, octets);
+        return put_notify(out, at, next, notify_type, octets);
     }
     at
 }
 
 // The notify type of an additional address.
-pub fn address_number(family: u8) -> u16
-    ensures { λ r. ⌜ r ≡ addressNumber family ⌝ }
+pub fn address_notify_type(family: u8) -> u16
+    ensures { λ r. ⌜ r ≡ addressNotifyType family ⌝ }
 {
     if family == 4 {
         NotifyType::ADDITIONAL_IP4_ADDRESS
@@ -42,15 +62,20 @@ pub fn address_number(family: u8) -> u16
     }
 }
 
-// Writes one additional address, and returns the place after it.
-pub fn put_address(out: &mut [u8], at: usize, next: u8, family: u8, octets: [u8; 16]) -> usize
-    requires { ⌜ at + 24 ≤ length (now out) ⌝ }
-    ensures { λ r. ⌜ r ≡ at + length (chained (addressNotify family octets ∷ []) next) ⌝ }
-    ensures { λ _. ⌜ now (out .exit) ≡ placed (now (out .entry)) at (chained (addressNotify family octets ∷ []) next) ⌝ }
+// Writes one additional address, and returns the offset after it.
+pub fn put_address(
+    out: &mut [u8],
+    at: usize,
+    next: u8,
+    family: u8,
+    octets: [u8; ADDRESS_OCTETS],
+) -> usize
+    requires { ⌜ at + addressRoom ≤ length (now out) ⌝ }
+    ensures { λ r. ⌜ Wrote (now (out .entry)) at (addressNotify family octets ∷ []) next (now (out .exit)) r ⌝ }
 {
-    let number = address_number(family);
+    let notify_type = address_notify_type(family);
     let width = width_of(family) as usize;
-    put_notify(out, at, next, number, &octets[..width])
+    put_notify(out, at, next, notify_type, &octets[..width])
 }
 
 // Writes `left` addresses from the one at `i` on; `next` is the type of what follows the last.
@@ -58,49 +83,44 @@ pub fn put_addresses(
     out: &mut [u8],
     at: usize,
     next: u8,
-    families: [u8; 16],
-    octets: [[u8; 16]; 16],
+    families: [u8; ADDRESSES_MOST],
+    addresses: [[u8; ADDRESS_OCTETS]; ADDRESSES_MOST],
     i: usize,
     left: usize,
 ) -> usize
-    requires { ⌜ (i + left ≤ 16) × (at + left * 24 ≤ length (now out)) ⌝ }
-    ensures { λ r. ⌜ r ≡ at + length (chained (addressNotifies (take left (drop i families)) (take left (drop i octets))) next) ⌝ }
-    ensures { λ _. ⌜ now (out .exit) ≡ placed (now (out .entry)) at (chained (addressNotifies (take left (drop i families)) (take left (drop i octets))) next) ⌝ }
+    requires { ⌜ (i + left ≤ addressesMost) × (at + left * addressRoom ≤ length (now out)) ⌝ }
+    ensures { λ r. ⌜ (
+        let notifies = addressNotifies (take left (drop i families)) (take left (drop i addresses)) in
+        Wrote (now (out .entry)) at notifies next (now (out .exit)) r
+        ) ⌝ }
 {
     if left == 0 {
         return at;
     }
     let family = families[i];
-    let address = octets[i];
+    let address = addresses[i];
     let end = put_address(out, at, type_if(left != 1, next), family, address);
-    put_addresses(out, end, next, families, octets, i + 1, left - 1)
+    put_addresses(out, end, next, families, addresses, i + 1, left - 1)
 }
 
-// NO_NATS_ALLOWED with the packet's addresses, of `width` octets, and ports, if it is asked for.
-pub fn put_no_nats(
-    out: &mut [u8],
-    at: usize,
-    asked: bool,
-    next: u8,
-    width: usize,
-    source: [u8; 16],
-    destination: [u8; 16],
-    source_port: u16,
-    destination_port: u16,
-) -> usize
-    requires { ⌜ (at + 44 ≤ length (now out)) × (width ≤ 16) ⌝ }
-    ensures { λ r. ⌜ r ≡ at + length (chained (ifAsked asked (notification 16402 (noNatsOctets width source destination «source_port» «destination_port») ∷ [])) next) ⌝ }
-    ensures { λ _. ⌜ now (out .exit) ≡ placed (now (out .entry)) at (chained (ifAsked asked (notification 16402 (noNatsOctets width source destination «source_port» «destination_port») ∷ [])) next) ⌝ }
+// NO_NATS_ALLOWED with the packet's addresses and ports, if it is asked for.
+pub fn put_no_nats(out: &mut [u8], at: usize, asked: bool, next: u8, pair: Pair) -> usize
+    requires { ⌜ at + noNatsRoom ≤ length (now out) ⌝ }
+    ensures { λ r. ⌜ (
+        let notifies = ifAsked asked (notification noNatsAllowed (pairOctets pair) ∷ []) in
+        Wrote (now (out .entry)) at notifies next (now (out .exit)) r
+        ) ⌝ }
 {
-    let octets = no_nats_octets(width, source, destination, source_port, destination_port);
-    let end = width + width + 4;
+    let octets = no_nats_octets(pair);
+    let width = width_of(pair.family) as usize;
+    let size = 2 * width + 2 * PORT_SIZE;
     put_if(
         out,
         at,
         asked,
         next,
         NotifyType::NO_NATS_ALLOWED,
-        &octets[..end],
+        &octets[..size],
     )
 }
 
@@ -110,31 +130,45 @@ pub fn put_nats(
     at: usize,
     asked: bool,
     next: u8,
-    source: &[u8],
-    destination: &[u8],
+    nat_source: &[u8],
+    nat_destination: &[u8],
 ) -> usize
-    requires { ⌜ (at + 56 ≤ length (now out)) × (asked ≡ true → (length (now source) ≡ 20) × (length (now destination) ≡ 20)) ⌝ }
-    ensures { λ r. ⌜ r ≡ at + length (chained (ifAsked asked (natNotifies (now (source .entry)) (now (destination .entry)))) next) ⌝ }
-    ensures { λ _. ⌜ now (out .exit) ≡ placed (now (out .entry)) at (chained (ifAsked asked (natNotifies (now (source .entry)) (now (destination .entry)))) next) ⌝ }
+    requires { ⌜ at + natsRoom ≤ length (now out) ⌝ }
+    requires { ⌜ (
+        asked ≡ true → (length (now «nat_source») ≡ natOctets) × (length (now «nat_destination») ≡ natOctets)
+        ) ⌝ }
+    ensures { λ r. ⌜ (
+        let notifies = ifAsked asked (natNotifies (now («nat_source» .entry)) (now («nat_destination» .entry))) in
+        Wrote (now (out .entry)) at notifies next (now (out .exit)) r
+        ) ⌝ }
 {
     if asked {
-        let end = put_notify(out, at, 41, NotifyType::NAT_DETECTION_SOURCE_IP, source);
+        let end = put_notify(
+            out,
+            at,
+            NOTIFY_PAYLOAD,
+            NotifyType::NAT_DETECTION_SOURCE_IP,
+            nat_source,
+        );
         return put_notify(
             out,
             end,
             next,
             NotifyType::NAT_DETECTION_DESTINATION_IP,
-            destination,
+            nat_destination,
         );
     }
     at
 }
 
 // The type of the first payload of a request's end, 0 if there is none.
-pub fn tail_type(no_additional: bool, count: usize, cookie: usize) -> u8
-    ensures { λ r. ⌜ r ≡ cond «no_additional» 41 (cond (not (eqb count 0)) 41 (cond (not (eqb cookie 0)) 41 0)) ⌝ }
+pub fn tail_type(no_additional: bool, count: usize, cookie_length: usize) -> u8
+    ensures { λ r. ⌜ TailType «no_additional» count «cookie_length» r ⌝ }
 {
-    type_if(no_additional, type_if(count != 0, type_if(cookie != 0, 0)))
+    type_if(
+        no_additional,
+        type_if(count != 0, type_if(cookie_length != 0, 0)),
+    )
 }
 
 // The end of a request: NO_ADDITIONAL_ADDRESSES or the addresses, then the cookie.
@@ -143,13 +177,16 @@ pub fn put_tail(
     at: usize,
     no_additional: bool,
     count: usize,
-    families: [u8; 16],
-    octets: [[u8; 16]; 16],
+    families: [u8; ADDRESSES_MOST],
+    addresses: [[u8; ADDRESS_OCTETS]; ADDRESSES_MOST],
     cookie: &[u8],
 ) -> usize
-    requires { ⌜ (at + 456 ≤ length (now out)) × (count ≤ 16) × («no_additional» ≡ true → count ≡ 0) × (length (now cookie) ≤ 64) ⌝ }
-    ensures { λ r. ⌜ r ≡ at + length (chained (tailNotifies «no_additional» count families octets (now (cookie .entry))) 0) ⌝ }
-    ensures { λ _. ⌜ now (out .exit) ≡ placed (now (out .entry)) at (chained (tailNotifies «no_additional» count families octets (now (cookie .entry))) 0) ⌝ }
+    requires { ⌜ (at + tailRoom ≤ length (now out)) × (length (now cookie) ≤ cookieMost) ⌝ }
+    requires { ⌜ (count ≤ addressesMost) × («no_additional» ≡ true → count ≡ 0) ⌝ }
+    ensures { λ r. ⌜ (
+        let notifies = tailNotifies «no_additional» count families addresses (now (cookie .entry)) in
+        Wrote (now (out .entry)) at notifies 0 (now (out .exit)) r
+        ) ⌝ }
 {
     let none = [0u8; 0];
     let after = tail_type(false, 0, cookie.len());
@@ -162,6 +199,6 @@ pub fn put_tail(
         NotifyType::NO_ADDITIONAL_ADDRESSES,
         &none,
     );
-    let end = put_addresses(out, listed, after, families, octets, 0, count);
+    let end = put_addresses(out, listed, after, families, addresses, 0, count);
     put_if(out, end, cookie.len() != 0, 0, NotifyType::COOKIE2, cookie)
 }

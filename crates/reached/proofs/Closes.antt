@@ -15,7 +15,7 @@ use Rattle.tables.specs.Tables.{Tables}
 use Rattle.records.specs.declared.ipsec.IpsecRecord.{IpsecRecord}
 use Rattle.tables.proofs.Cases.{IkeClosed, IpsecClosed, close-ike-cases, close-ipsec-cases}
 use Rattle.reached.specs.WellFormed.{WellFormed}
-use Rattle.reached.specs.Reached.{closesIke, closesIpsec, after}
+use Rattle.reached.specs.Reached.{closesIke, closesIpsec, afterCall}
 use Rattle.reached.proofs.Consistent.{closed, each}
 use Rattle.reached.proofs.Stored.{Keeps, still-there, owned-stored}
 
@@ -23,7 +23,8 @@ use Rattle.reached.proofs.Stored.{Keeps, still-there, owned-stored}
 in-use : (o : ℕ) (r : IpsecRecord) → (released o r .spi ≡ 0 → ⊥) → (released o r ≡ r) × (r .owner ≡ o → ⊥)
 in-use o r n = go (eqb (r .spi) 0) refl (eqb (r .owner) o) refl n
   where
-    go : (a : Bool) → eqb (r .spi) 0 ≡ a → (b : Bool) → eqb (r .owner) o ≡ b → (cond a r (cond b noIpsec r) .spi ≡ 0 → ⊥)
+    go : (a : Bool) → eqb (r .spi) 0 ≡ a → (b : Bool) → eqb (r .owner) o ≡ b
+        → (cond a r (cond b noIpsec r) .spi ≡ 0 → ⊥)
         → (cond a r (cond b noIpsec r) ≡ r) × (r .owner ≡ o → ⊥)
     go true e b f n = absurd (n (eqb-true (r .spi) 0 e))
     go false e true f n = absurd (n refl)
@@ -36,8 +37,8 @@ released-clear o r clear =
     (λ e. chosen (λ (x : IpsecRecord). x .spi ≡ 0 → x ≡ noIpsec) (eqb (r .owner) o) (λ f z. refl) (λ f. clear))
 
 module _ (t : Tables) (w : WellFormed t) (spi : ℕ) where
-  closed-ipsec : IpsecClosed (t .ipsec) spi → WellFormed (after t (closesIpsec spi))
-  unfolding after
+  closed-ipsec : IpsecClosed (t .ipsec) spi → WellFormed (afterCall t (closesIpsec spi))
+  unfolding afterCall
   closed-ipsec o =
       let q = placeOf ipsecSpi spi (t .ipsec) in
       rw (o .is)
@@ -47,18 +48,20 @@ module _ (t : Tables) (w : WellFormed t) (spi : ℕ) where
         owned = owned-stored (t .ike) (t .ipsec) q noIpsec (w .owned) (λ n. absurd (n refl));
       })
 
-  closed-ike : IkeClosed (t .ike) (t .ipsec) spi → WellFormed (after t (closesIke spi))
-  unfolding after
+  closed-ike : IkeClosed (t .ike) (t .ipsec) spi → WellFormed (afterCall t (closesIke spi))
+  unfolding afterCall
   closed-ike o =
       rw (o .is)
       (record {
         ikes = closed ikeSpi noIke (t .ike) (w .ikes) (placeOf ikeSpi spi (t .ike)) refl;
         ipsecs =
-            each ipsecSpi noIpsec (t .ipsec) (w .ipsecs) (released spi) refl (λ r n. ap ipsecSpi (in-use spi r n .0)) (released-clear spi)
+            each ipsecSpi noIpsec (t .ipsec) (w .ipsecs) (released spi) refl (λ r n. ap ipsecSpi (in-use spi r n .0))
+            (released-clear spi)
             (λ r n b. rw (in-use spi r n .0) b);
         owned =
             λ j l n.
-            let at : getD (map (released spi) (t .ipsec)) j noIpsec ≡ released spi (getD (t .ipsec) j noIpsec) = List·getD-map (released spi) (t .ipsec) j noIpsec in
+            let at : getD (map (released spi) (t .ipsec)) j noIpsec ≡ released spi (getD (t .ipsec) j noIpsec) =
+            List·getD-map (released spi) (t .ipsec) j noIpsec in
             let kept = in-use spi (getD (t .ipsec) j noIpsec) (λ z. n (ap ipsecSpi at ∙ z)) in
             let same : getD (map (released spi) (t .ipsec)) j noIpsec ≡ getD (t .ipsec) j noIpsec = at ∙ kept .0 in
             let old = w .owned j (rw (← length-map (t .ipsec) (released spi)) l) (λ z. n (ap ipsecSpi same ∙ z)) in
@@ -69,10 +72,11 @@ module _ (t : Tables) (w : WellFormed t) (spi : ℕ) where
             );
       })
 
-pub closes-ike-keeps : (spi : ℕ) → Keeps (λ (t : Tables). after t (closesIke spi))
-unfolding after
-closes-ike-keeps spi t w = ⊎-elim (λ e. rw (e .0, e .1) w) (closed-ike t w spi) (close-ike-cases (t .ike) (t .ipsec) spi)
+pub closes-ike-keeps : (spi : ℕ) → Keeps (λ (t : Tables). afterCall t (closesIke spi))
+unfolding afterCall
+closes-ike-keeps spi t w =
+    ⊎-elim (λ e. rw (e .0, e .1) w) (closed-ike t w spi) (close-ike-cases (t .ike) (t .ipsec) spi)
 
-pub closes-ipsec-keeps : (spi : ℕ) → Keeps (λ (t : Tables). after t (closesIpsec spi))
-unfolding after
+pub closes-ipsec-keeps : (spi : ℕ) → Keeps (λ (t : Tables). afterCall t (closesIpsec spi))
+unfolding afterCall
 closes-ipsec-keeps spi t w = ⊎-elim (λ e. rw e w) (closed-ipsec t w spi) (close-ipsec-cases (t .ipsec) spi)

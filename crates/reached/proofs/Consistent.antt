@@ -1,4 +1,5 @@
--- That a table is consistent survives storing a new key, clearing a place, and changing elements without giving them new keys.
+-- That a table is consistent survives storing a new key, clearing a place, and changing elements without giving them
+-- new keys.
 use Prim.Native.Nat.{ℕ, _<_, _≤_}
 use mathlib.Core.Path.{_≡_, refl, sym, ap, _∙_}
 use mathlib.Core.List.{List, map}
@@ -22,7 +23,8 @@ module _ {A : Type 0} (key : A → ℕ) (d : A) where
     inside l = rw (← length-set xs p y) l
 
     -- the new element is unlike every other
-    store-once : Distinct key d xs → ((j : ℕ) → j < length xs → key (getD xs j d) ≡ key y → (key y ≡ 0 → ⊥) → ⊥) → Distinct key d (set xs p y)
+    store-once : Distinct key d xs → ((j : ℕ) → j < length xs → key (getD xs j d) ≡ key y → (key y ≡ 0 → ⊥) → ⊥)
+        → Distinct key d (set xs p y)
     store-once once unlike i j hi hj e z = go (ℕ-discrete i p) (ℕ-discrete j p)
       where
         li : i < length xs
@@ -39,7 +41,8 @@ module _ {A : Type 0} (key : A → ℕ) (d : A) where
         go (no a) (yes b) =
             let s = ap key (stored j lj b) in
             absurd (unlike i li (sym (ap key (kept i a)) ∙ e ∙ s) (λ n. z (e ∙ s ∙ n)))
-        go (no a) (no b) = once i j li lj (sym (ap key (kept i a)) ∙ e ∙ ap key (kept j b)) (λ n. z (ap key (kept i a) ∙ n))
+        go (no a) (no b) =
+            once i j li lj (sym (ap key (kept i a)) ∙ e ∙ ap key (kept j b)) (λ n. z (ap key (kept i a) ∙ n))
 
     store-clear : Cleared key d xs → (key y ≡ 0 → y ≡ d) → Cleared key d (set xs p y)
     store-clear clear new i l z = go (ℕ-discrete i p)
@@ -65,7 +68,8 @@ module _ {A : Type 0} (key : A → ℕ) (d : A) where
 
   module _ {P : A → Type 0} {size : ℕ} (xs : List A) (c : Consistent key d P size xs) where
     -- opening: the key is not 0 and stood nowhere
-    pub opened : (p : ℕ) (y : A) → (key y ≡ 0 → ⊥) → length xs ≤ placeOf key (key y) xs → P y → Consistent key d P size (set xs p y)
+    pub opened : (p : ℕ) (y : A) → (key y ≡ 0 → ⊥) → length xs ≤ placeOf key (key y) xs → P y
+        → Consistent key d P size (set xs p y)
     opened p y named new fits =
         record {
           long = length-set xs p y ∙ c .long;
@@ -85,11 +89,13 @@ module _ {A : Type 0} (key : A → ℕ) (d : A) where
         }
 
     -- changing an element in its place, which keeps its key
-    pub changed : (p : ℕ) (y : A) → p < length xs → (key y ≡ 0 → ⊥) → key y ≡ key (getD xs p d) → P y → Consistent key d P size (set xs p y)
+    pub changed : (p : ℕ) (y : A) → p < length xs → (key y ≡ 0 → ⊥) → key y ≡ key (getD xs p d) → P y
+        → Consistent key d P size (set xs p y)
     changed p y there named same fits =
         record {
           long = length-set xs p y ∙ c .long;
-          once = λ i j hi hj e z. c .once i j (inside xs p y hi) (inside xs p y hj) (sym (keeps i) ∙ e ∙ keeps j) (λ n. z (keeps i ∙ n));
+          once = λ i j hi hj e z. c .once i j (inside xs p y hi) (inside xs p y hj) (sym (keeps i) ∙ e ∙ keeps j)
+              (λ n. z (keeps i ∙ n));
           clear = store-clear xs p y (c .clear) (λ z. absurd (named z));
           bounded = store-bounded xs p y P (c .bounded) (λ n. fits);
         }
@@ -103,7 +109,8 @@ module _ {A : Type 0} (key : A → ℕ) (d : A) where
 
     -- replacing every element: one keeps its key or loses it, and is cleared where it has none
     module _ (f : A → A) (fd : f d ≡ d) (keeps : (x : A) → (key (f x) ≡ 0 → ⊥) → key (f x) ≡ key x)
-        (clears : (x : A) → (key x ≡ 0 → x ≡ d) → key (f x) ≡ 0 → f x ≡ d) (fits : (x : A) → (key (f x) ≡ 0 → ⊥) → P x → P (f x)) where
+        (clears : (x : A) → (key x ≡ 0 → x ≡ d) → key (f x) ≡ 0 → f x ≡ d)
+        (fits : (x : A) → (key (f x) ≡ 0 → ⊥) → P x → P (f x)) where
       at : (k : ℕ) → getD (map f xs) k d ≡ f (getD xs k d)
       at k = ap (getD (map f xs) k) (sym fd) ∙ List·getD-map f xs k d
 
@@ -117,9 +124,12 @@ module _ {A : Type 0} (key : A → ℕ) (d : A) where
       each =
           record {
             long = length-map xs f ∙ c .long;
-            once = λ i j hi hj e z. c .once i j (here hi) (here hj) (sym (was i z) ∙ e ∙ was j (λ n. z (e ∙ n))) (λ n. z (was i z ∙ n));
+            once = λ i j hi hj e z. c .once i j (here hi) (here hj) (sym (was i z) ∙ e ∙ was j (λ n. z (e ∙ n)))
+                (λ n. z (was i z ∙ n));
             clear = λ i l z. at i ∙ clears (getD xs i d) (c .clear i (here l)) (sym (ap key (at i)) ∙ z);
-            bounded = λ i l n. rw (at i) (fits (getD xs i d) (λ m. n (ap key (at i) ∙ m)) (c .bounded i (here l) (λ m. n (was i n ∙ m))));
+            bounded =
+                λ i l n. rw (at i) (fits (getD xs i d) (λ m. n (ap key (at i) ∙ m))
+                (c .bounded i (here l) (λ m. n (was i n ∙ m))));
           }
 
   -- a table of free places

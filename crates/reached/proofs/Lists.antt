@@ -7,12 +7,13 @@ use native.Mathlib.Omega.{arith}
 use native.Mathlib.Decide.{ℕ-discrete}
 use lib.ListN.{length, getD, set, take, replicate, length-set, length-take, List·getD-append}
 use lib.Seq.{getD-set-same, getD-set-other, getD-take}
+use Rattle.octets.specs.Limits.{addressesMost, addressOctets}
 use Rattle.octets.proofs.Small.{chosen}
 use Rattle.octets.proofs.Pad.{length-copied}
 use Rattle.octets.proofs.Zip.{length-zip, getD-zip}
 use Rattle.address.specs.Address.{addressOf, noAddress}
 use Rattle.address.specs.declared.address.Address.{Address}
-use Rattle.payload.specs.declared.notify.NotifyKind.the-variants.{AdditionalIp4, AdditionalIp6}
+use Rattle.notify.specs.declared.notify.NotifyKind.the-variants.{AdditionalIp4, AdditionalIp6}
 use Rattle.payload.specs.declared.payload.Content.{Content}
 use Rattle.payload.specs.declared.payload.Content.the-variants.{Skipped, Unknown as UnknownPayload, Notify}
 use Rattle.values.specs.Values.{addressAt, additionalOf, addressesIn}
@@ -25,9 +26,9 @@ use Rattle.reader.proofs.Kept.{kept}
 use Rattle.reached.specs.WellFormed.{isFamily}
 
 record Listed (l : Places) : Type 0 where
-  places : length (l .places) ≡ 16
-  families : length (l .families) ≡ 16
-  known : (i : ℕ) → i < l .count → i < 16 → isFamily (getD (l .families) i 0) ≡ true
+  places : length (l .places) ≡ addressesMost
+  families : length (l .families) ≡ addressesMost
+  known : (i : ℕ) → i < l .count → i < addressesMost → isFamily (getD (l .families) i 0) ≡ true
 
 one-more : (l : Places) (family place : ℕ) → isFamily family ≡ true → Listed l → Listed (listed l family place)
 one-more l family place f h =
@@ -37,11 +38,13 @@ one-more l family place f h =
       known = λ i c s. go i c s (ℕ-discrete i (l .count));
     }
   where
-    go : (i : ℕ) → i < l .count + 1 → i < 16 → Dec (i ≡ l .count) → isFamily (getD (set (l .families) (l .count) family) i 0) ≡ true
+    go : (i : ℕ) → i < l .count + 1 → i < addressesMost → Dec (i ≡ l .count)
+        → isFamily (getD (set (l .families) (l .count) family) i 0) ≡ true
     go i c s (yes e) = rw (e, getD-set-same (l .families) (l .count) family 0 (omega (arith, h .families))) f
     go i c s (no n) = rw (getD-set-other (l .families) (l .count) i family 0 n) (h .known i (omega arith) s)
 
-content-listed : (s : Seen) (content : Content) (place : ℕ) → Listed (s .list) → DataFits content → Listed (contentNoted s content place .list)
+content-listed : (s : Seen) (content : Content) (place : ℕ) → Listed (s .list) → DataFits content
+    → Listed (contentNoted s content place .list)
 unfolding contentNoted noted
 content-listed s Skipped place h f = h
 content-listed s UnknownPayload place h f = h
@@ -55,7 +58,8 @@ module _ (first : ℕ) (body : List ℕ) where
 
   all-listed : Listed seen
   all-listed =
-      kept (λ (s : Seen). Listed (s .list)) (record { places = refl; families = refl; known = λ i c s. absurd (omega arith) }) content-listed first body
+      kept (λ (s : Seen). Listed (s .list))
+      (record { places = refl; families = refl; known = λ i c s. absurd (omega arith) }) content-listed first body
 
   abbrev octets : List (List ℕ)
   octets = additionalOf body seen
@@ -63,20 +67,29 @@ module _ (first : ℕ) (body : List ℕ) where
   abbrev given : List Address
   given = zipWith addressOf (seen .families) octets
 
-  octets-long : length octets ≡ 16
+  octets-long : length octets ≡ addressesMost
   octets-long =
       let h = all-listed in
-      let long = length-zip (addressAt body) (seen .places) (seen .families) (h .places ∙ sym (h .families)) ∙ h .places in
-      length-copied (replicate 16 0) (zipWith (addressAt body) (seen .places) (seen .families)) 16 (seen .count) long
+      let long =
+      length-zip (addressAt body) (seen .places) (seen .families) (h .places ∙ sym (h .families)) ∙ h .places in
+      length-copied (replicate addressOctets 0) (zipWith (addressAt body) (seen .places) (seen .families)) addressesMost
+      (seen .count) long
 
-  given-long : length given ≡ 16
-  given-long = let h = all-listed in length-zip addressOf (seen .families) octets (h .families ∙ sym octets-long) ∙ h .families
+  given-long : length given ≡ addressesMost
+  given-long = let h = all-listed in
+      length-zip addressOf (seen .families) octets (h .families ∙ sym octets-long) ∙ h .families
 
-  pub families-known : (i : ℕ) → i < min (seen .count) 16 → isFamily (getD (addressesIn body seen) i noAddress .family) ≡ true
+  pub families-known : (i : ℕ) → i < min (seen .count) addressesMost
+      → isFamily (getD (addressesIn body seen) i noAddress .family) ≡ true
   families-known i l =
       let h = all-listed in
-      let n = min (seen .count) 16 in
+      let n = min (seen .count) addressesMost in
       let inside : i < length (take n given) = rw (length-take n given) (omega (arith, given-long)) in
-      let at = getD-zip addressOf (seen .families) octets i 0 (replicate 16 0) noAddress (omega (arith, h .families)) (omega (arith, octets-long)) in
-      rw (List·getD-append (take n given) (replicate (16 - n) noAddress) noAddress i inside, getD-take n given i noAddress l, at)
+      let at = getD-zip addressOf (seen .families) octets i 0 (replicate addressOctets 0) noAddress
+      (omega (arith, h .families)) (omega (arith, octets-long)) in
+      rw (
+        List·getD-append (take n given) (replicate (addressesMost - n) noAddress) noAddress i inside,
+        getD-take n given i noAddress l,
+        at,
+      )
       (h .known i (omega arith) (omega arith))

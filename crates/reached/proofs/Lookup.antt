@@ -10,7 +10,8 @@ use Rattle.octets.specs.Lists.{placeOf}
 use Rattle.octets.proofs.Places.{place-within, place-has}
 use Rattle.reached.specs.WellFormed.{Distinct}
 
-module _ {A : Type 0} (key : A → ℕ) (d : A) (xs : List A) (k : ℕ) (y : A) (there : placeOf key k xs < length xs) (closed : key y ≡ 0) where
+module _ {A : Type 0} (key : A → ℕ) (d : A) (xs : List A) (k : ℕ) (y : A) (there : placeOf key k xs < length xs)
+    (closed : key y ≡ 0) where
   pub finds-closed : Distinct key d xs → (k ≡ 0 → ⊥) → placeOf key k (set xs (placeOf key k xs) y) ≡ length xs
   finds-closed once n = go (decLt q (length xs))
     where

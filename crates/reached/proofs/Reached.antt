@@ -2,10 +2,12 @@
 use mathlib.Core.Path.{refl, ap}
 use mathlib.Core.List.{[], _∷_}
 use lib.ListN.{getD-replicate}
+use Rattle.octets.specs.Limits.{ikePlaces, ipsecPlaces}
 use Rattle.records.specs.Records.{ikeSpi, ipsecSpi, noIke, noIpsec}
 use Rattle.tables.specs.Tables.{Tables}
 use Rattle.reached.specs.WellFormed.{IkeBounds, IpsecBounds, WellFormed}
-use Rattle.reached.specs.Reached.{empty, Call, opensBoth, opensIpsec, closesIke, closesIpsec, requests, after, afterAll, Typed, StaysWellFormed, Reached}
+use Rattle.reached.specs.Reached.{empty, Call, opensBoth, opensIpsec, closesIke, closesIpsec, requests, afterCall}
+use Rattle.reached.specs.Reached.{afterAll, Typed, StaysWellFormed, Reached}
 use Rattle.reached.proofs.Consistent.{all-free}
 use Rattle.reached.proofs.Stored.{Keeps}
 use Rattle.reached.proofs.Opens.{opens-both-keeps, opens-ipsec-keeps}
@@ -13,7 +15,7 @@ use Rattle.reached.proofs.Closes.{closes-ike-keeps, closes-ipsec-keeps}
 use Rattle.reached.proofs.Requests.{requests-keeps}
 
 -- A law for each call.
-keeps : (c : Call) → Typed c → Keeps (λ (t : Tables). after t c)
+keeps : (c : Call) → Typed c → Keeps (λ (t : Tables). afterCall t c)
 keeps (opensBoth o) typed = opens-both-keeps o
 keeps (opensIpsec spi owner) typed = opens-ipsec-keeps spi owner
 keeps (closesIke spi) typed = closes-ike-keeps spi
@@ -23,14 +25,14 @@ keeps (requests policy q) typed = requests-keeps policy q typed
 pub stays-well-formed : StaysWellFormed
 unfolding afterAll
 stays-well-formed t w [] typed = w
-stays-well-formed t w (c ∷ cs) typed = stays-well-formed (after t c) (keeps c (typed .0) t w) cs (typed .1)
+stays-well-formed t w (c ∷ cs) typed = stays-well-formed (afterCall t c) (keeps c (typed .0) t w) cs (typed .1)
 
 pub empty-well-formed : WellFormed empty
 empty-well-formed =
     record {
-      ikes = all-free ikeSpi noIke IkeBounds 32 refl;
-      ipsecs = all-free ipsecSpi noIpsec IpsecBounds 128 refl;
-      owned = λ j l n. absurd (n (ap ipsecSpi (getD-replicate 128 j noIpsec noIpsec l)));
+      ikes = all-free ikeSpi noIke IkeBounds ikePlaces refl;
+      ipsecs = all-free ipsecSpi noIpsec IpsecBounds ipsecPlaces refl;
+      owned = λ j l n. absurd (n (ap ipsecSpi (getD-replicate ipsecPlaces j noIpsec noIpsec l)));
     }
 
 pub reached : Reached

@@ -1,4 +1,5 @@
--- What keeps tables well-formed, of any call: a record changed in its place, every IPsec record changed, and how owners stay.
+-- What keeps tables well-formed, of any call: a record changed in its place, every IPsec record changed, and how owners
+-- stay.
 use Prim.Native.Nat.{ℕ, _<_}
 use mathlib.Core.Path.{_≡_, sym, ap, _∙_}
 use mathlib.Core.List.{List, map}
@@ -26,18 +27,23 @@ still-there ike o p y h n =
     let q = placeOf ikeSpi o ike in
     let has = place-has ikeSpi o ike noIke h in
     let other : q ≡ p → ⊥ = λ e. n (ap (λ (i : ℕ). getD ike i noIke .spi) (sym e) ∙ has) in
-    let at = at-most ikeSpi o (set ike p y) q noIke (rw length-set h) (ap ikeSpi (getD-set-other ike p q y noIke other) ∙ has) in
+    let at = at-most ikeSpi o (set ike p y) q noIke (rw length-set h)
+    (ap ikeSpi (getD-set-other ike p q y noIke other) ∙ has) in
     rw (length-set ike p y) (omega arith)
 
 -- an IPsec record that is not the one stored
 module _ (ike : List IkeRecord) (ipsec : List IpsecRecord) (p : ℕ) (y : IpsecRecord) where
-  pub owned-stored : Owned ike ipsec → ((y .spi ≡ 0 → ⊥) → (y .owner ≡ 0 → ⊥) × (placeOf ikeSpi (y .owner) ike < length ike)) → Owned ike (set ipsec p y)
+  pub owned-stored : Owned ike ipsec
+      → ((y .spi ≡ 0 → ⊥) → (y .owner ≡ 0 → ⊥) × (placeOf ikeSpi (y .owner) ike < length ike))
+      → Owned ike (set ipsec p y)
   owned-stored old new j l n = go (ℕ-discrete j p)
     where
       inside : j < length ipsec
       inside = rw (← length-set ipsec p y) l
 
-      go : Dec (j ≡ p) → (getD (set ipsec p y) j noIpsec .owner ≡ 0 → ⊥) × (placeOf ikeSpi (getD (set ipsec p y) j noIpsec .owner) ike < length ike)
+      go : Dec (j ≡ p)
+          → (getD (set ipsec p y) j noIpsec .owner ≡ 0 → ⊥) ×
+          (placeOf ikeSpi (getD (set ipsec p y) j noIpsec .owner) ike < length ike)
       go (yes e) =
           let same : getD (set ipsec p y) j noIpsec ≡ y = rw e (getD-set-same ipsec p y noIpsec (rw e at inside)) in
           rw same (new (λ z. n (ap ipsecSpi same ∙ z)))
@@ -47,7 +53,8 @@ module _ (ike : List IkeRecord) (ipsec : List IpsecRecord) (p : ℕ) (y : IpsecR
 
 module _ (t : Tables) (w : WellFormed t) where
   -- an IKE record changed in its place, with its SPI and in its bounds
-  pub ike-changed : (p : ℕ) (y : IkeRecord) → p < length (t .ike) → (y .spi ≡ 0 → ⊥) → y .spi ≡ getD (t .ike) p noIke .spi → IkeBounds y
+  pub ike-changed : (p : ℕ) (y : IkeRecord) → p < length (t .ike) → (y .spi ≡ 0 → ⊥)
+      → y .spi ≡ getD (t .ike) p noIke .spi → IkeBounds y
       → WellFormed (tables (set (t .ike) p y) (t .ipsec))
   ike-changed p y there named same fits =
       record {
@@ -55,21 +62,30 @@ module _ (t : Tables) (w : WellFormed t) where
         ipsecs = w .ipsecs;
         owned =
             λ j l n.
-            let old = w .owned j l n in
-            (old .0, rw (store-same ikeSpi (getD (t .ipsec) j noIpsec .owner) (t .ike) p y noIke same, length-set (t .ike) p y) (old .1));
+            let old = w .owned j l n in (
+              old .0,
+              let there = store-same ikeSpi (getD (t .ipsec) j noIpsec .owner) (t .ike) p y noIke same in
+                  rw (there, length-set (t .ike) p y) (old .1),
+            );
       }
 
   -- every IPsec record changed, each with its SPI and owner and in its bounds; a free place stays free
-  pub ipsec-changed : (f : IpsecRecord → IpsecRecord) → ((r : IpsecRecord) → f r .spi ≡ r .spi) → ((r : IpsecRecord) → f r .owner ≡ r .owner)
-      → f noIpsec ≡ noIpsec → ((r : IpsecRecord) → IpsecBounds r → IpsecBounds (f r)) → WellFormed (tables (t .ike) (map f (t .ipsec)))
+  pub ipsec-changed : (f : IpsecRecord → IpsecRecord) → ((r : IpsecRecord) → f r .spi ≡ r .spi)
+      → ((r : IpsecRecord) → f r .owner ≡ r .owner)
+      → f noIpsec ≡ noIpsec → ((r : IpsecRecord) → IpsecBounds r → IpsecBounds (f r))
+      → WellFormed (tables (t .ike) (map f (t .ipsec)))
   ipsec-changed f spis owners free fits =
       record {
         ikes = w .ikes;
         ipsecs =
-            each ipsecSpi noIpsec (t .ipsec) (w .ipsecs) f free (λ r n. spis r) (λ r clear z. ap f (clear (sym (spis r) ∙ z)) ∙ free) (λ r n. fits r);
+            each ipsecSpi noIpsec (t .ipsec) (w .ipsecs) f free (λ r n. spis r)
+            (λ r clear z. ap f (clear (sym (spis r) ∙ z)) ∙ free) (λ r n. fits r);
         owned =
             λ j l n.
-            let at : getD (map f (t .ipsec)) j noIpsec ≡ f (getD (t .ipsec) j noIpsec) = ap (getD (map f (t .ipsec)) j) (sym free) ∙ List·getD-map f (t .ipsec) j noIpsec in
-            let same : getD (map f (t .ipsec)) j noIpsec .owner ≡ getD (t .ipsec) j noIpsec .owner = ap (λ (r : IpsecRecord). r .owner) at ∙ owners (getD (t .ipsec) j noIpsec) in
-            rw same (w .owned j (rw (← length-map (t .ipsec) f) l) (λ z. n (ap ipsecSpi at ∙ spis (getD (t .ipsec) j noIpsec) ∙ z)));
+            let at : getD (map f (t .ipsec)) j noIpsec ≡ f (getD (t .ipsec) j noIpsec) =
+            ap (getD (map f (t .ipsec)) j) (sym free) ∙ List·getD-map f (t .ipsec) j noIpsec in
+            let same : getD (map f (t .ipsec)) j noIpsec .owner ≡ getD (t .ipsec) j noIpsec .owner =
+            ap (λ (r : IpsecRecord). r .owner) at ∙ owners (getD (t .ipsec) j noIpsec) in
+            rw same (w .owned j (rw (← length-map (t .ipsec) f) l)
+            (λ z. n (ap ipsecSpi at ∙ spis (getD (t .ipsec) j noIpsec) ∙ z)));
       }

@@ -8,6 +8,7 @@ use borrow.Author.Tests.{eqb-true, eqb-false, eq-eqb, ne-eqb, lt-ltb}
 use lib.Dec.{eqb}
 use lib.ListN.{length, getD, set, length-set, length-map, List·getD-map}
 use lib.Seq.{set-set, set-getD, ext-getD}
+use Rattle.octets.specs.Limits.{ipsecPlaces}
 use Rattle.octets.specs.Lists.{placeOf}
 use Rattle.octets.proofs.Small.{chosen}
 use Rattle.octets.proofs.Places.{place-has}
@@ -31,14 +32,17 @@ map-set f (y ∷ xs) zero x = refl
 map-set f (y ∷ xs) (suc i) x = rw (map-set f xs i x)
 
 -- clearing a free place changes nothing
-free-again : {A : Type 0} (key : A → ℕ) (d : A) (xs : List A) → Cleared key d xs → placeOf key 0 xs < length xs → set xs (placeOf key 0 xs) d ≡ xs
-free-again key d xs clear room = rw (← clear (placeOf key 0 xs) room (place-has key 0 xs d room)) (set-getD xs (placeOf key 0 xs) d)
+free-again : {A : Type 0} (key : A → ℕ) (d : A) (xs : List A) → Cleared key d xs → placeOf key 0 xs < length xs
+    → set xs (placeOf key 0 xs) d ≡ xs
+free-again key d xs clear room =
+    rw (← clear (placeOf key 0 xs) room (place-has key 0 xs d room)) (set-getD xs (placeOf key 0 xs) d)
 
 -- a record that names another owner stays
 unreleased : (o : ℕ) (r : IpsecRecord) → ((r .spi ≡ 0 → ⊥) → r .owner ≡ o → ⊥) → released o r ≡ r
 unreleased o r other =
     chosen (λ (x : IpsecRecord). x ≡ r) (eqb (r .spi) 0) (λ e. refl)
-    (λ e. chosen (λ (x : IpsecRecord). x ≡ r) (eqb (r .owner) o) (λ f. absurd (other (eqb-false (r .spi) 0 e) (eqb-true (r .owner) o f))) (λ f. refl))
+    (λ e. chosen (λ (x : IpsecRecord). x ≡ r) (eqb (r .owner) o)
+    (λ f. absurd (other (eqb-false (r .spi) 0 e) (eqb-true (r .owner) o f))) (λ f. refl))
 
 module _ (t : Tables) (w : WellFormed t) (o : Opening) (b : BothOpened (t .ike) (t .ipsec) o) where
   abbrev p : ℕ
@@ -60,13 +64,15 @@ module _ (t : Tables) (w : WellFormed t) (o : Opening) (b : BothOpened (t .ike) 
       let same = ap (λ (k : ℕ). placeOf ikeSpi k (t .ike)) e in
       omega arith))
 
-  undone : closeIke (set (t .ike) p (ikeOf o)) (set (t .ipsec) q (childOf o)) (o .spi) ≡ tablesAnswer 0 (t .ike) (t .ipsec)
+  undone : closeIke (set (t .ike) p (ikeOf o)) (set (t .ipsec) q (childOf o)) (o .spi) ≡ tablesAnswer 0 (t .ike)
+      (t .ipsec)
   unfolding closeIke
   undone =
-      let gone : released (o .spi) (childOf o) ≡ noIpsec = rw (ne-eqb (o .child) 0 (b .child-named), eq-eqb (o .spi) (o .spi) refl) in
+      let gone : released (o .spi) (childOf o) ≡ noIpsec =
+      rw (ne-eqb (o .child) 0 (b .child-named), eq-eqb (o .spi) (o .spi) refl) in
       rw (
         length-set (t .ipsec) q (childOf o),
-        eq-eqb (length (t .ipsec)) 128 (w .ipsecs .long),
+        eq-eqb (length (t .ipsec)) ipsecPlaces (w .ipsecs .long),
         ne-eqb (o .spi) 0 (b .named),
         finds-opened ikeSpi noIke (t .ike) (ikeOf o) (b .room) (b .new),
         length-set (t .ike) p (ikeOf o),
@@ -82,4 +88,5 @@ module _ (t : Tables) (w : WellFormed t) (o : Opening) (b : BothOpened (t .ike) 
 pub closing-undoes : ClosingUndoes
 closing-undoes cs typed o done =
     let t = afterAll empty cs in
-    ⊎-elim (λ b. rw (b .is) (undone t (reached cs typed) o b)) (λ n. absurd (n .refused done)) (both-or-neither (t .ike) (t .ipsec) o)
+    ⊎-elim (λ b. rw (b .is) (undone t (reached cs typed) o b)) (λ n. absurd (n .refused done))
+    (both-or-neither (t .ike) (t .ipsec) o)

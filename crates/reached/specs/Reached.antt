@@ -1,4 +1,9 @@
--- Tables reached from empty ones by the calls that write tables.
+-- Trusted. Tables reached from empty ones by the calls that write tables (01: "tables not reached from empty ones").
+--   empty                   both tables with no record
+--   Call                    a call that writes tables, with its arguments
+--   afterCall, afterAll     the tables after a call, and after a list of them
+--   Typed                   what the types of the arguments fix
+--   StaysWellFormed, Reached      what is claimed: of well-formed tables, and of empty ones
 use Prim.Native.Nat.{ℕ, _<_}
 use mathlib.Core.List.{List, [], _∷_}
 use lib.ListN.{replicate}
@@ -9,8 +14,9 @@ use Rattle.records.specs.Records.{noIke, noIpsec}
 use Rattle.tables.specs.Calls.{openBoth, openIpsec, closeIke, closeIpsec}
 use Rattle.tables.specs.Tables.{Tables, tables}
 use Rattle.tables.specs.declared.calls.Opening.{Opening}
-use Rattle.responder.specs.Handle.{Request, afterRequest}
-use Rattle.reached.specs.WellFormed.{WellFormed}
+use Rattle.checking.specs.Checks.{Request}
+use Rattle.responder.specs.Handle.{afterRequest}
+use Rattle.reached.specs.WellFormed.{messageIds, WellFormed}
 
 abbrev pub empty : Tables
 empty = tables (replicate ikePlaces noIke) (replicate ipsecPlaces noIpsec)
@@ -24,19 +30,21 @@ pub data Call : Type 0 where
   requests : Policy → Request → Call
 
 -- the tables after a call, whatever number it gives
-unfoldable pub after : Tables → Call → Tables
-after t (opensBoth o) =
+unfoldable pub afterCall : Tables → Call → Tables
+afterCall t (opensBoth o) =
     let r = openBoth (t .ike) (t .ipsec) o in
     tables (r .ike) (r .ipsec)
-after t (opensIpsec spi owner) = tables (t .ike) (openIpsec (t .ike) (t .ipsec) spi owner .ipsec)
-after t (closesIke spi) = tables (closeIke (t .ike) (t .ipsec) spi .ike) (closeIke (t .ike) (t .ipsec) spi .ipsec)
-after t (closesIpsec spi) = tables (t .ike) (closeIpsec (t .ipsec) spi .ipsec)
-after t (requests policy q) = afterRequest policy q t
+afterCall t (opensIpsec spi owner) = tables (t .ike) (openIpsec (t .ike) (t .ipsec) spi owner .ipsec)
+afterCall t (closesIke spi) =
+    let r = closeIke (t .ike) (t .ipsec) spi in
+    tables (r .ike) (r .ipsec)
+afterCall t (closesIpsec spi) = tables (t .ike) (closeIpsec (t .ipsec) spi .ipsec)
+afterCall t (requests policy q) = afterRequest policy q t
 
 unfoldable pub afterAll : Tables → List Call → Tables
-unfolding after
+unfolding afterCall
 afterAll t [] = t
-afterAll t (c ∷ cs) = afterAll (after t c) cs
+afterAll t (c ∷ cs) = afterAll (afterCall t c) cs
 
 -- What the types of the exported arguments fix: a message ID has 32 bits.
 abbrev pub Typed : Call → Type 0
@@ -44,7 +52,7 @@ Typed (opensBoth o) = Unit {0}
 Typed (opensIpsec spi owner) = Unit {0}
 Typed (closesIke spi) = Unit {0}
 Typed (closesIpsec spi) = Unit {0}
-Typed (requests policy q) = q .asks .id < 4294967296
+Typed (requests policy q) = q .asks .id < messageIds
 
 -- Whatever calls are made on well-formed tables, and so on empty ones.
 abbrev pub StaysWellFormed : Type 0

@@ -1,4 +1,5 @@
--- What is claimed of an opening in tables that calls reach: closing leaves no trace of it.
+-- Trusted. What is claimed of an opening in tables that calls reach: closing leaves no trace of it.
+--   ClosingUndoes           that claim
 use mathlib.Core.Path.{_≡_}
 use mathlib.Core.List.{List}
 use Rattle.order.specs.Order.{All}
@@ -6,7 +7,7 @@ use Rattle.tables.specs.Calls.{tablesAnswer, openBoth, closeIke}
 use Rattle.tables.specs.declared.calls.Opening.{Opening}
 use Rattle.reached.specs.Reached.{Call, Typed, afterAll, empty}
 
--- In tables that calls reach from empty ones, closing what was just opened leaves no trace of it.
+-- In tables that calls reach from empty ones, closing what was just opened gives them back.
 abbrev pub ClosingUndoes : Type 0
 ClosingUndoes =
     (cs : List Call) → All Typed cs → (o : Opening)

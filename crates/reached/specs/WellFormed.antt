@@ -1,11 +1,19 @@
--- Well-formed tables: no SPI twice, nothing left in a free place, every IPsec record with an owner, and each record in use in its bounds.
+-- Trusted. Well-formed tables: no SPI twice, nothing left in a free place, every IPsec record with an owner, and each
+-- record in use in its bounds.
+--   Distinct, Cleared, EachInUse      what holds of a table's places
+--   Consistent                        all of it, of a table of so many places
+--   messageIds                        how many message IDs there are
+--   isFamily                          4 or 6
+--   IkeBounds, IpsecBounds            the bounds of a record in use
+--   Owned                             every IPsec record has an owner
+--   WellFormed                        both tables
 use Prim.Native.Nat.{ℕ, _<_, _≤_}
 use mathlib.Core.Path.{_≡_}
 use mathlib.Core.List.{List}
 use mathlib.Core.Bool.{Bool, true, not}
 use lib.Dec.{eqb}
 use lib.ListN.{length, getD}
-use Rattle.octets.specs.Limits.{ikePlaces, ipsecPlaces, addressesMost}
+use Rattle.octets.specs.Limits.{ikePlaces, ipsecPlaces, addressesMost, tallyMost}
 use Rattle.octets.specs.Lists.{placeOf}
 use Rattle.address.specs.Address.{widthOf, noAddress, pairFits}
 use Rattle.records.specs.Records.{ikeSpi, ipsecSpi, noIke, noIpsec}
@@ -17,7 +25,8 @@ module _ {A : Type 0} (key : A → ℕ) (d : A) where
   -- no key but 0 stands in two places
   abbrev pub Distinct : List A → Type 0
   Distinct xs =
-      (i j : ℕ) → i < length xs → j < length xs → key (getD xs i d) ≡ key (getD xs j d) → (key (getD xs i d) ≡ 0 → ⊥) → i ≡ j
+      (i j : ℕ) → i < length xs → j < length xs → key (getD xs i d) ≡ key (getD xs j d)
+      → (key (getD xs i d) ≡ 0 → ⊥) → i ≡ j
 
   -- nothing is left in a place with key 0
   abbrev pub Cleared : List A → Type 0
@@ -37,16 +46,20 @@ module _ {A : Type 0} (key : A → ℕ) (d : A) where
 abbrev pub isFamily : ℕ → Bool
 isFamily family = not (eqb (widthOf family) 0)
 
--- What 01 says of an IKE record in use: its pair passed check 1, so its family is 4 or 6; "an update mark and a list mark (each none or a
--- message ID of 32 bits ...)", kept as 0 or the ID and one; "up to 16 additional addresses", each of family 4 or 6; "an unknown tally that
--- stays at 4,294,967,295 once there".
+-- "a message ID of 32 bits"
+abbrev pub messageIds : ℕ
+messageIds = 4294967296
+
+-- What 01 says of an IKE record in use: its pair passed check 1, so its family is 4 or 6; "an update mark and a list
+-- mark (each none or a message ID of 32 bits ...)", kept as 0 or the ID and one; "up to 16 additional addresses", each
+-- of family 4 or 6; "an unknown tally that stays at 4,294,967,295 once there".
 pub record IkeBounds (r : IkeRecord) : Type 0 where
   pub pair : pairFits (r .pair) ≡ true
-  pub update-mark : r .«update_mark» ≤ 4294967296
-  pub list-mark : r .«list_mark» ≤ 4294967296
+  pub update-mark : r .«update_mark» ≤ messageIds
+  pub list-mark : r .«list_mark» ≤ messageIds
   pub count : r .count ≤ addressesMost
   pub families : (i : ℕ) → i < r .count → isFamily (getD (r .addresses) i noAddress .family) ≡ true
-  pub tally : r .unknown ≤ 4294967295
+  pub tally : r .unknown ≤ tallyMost
 
 pub record IpsecBounds (r : IpsecRecord) : Type 0 where
   pub pair : pairFits (r .pair) ≡ true

@@ -7,10 +7,12 @@ use native.Mathlib.Omega.{arith}
 use borrow.Author.Tests.{ltb-false}
 use lib.Dec.{eqb, leb, ltb}
 use lib.ListN.{length, getD}
+use Rattle.octets.specs.Limits.{payloadHeader, notifyHeader}
+use Rattle.octets.specs.Wire.{notifyPayload, firstKnownPayload, lastKnownPayload, criticalBit}
 use Rattle.octets.specs.Octets.{be16}
 use Rattle.octets.proofs.Small.{neither, chosen}
-use Rattle.payload.specs.Notify.{kindOf, dataFits}
-use Rattle.payload.specs.Payload.{spiFits, notifyAt, sized, payloadAt}
+use Rattle.notify.specs.Notify.{kindOf, dataFits}
+use Rattle.payload.specs.Payload.{flagsAt, lengthAt, spiSizeAt, notifyTypeAt, spiFits, notifyAt, sized, payloadAt}
 use Rattle.reader.specs.Chain.{Chain, ends, faulty, payload, link, chainEnd, chain, chainAt}
 use Rattle.payload.specs.declared.payload.Fault.{Fault}
 use Rattle.payload.specs.declared.payload.Fault.the-variants.{Leftover}
@@ -31,7 +33,7 @@ claimed (one p) = p
 abbrev pub DataFits : Content → Type 0
 DataFits Skipped = Unit {0}
 DataFits Unknown = Unit {0}
-DataFits (Notify kind number len) = dataFits kind len ≡ true
+DataFits (Notify kind notifyType size) = dataFits kind size ≡ true
 
 module _ {P : ℕ → Content → Type 0} where
   -- both ways of a test
@@ -39,66 +41,77 @@ module _ {P : ℕ → Content → Type 0} where
   each-way b p q = chosen (OfFound P) b (λ z. p) (λ z. q)
 
   -- a payload has the size that it was read at, and data that fits
-  read-one : (first : ℕ) (body : List ℕ) (at n : ℕ) → ((content : Content) → DataFits content → P n content) → OfFound P (sized first body at n)
+  read-one : (payloadType : ℕ) (body : List ℕ) (at n : ℕ) → ((content : Content) → DataFits content → P n content)
+      → OfFound P (sized payloadType body at n)
   unfolding sized notifyAt
-  read-one first body at n p =
-      let spi = getD body (at + 5) 0 in
-      let kind = kindOf (be16 body (at + 6)) in
-      each-way (eqb first 41)
-      (each-way (ltb n 8 || ltb (n - 8) spi) none
+  read-one payloadType body at n p =
+      let spi = getD body (at + spiSizeAt) 0 in
+      let notifyType = be16 body (at + notifyTypeAt) in
+      let kind = kindOf notifyType in
+      let size = n - notifyHeader - spi in
+      each-way (eqb payloadType notifyPayload)
+      (each-way (ltb n notifyHeader || ltb (n - notifyHeader) spi) none
       (each-way (spiFits kind spi)
-      (chosen (OfFound P) (dataFits kind (n - 8 - spi)) (λ e. one (p (Notify kind (be16 body (at + 6)) (n - 8 - spi)) e)) (λ e. none))
+      (chosen (OfFound P) (dataFits kind size) (λ e. one (p (Notify kind notifyType size) e)) (λ e. none))
       none))
-      (each-way (leb 33 first && leb first 48) (one (p Skipped tt)) (each-way (leb 128 (getD body (at + 1) 0)) none (one (p Unknown tt))))
+      (each-way (leb firstKnownPayload payloadType && leb payloadType lastKnownPayload) (one (p Skipped tt))
+      (each-way (leb criticalBit (getD body (at + flagsAt) 0)) none (one (p Unknown tt))))
 
 -- 4 octets at least, none past the end, and data that fits
 abbrev Within : List ℕ → ℕ → ℕ → Content → Type 0
-Within body at n content = (4 ≤ n) × (at + n ≤ length body) × DataFits content
+Within body at n content = (payloadHeader ≤ n) × (at + n ≤ length body) × DataFits content
 
-module _ (first : ℕ) (body : List ℕ) (at : ℕ) (inside : at ≤ length body) where
-  found-within : OfFound (Within body at) (payloadAt first body at)
+module _ (payloadType : ℕ) (body : List ℕ) (at : ℕ) (inside : at ≤ length body) where
+  found-within : OfFound (Within body at) (payloadAt payloadType body at)
   unfolding payloadAt
   found-within =
-      each-way (ltb (length body - at) 4) none
-      (chosen (OfFound (Within body at)) (ltb (be16 body (at + 2)) 4 || ltb (length body - at) (be16 body (at + 2)))
+      let left = length body - at in
+      let size = be16 body (at + lengthAt) in
+      each-way (ltb left payloadHeader) none
+      (chosen (OfFound (Within body at)) (ltb size payloadHeader || ltb left size)
       (λ e. none)
       (λ e.
-      let t = neither (ltb (be16 body (at + 2)) 4) (ltb (length body - at) (be16 body (at + 2))) e in
-      let l = ltb-false (be16 body (at + 2)) 4 (t .0) in
-      let m = ltb-false (length body - at) (be16 body (at + 2)) (t .1) in
-      read-one first body at (be16 body (at + 2)) (λ content f. (omega arith, omega arith, f))))
+      let t = neither (ltb size payloadHeader) (ltb left size) e in
+      let l = ltb-false size payloadHeader (t .0) in
+      let m = ltb-false left size (t .1) in
+      read-one payloadType body at size (λ content f. (omega arith, omega arith, f))))
 
   -- what is told of a payload that was found
-  pub takes : (n : ℕ) (content : Content) → payloadAt first body at ≡ Payload n content → Within body at n content
+  pub takes : (n : ℕ) (content : Content) → payloadAt payloadType body at ≡ Payload n content → Within body at n content
   takes n content e = claimed (rw e at found-within)
 
 -- Any number of steps over the octets left gives the same chain.
-linked : (f g : ℕ → Chain) (body : List ℕ) (at : ℕ) → ((n : ℕ) (content : Content) → Within body at n content → f (at + n) ≡ g (at + n))
+linked : (f g : ℕ → Chain) (body : List ℕ) (at : ℕ)
+    → ((n : ℕ) (content : Content) → Within body at n content → f (at + n) ≡ g (at + n))
     → (x : Found) → OfFound (Within body at) x → link f at x ≡ link g at x
 linked f g body at same (Payload n content) (one w) = ap (payload at content) (same n content w)
 linked f g body at same (Faulty e) none = refl
 
-steps-enough : (k l : ℕ) (body : List ℕ) (first at : ℕ) → at ≤ length body → length body - at < k → length body - at < l
-    → chain k body first at ≡ chain l body first at
+steps-enough : (k l : ℕ) (body : List ℕ) (payloadType at : ℕ) → at ≤ length body
+    → length body - at < k → length body - at < l → chain k body payloadType at ≡ chain l body payloadType at
 unfolding chain
-steps-enough zero l body first at inside h i = absurd (omega arith)
-steps-enough (suc k) zero body first at inside h i = absurd (omega arith)
-steps-enough (suc k) (suc l) body first at inside h i =
-    ap (cond (eqb first 0) (chainEnd body at))
+steps-enough zero l body payloadType at inside h i = absurd (omega arith)
+steps-enough (suc k) zero body payloadType at inside h i = absurd (omega arith)
+steps-enough (suc k) (suc l) body payloadType at inside h i =
+    ap (cond (eqb payloadType 0) (chainEnd body at))
     (linked _ _ body at
     (λ n content w. steps-enough k l body (getD body at 0) (at + n) (w .1) (omega arith) (omega arith))
-    (payloadAt first body at) (found-within first body at inside))
+    (payloadAt payloadType body at) (found-within payloadType body at inside))
 
-module _ (first : ℕ) (body : List ℕ) (at : ℕ) where
+module _ (payloadType : ℕ) (body : List ℕ) (at : ℕ) where
   -- 01's rule for a chain, with no count of steps: type 0 ends it, and any other is a payload followed by the rest
-  pub chain-step : at ≤ length body → chainAt body first at
-      ≡ cond (eqb first 0) (chainEnd body at) (link (chainAt body (getD body at 0)) at (payloadAt first body at))
+  pub chain-step : at ≤ length body → chainAt body payloadType at
+      ≡ cond (eqb payloadType 0) (chainEnd body at)
+      (link (chainAt body (getD body at 0)) at (payloadAt payloadType body at))
   unfolding chain chainAt
   chain-step inside =
-      ap (cond (eqb first 0) (chainEnd body at))
+      ap (cond (eqb payloadType 0) (chainEnd body at))
       (linked _ _ body at
-      (λ n content w. steps-enough (length body - at) (suc (length body - (at + n))) body (getD body at 0) (at + n) (w .1) (omega arith) (omega arith))
-      (payloadAt first body at) (found-within first body at inside))
+      (λ n content w.
+      let left = length body - at in
+      let next = getD body at 0 in
+      steps-enough left (suc (length body - (at + n))) body next (at + n) (w .1) (omega arith) (omega arith))
+      (payloadAt payloadType body at) (found-within payloadType body at inside))
 
 -- Every notification of a chain has data that fits.
 abbrev pub AllFit : Chain → Type 0
@@ -106,22 +119,24 @@ AllFit ends = Unit {0}
 AllFit (faulty f at) = Unit {0}
 AllFit (payload at content rest) = DataFits content × AllFit rest
 
-steps-fit : (k : ℕ) (body : List ℕ) (first at : ℕ) → at ≤ length body → AllFit (chain k body first at)
+steps-fit : (k : ℕ) (body : List ℕ) (payloadType at : ℕ) → at ≤ length body → AllFit (chain k body payloadType at)
 unfolding chain
-steps-fit zero body first at inside = tt
-steps-fit (suc k) body first at inside =
-    go (eqb first 0) (payloadAt first body at) (found-within first body at inside) (λ n l. steps-fit k body (getD body at 0) (at + n) l)
+steps-fit zero body payloadType at inside = tt
+steps-fit (suc k) body payloadType at inside =
+    go (eqb payloadType 0) (payloadAt payloadType body at) (found-within payloadType body at inside)
+    (λ n l. steps-fit k body (getD body at 0) (at + n) l)
   where
     end : (b : Bool) → AllFit (cond b ends (faulty Leftover at))
     end true = tt
     end false = tt
 
-    go : (b : Bool) (x : Found) → OfFound (Within body at) x → ((n : ℕ) → at + n ≤ length body → AllFit (chain k body (getD body at 0) (at + n)))
+    go : (b : Bool) (x : Found) → OfFound (Within body at) x
+        → ((n : ℕ) → at + n ≤ length body → AllFit (chain k body (getD body at 0) (at + n)))
         → AllFit (cond b (chainEnd body at) (link (chain k body (getD body at 0)) at x))
     go true x w r = end (eqb at (length body))
     go false (Payload n content) (one w) r = (w .2, r n (w .1))
     go false (Faulty f) none r = tt
 
-pub chain-fits : (body : List ℕ) (first at : ℕ) → at ≤ length body → AllFit (chainAt body first at)
+pub chain-fits : (body : List ℕ) (payloadType at : ℕ) → at ≤ length body → AllFit (chainAt body payloadType at)
 unfolding chainAt
-chain-fits body first at inside = steps-fit (suc (length body - at)) body first at inside
+chain-fits body payloadType at inside = steps-fit (suc (length body - at)) body payloadType at inside

@@ -8,3 +8,4 @@ pub mod Kept
 pub mod Cookie
 pub mod Errors
 pub mod Refused
+pub mod Begun

@@ -6,16 +6,20 @@ use mathlib.Core.Bool.{Bool, true, false, cond}
 use native.Mathlib.Omega.{arith}
 use lib.Dec.{ltb}
 use lib.ListN.{length}
+use Rattle.octets.specs.Limits.{bodyMost}
+use Rattle.octets.specs.Numbers.{numberOf}
+use Rattle.octets.specs.declared.number.Number.the-variants.{Done, BodyTooLong}
+use Rattle.reader.specs.declared.read.Reading.{Reading}
 use Rattle.payload.specs.declared.payload.Fault.{Fault}
-use Rattle.payload.specs.declared.payload.Fault.the-variants.{ChainLength, NotifyShape, DataSize, Conflict, Leftover, Critical}
+use Rattle.payload.specs.declared.payload.Fault.the-variants.{ChainLength, NotifyShape, DataSize}
+use Rattle.payload.specs.declared.payload.Fault.the-variants.{Conflict, Leftover, Critical}
 use Rattle.findings.specs.Seen.{nothingSeen}
 use Rattle.findings.specs.declared.seen.Seen.{Seen}
-use Rattle.reader.specs.Chain.{Scan, chainAt, stopped, scanned, numberOf, answer, answered, refused, reading}
-use Rattle.reader.specs.declared.read.Outcome.{Outcome}
-use Rattle.reader.specs.declared.read.Outcome.the-variants.{Whole, Broken}
+use Rattle.reader.specs.Chain.{Scan, Outcome, Whole, Broken, chainAt, stopped, scanned, faultNumber}
+use Rattle.reader.specs.Chain.{answer, refused, reading}
 
 -- no fault has the number 0
-faults-told : (f : Fault) → 6 ≤ numberOf f
+faults-told : (f : Fault) → 1 ≤ numberOf (faultNumber f)
 faults-told ChainLength = omega arith
 faults-told NotifyShape = omega arith
 faults-told DataSize = omega arith
@@ -23,18 +27,22 @@ faults-told Conflict = omega arith
 faults-told Leftover = omega arith
 faults-told (Critical t) = omega arith
 
-told-whole : (o : Outcome) (s : Seen) → answer o s .number ≡ 0 → stopped o s ≡ stopped Whole (answer o s .seen)
+told-whole : (o : Outcome) (s : Seen) → answer o s .number ≡ numberOf Done
+    → stopped o s ≡ stopped Whole (answer o s .seen)
 told-whole Whole s e = refl
 told-whole (Broken f at) s e = absurd (omega (arith, faults-told f))
 
-pub read-whole : (first : ℕ) (body : List ℕ) → reading first body .number ≡ 0
+pub read-whole : (first : ℕ) (body : List ℕ) → reading first body .number ≡ numberOf Done
     → scanned nothingSeen (chainAt body first 0) ≡ stopped Whole (reading first body .seen)
 unfolding reading
-read-whole first body = go (ltb 4096 (length body))
+read-whole first body = go (ltb bodyMost (length body))
   where
     found : Scan
     found = scanned nothingSeen (chainAt body first 0)
 
-    go : (b : Bool) → cond b (refused 3 0 0) (answered found) .number ≡ 0 → found ≡ stopped Whole (cond b (refused 3 0 0) (answered found) .seen)
+    told : Bool → Reading
+    told long = cond long (refused (numberOf BodyTooLong) 0 0) (answer (found .outcome) (found .seen))
+
+    go : (long : Bool) → told long .number ≡ numberOf Done → found ≡ stopped Whole (told long .seen)
     go true e = absurd (omega arith)
     go false e = told-whole (found .outcome) (found .seen) e

@@ -1,4 +1,13 @@
--- IKE and IPsec records: their keys, new ones, closed ones, and how one is changed.
+-- Trusted. IKE and IPsec records: their keys, new ones, closed ones, and how one is changed: 01, "Tables".
+--
+--   ikeSpi, ipsecSpi        a record's key
+--   settled, noneAgreed     what is agreed, as it is stored; of a free place
+--   newIke, newIpsec        a record as it is opened
+--   noIke, noIpsec          a free place
+--   released, follows       an IPsec record after its owner is closed, after it moves
+--   marksIn                 what of a record a request is decided by
+--   rewritten               a record with all that a request may change in it
+--   remarked, relisted      a record with other marks (and pair), with another list
 use Prim.Native.Nat.{ℕ}
 use mathlib.Core.Bool.{Bool, cond}
 use mathlib.Core.List.{List}
@@ -51,17 +60,26 @@ newIpsec spi owner pair = record { spi = spi; owner = owner; pair = pair }
 abbrev pub noIpsec : IpsecRecord
 noIpsec = newIpsec 0 0 noPair
 
--- 01: "Closing an IKE record closes the IPsec records it owns." A free place is no record, whatever owner it still names.
+-- 01: "Closing an IKE record closes the IPsec records it owns." A free place is no record, whatever owner it still
+-- names.
 abbrev pub released : ℕ → IpsecRecord → IpsecRecord
 released owner r = cond (eqb (r .spi) 0) r (cond (eqb (r .owner) owner) noIpsec r)
 
--- 01: "the IKE record and all its IPsec records take the packet's pair, and no other record changes": those in use with this owner.
+-- 01: "the IKE record and all its IPsec records take the packet's pair, and no other record changes": those in use with
+-- this owner.
 abbrev pub follows : ℕ → Pair → IpsecRecord → IpsecRecord
 follows owner pair r = cond (eqb (r .spi) 0) r (cond (eqb (r .owner) owner) (newIpsec (r .spi) (r .owner) pair) r)
 
--- what of a record a request is decided by: 01's "MOBIKE agreed or not", "an update mark and a list mark", "an unknown tally"
+-- what of a record a request is decided by: 01's "MOBIKE agreed or not", "an update mark and a list mark", "an unknown
+-- tally"
 abbrev pub marksIn : IkeRecord → Marks
-marksIn r = record { agreed = r .agreed; «update_mark» = r .«update_mark»; «list_mark» = r .«list_mark»; unknown = r .unknown }
+marksIn r =
+    record {
+      agreed = r .agreed;
+      «update_mark» = r .«update_mark»;
+      «list_mark» = r .«list_mark»;
+      unknown = r .unknown;
+    }
 
 -- the record with all that a request may change in it; what else it holds is kept
 abbrev pub rewritten : Pair → ℕ → ℕ → ℕ → List Address → ℕ → IkeRecord → IkeRecord
@@ -79,7 +97,8 @@ rewritten pair updateMark listMark count addresses unknown r =
 
 -- the record with these marks and this tally; and, where it moves, "the IKE record ... take[s] the packet's pair"
 abbrev pub remarked : Marks → Bool → Pair → IkeRecord → IkeRecord
-remarked m moves pair r = rewritten (cond moves pair (r .pair)) (m .«update_mark») (m .«list_mark») (r .count) (r .addresses) (m .unknown) r
+remarked m moves pair r =
+    rewritten (cond moves pair (r .pair)) (m .«update_mark») (m .«list_mark») (r .count) (r .addresses) (m .unknown) r
 
 -- the record with another list
 abbrev pub relisted : ℕ → List Address → IkeRecord → IkeRecord

@@ -2,6 +2,8 @@
 use address::address::Address;
 use address::pair::Pair;
 use octets::flag::zero_or_one;
+use octets::limits::ADDRESS_OCTETS;
+use octets::limits::ADDRESSES_MOST;
 ghost use mathlib.Core.Path.{_≡_};
 ghost use Rattle.records.specs.Records.{settled, newIke, noIke, marksIn, remarked, relisted};
 
@@ -11,7 +13,8 @@ pub struct Agreed {
     pub mobike: u8,
 }
 
-// A place is free when its SPI is 0. A mark is the least message ID that exceeds it: 0 for none, and the ID and one for an ID.
+// A place is free when its SPI is 0. A mark is the least message ID that exceeds it: 0 for none, and the ID and one for
+// an ID.
 #[repr(C)]
 pub struct IkeRecord {
     pub spi: u64,
@@ -20,12 +23,12 @@ pub struct IkeRecord {
     pub update_mark: u64,
     pub list_mark: u64,
     pub count: u16,
-    pub addresses: [Address; 16],
+    pub addresses: [Address; ADDRESSES_MOST],
     pub unknown: u32,
 }
 
-// What a request is decided by in its record, and changes there whether it moves or not. Decisions go by these alone, so that a request
-// does not carry the record's list about.
+// What a request is decided by in its record, and changes there whether it moves or not. Decisions go by these alone,
+// so that a request does not carry the record's list about.
 pub struct Marks {
     pub agreed: Agreed,
     pub update_mark: u64,
@@ -48,7 +51,7 @@ pub fn new_ike(spi: u64, agreed: Agreed, pair: Pair) -> IkeRecord
 {
     let none = Address {
         family: 0,
-        octets: [0u8; 16],
+        octets: [0u8; ADDRESS_OCTETS],
     };
     IkeRecord {
         spi,
@@ -57,7 +60,7 @@ pub fn new_ike(spi: u64, agreed: Agreed, pair: Pair) -> IkeRecord
         update_mark: 0,
         list_mark: 0,
         count: 0,
-        addresses: [none; 16],
+        addresses: [none; ADDRESSES_MOST],
         unknown: 0,
     }
 }
@@ -68,8 +71,8 @@ pub fn no_ike() -> IkeRecord
 {
     let pair = Pair {
         family: 0,
-        source: [0u8; 16],
-        destination: [0u8; 16],
+        source: [0u8; ADDRESS_OCTETS],
+        destination: [0u8; ADDRESS_OCTETS],
         source_port: 0,
         destination_port: 0,
     };
@@ -104,7 +107,7 @@ pub fn remark(entry: IkeRecord, marks: Marks, moves: bool, pair: Pair) -> IkeRec
 }
 
 // The record with another list.
-pub fn relist(entry: IkeRecord, count: u16, addresses: [Address; 16]) -> IkeRecord
+pub fn relist(entry: IkeRecord, count: u16, addresses: [Address; ADDRESSES_MOST]) -> IkeRecord
     ensures { λ r. ⌜ r ≡ relisted count addresses entry ⌝ }
 {
     let mut new = entry;

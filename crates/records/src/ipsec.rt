@@ -1,5 +1,6 @@
 // IPsec records: a closed one, and what becomes of one when its owner is closed or moves.
 use address::pair::Pair;
+use octets::limits::ADDRESS_OCTETS;
 ghost use mathlib.Core.Path.{_≡_};
 ghost use Rattle.records.specs.Records.{noIpsec, released, follows};
 
@@ -16,8 +17,8 @@ pub fn no_ipsec() -> IpsecRecord
 {
     let pair = Pair {
         family: 0,
-        source: [0u8; 16],
-        destination: [0u8; 16],
+        source: [0u8; ADDRESS_OCTETS],
+        destination: [0u8; ADDRESS_OCTETS],
         source_port: 0,
         destination_port: 0,
     };

@@ -1,9 +1,11 @@
--- Sound requests of one IKE SA: what each makes of the record, and that two with different IDs end the same in either order.
+-- Sound requests of one IKE SA: what each makes of the record, and that two with different IDs end the same in either
+-- order.
 use Prim.Native.Nat.{ℕ, _+_, min}
 use mathlib.Core.Path.{_≡_, refl, sym, ap, _∙_}
 use mathlib.Core.Bool.{Bool, true, false, cond}
 use mathlib.Core.Option.{Option, none, some, orElse}
 use native.Mathlib.Omega.{arith}
+use Rattle.octets.specs.Limits.{addressesMost}
 use Rattle.address.specs.declared.pair.Pair.{Pair}
 use Rattle.policy.specs.declared.rules.Policy.{Policy}
 use Rattle.records.specs.Records.{rewritten}
@@ -13,22 +15,26 @@ use Rattle.records.specs.declared.ike.IkeRecord.{IkeRecord}
 use Rattle.views.proofs.Own.{view-own, applied-twice}
 use Rattle.deciding.specs.Decide.{tallied, hasList}
 use Rattle.values.specs.Values.{addressesIn}
-use Rattle.responder.specs.Handle.{Request, seenIn, afterRequest}
+use Rattle.checking.specs.Checks.{Request}
+use Rattle.responder.specs.Handle.{seenIn, afterRequest}
 use Rattle.numbers.specs.Numbers.{applies, stepped}
 use Rattle.reordering.proofs.Steps.{Terms, terms, earlyBy, does, does-taken, step-is}
 use Rattle.reordering.proofs.Winner.{winner, agree}
 use Rattle.reordering.proofs.Sound.{idOf, Sound, core-sound}
 
 -- the two records after both
-advanced-agree : (q r : Request) → (idOf q ≡ idOf r → ⊥) → (e : IkeRecord) → stepped r (stepped q e) ≡ stepped q (stepped r e)
+advanced-agree : (q r : Request) → (idOf q ≡ idOf r → ⊥) → (e : IkeRecord)
+    → stepped r (stepped q e) ≡ stepped q (stepped r e)
 advanced-agree q r d e =
     let u = winner (idOf q) (idOf r) (e .«update_mark») d (seenIn q .update) (seenIn r .update) in
     let l = winner (idOf q) (idOf r) (e .«list_mark») d (hasList (seenIn q)) (hasList (seenIn r)) in
     λ i.
-    rewritten (agree u (q .asks .pair) (r .asks .pair) (e .pair) i) (agree u (idOf q + 1) (idOf r + 1) (e .«update_mark») i)
+    rewritten (agree u (q .asks .pair) (r .asks .pair) (e .pair) i)
+    (agree u (idOf q + 1) (idOf r + 1) (e .«update_mark») i)
     (agree l (idOf q + 1) (idOf r + 1) (e .«list_mark») i)
-    (agree l (min (seenIn q .list .count) 16) (min (seenIn r .list .count) 16) (e .count) i)
-    (agree l (addressesIn (q .asks .body) (seenIn q .list)) (addressesIn (r .asks .body) (seenIn r .list)) (e .addresses) i) (tally i) e
+    (agree l (min (seenIn q .list .count) addressesMost) (min (seenIn r .list .count) addressesMost) (e .count) i)
+    (agree l (addressesIn (q .asks .body) (seenIn q .list)) (addressesIn (r .asks .body) (seenIn r .list))
+    (e .addresses) i) (tally i) e
   where
     amount : Request → ℕ
     amount x = seenIn x .tally .«unknown_payloads» + seenIn x .tally .«unknown_notifies»
@@ -64,13 +70,18 @@ module _ (policy : Policy) where
     pub passes : earlyBy q w ≡ 0
     pub fine : Sound policy q
 
-  module _ (k : ℕ) (s : Tables) {e : IkeRecord} {n : ℕ} (seen : view k s ≡ seeing e n) (q : Request) (w : Taken k (terms (seeing e n)) q) where
+  module _ (k : ℕ) (s : Tables) {e : IkeRecord} {n : ℕ} (seen : view k s ≡ seeing e n) (q : Request)
+      (w : Taken k (terms (seeing e n)) q) where
     step-sound : afterRequest policy q s ≡ applied k (becomes (stepped q e) (moving q e)) s
     step-sound =
         step-is policy q s
         ∙ ap (λ (i : ℕ). applied i (does policy q (view i s)) s) (w .spi)
         ∙ ap (λ (v : View). applied k (does policy q v) s) seen
-        ∙ (rw (does-taken policy q (seeing e n) (w .passes) refl, core-sound policy q (w .fine) e .0, core-sound policy q (w .fine) e .1))
+        ∙ (rw (
+          does-taken policy q (seeing e n) (w .passes) refl,
+          core-sound policy q (w .fine) e .0,
+          core-sound policy q (w .fine) e .1,
+        ))
 
     pub view-sound : view k (afterRequest policy q s) ≡ seeing (stepped q e) n
     view-sound =
@@ -92,4 +103,5 @@ module _ (policy : Policy) where
 
     pub swap-sound : (q r : Request) → Fits q → Fits r → (idOf q ≡ idOf r → ⊥)
         → afterRequest policy r (afterRequest policy q s) ≡ afterRequest policy q (afterRequest policy r s)
-    swap-sound q r v w d = two-sound q r v w ∙ (rw (advanced-agree q r d e, moving-agree q r d e) (sym (two-sound r q w v)))
+    swap-sound q r v w d =
+        two-sound q r v w ∙ (rw (advanced-agree q r d e, moving-agree q r d e) (sym (two-sound r q w v)))

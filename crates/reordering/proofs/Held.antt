@@ -1,4 +1,5 @@
--- The record of an IKE SA whose requests are all sound, after a list of requests: its pair is that of the update with the greatest ID.
+-- The record of an IKE SA whose requests are all sound, after a list of requests: its pair is that of the update with
+-- the greatest ID.
 use Prim.Native.Nat.{ℕ}
 use mathlib.Core.Path.{_≡_, refl, sym, ap, _∙_}
 use mathlib.Core.List.{List, [], _∷_}
@@ -12,12 +13,13 @@ use Rattle.order.proofs.Latest.{latest-is-greatest}
 use Rattle.octets.proofs.Small.{chosen}
 use Rattle.address.specs.declared.pair.Pair.{Pair}
 use Rattle.policy.specs.declared.rules.Policy.{Policy}
-use Rattle.tables.specs.Tables.{Tables}
-use Rattle.tables.specs.View.{inUse, View, view}
+use Rattle.tables.specs.Tables.{Tables, inUse}
+use Rattle.tables.specs.View.{View, view}
 use Rattle.records.specs.declared.ike.IkeRecord.{IkeRecord}
 use Rattle.views.proofs.View.{found}
 use Rattle.views.proofs.BySpi.{unseen-by}
-use Rattle.responder.specs.Handle.{Request, meant, seenIn, afterRequest}
+use Rattle.checking.specs.Checks.{Request}
+use Rattle.responder.specs.Handle.{meant, seenIn, afterRequest}
 use Rattle.numbers.specs.Numbers.{stepped}
 use Rattle.reordering.specs.Requests.{updatesFor, pairHeld}
 use Rattle.reordering.proofs.Steps.{Terms, terms, by-spi}
@@ -45,17 +47,23 @@ module _ (policy : Policy) (k : ℕ) where
       go (no x) = rw (ne-eqb (q .spi) k x) (unseen-by (by-spi policy) q k x s ∙ seen)
       go (yes x) = rw (eq-eqb (q .spi) k x) (view-sound policy k s seen q (w x))
 
-  view-all : (w : Terms) (s : Tables) (e : IkeRecord) (n : ℕ) → terms (seeing e n) ≡ w → view k s ≡ seeing e n → (qs : List Request)
-      → All (λ (q : Request). q .spi ≡ k → Taken policy k w q) qs → view k (after (afterRequest policy) s qs) ≡ seeing (nextAll k qs e) n
+  view-all : (w : Terms) (s : Tables) (e : IkeRecord) (n : ℕ) → terms (seeing e n) ≡ w → view k s ≡ seeing e n
+      → (qs : List Request)
+      → All (λ (q : Request). q .spi ≡ k → Taken policy k w q) qs
+      → view k (after (afterRequest policy) s qs) ≡ seeing (nextAll k qs e) n
   view-all w s e n same seen [] a = seen
   view-all w s e n same seen (q ∷ qs) a =
-      let kept = chosen (λ (x : IkeRecord). terms (seeing x n) ≡ terms (seeing e n)) (eqb (q .spi) k) (λ b. refl) (λ b. refl) in
-      view-all w (afterRequest policy q s) (next k q e) n (kept ∙ same) (view-next s seen q (λ x. rw same (a .0 x))) qs (a .1)
+      let kept =
+      chosen (λ (x : IkeRecord). terms (seeing x n) ≡ terms (seeing e n)) (eqb (q .spi) k) (λ b. refl)
+      (λ b. refl) in
+      view-all w (afterRequest policy q s) (next k q e) n (kept ∙ same) (view-next s seen q (λ x. rw same (a .0 x))) qs
+      (a .1)
 
 -- what is held after one request that may carry an update for k
 held-next : (k : ℕ) (q : Request) (e : IkeRecord) (us : List (Update Pair))
     → after latest (heldBy (next k q e)) us
-    ≡ after latest (heldBy e) (cond (eqb (q .spi) k && seenIn q .update) (record { id = idOf q; value = q .asks .pair } ∷ us) us)
+    ≡ after latest (heldBy e)
+    (cond (eqb (q .spi) k && seenIn q .update) (record { id = idOf q; value = q .asks .pair } ∷ us) us)
 unfolding latest
 held-next k q e us = go (eqb (q .spi) k) (seenIn q .update) refl (leb (e .«update_mark») (idOf q)) refl
   where
@@ -67,7 +75,8 @@ held-next k q e us = go (eqb (q .spi) k) (seenIn q .update) refl (leb (e .«upda
     go true true f true g = rw (f, g)
     go true true f false g = rw (f, g)
 
-held-all : (k : ℕ) (qs : List Request) (e : IkeRecord) → heldBy (nextAll k qs e) ≡ after latest (heldBy e) (updatesFor k qs)
+held-all : (k : ℕ) (qs : List Request) (e : IkeRecord)
+    → heldBy (nextAll k qs e) ≡ after latest (heldBy e) (updatesFor k qs)
 unfolding updatesFor
 held-all k [] e = refl
 held-all k (q ∷ qs) e = held-all k qs (next k q e) ∙ held-next k q e (updatesFor k qs)

@@ -12,9 +12,10 @@ use Rattle.reader.specs.Chain.{reading}
 use Rattle.records.specs.Records.{marksIn}
 use Rattle.tables.specs.Tables.{Tables}
 use Rattle.records.specs.declared.ike.IkeRecord.{IkeRecord}
-use Rattle.deciding.specs.Decide.{isAccepted, verdict}
+use Rattle.verdict.specs.Verdict.{isAccepted, verdict}
 use Rattle.answering.specs.Core.{decisionOn}
-use Rattle.responder.specs.Handle.{Request, seenIn}
+use Rattle.checking.specs.Checks.{Request}
+use Rattle.responder.specs.Handle.{seenIn}
 use Rattle.numbers.specs.Numbers.{applies, stepped}
 use Rattle.numbers.proofs.Decisions.{Decides, done, refused, decides}
 use Rattle.numbers.proofs.Cores.{core-decided}
@@ -27,19 +28,25 @@ idOf q = q .asks .id
 module _ (policy : Policy) (q : Request) where
   pub record Sound : Type 0 where
     pub whole : reading (q .asks .first) (q .asks .body) .number ≡ 0
-    pub fine : seenIn q .update ≡ true → isAccepted (verdict policy (noNatsSeen (q .asks .body) (seenIn q)) (q .asks .pair)) ≡ true
+    pub fine : seenIn q .update ≡ true
+        → isAccepted (verdict policy (noNatsSeen (q .asks .body) (seenIn q)) (q .asks .pair)) ≡ true
 
-  pub core-sound : Sound → (e : IkeRecord) → (core policy q e .entry ≡ stepped q e) × (core policy q e .moves ≡ applies q e)
+  pub core-sound : Sound → (e : IkeRecord)
+      → (core policy q e .entry ≡ stepped q e) × (core policy q e .moves ≡ applies q e)
   core-sound w e = go (decides policy q (marksIn e))
     where
-      go : Decides policy q (marksIn e) (decisionOn policy (q .asks) (marksIn e)) → (core policy q e .entry ≡ stepped q e) × (core policy q e .moves ≡ applies q e)
+      go : Decides policy q (marksIn e) (decisionOn policy (q .asks) (marksIn e))
+          → (core policy q e .entry ≡ stepped q e) × (core policy q e .moves ≡ applies q e)
       go (done c) = let x = core-decided policy q e (w .whole) c in (x .entry, x .moves)
       go (refused v which r) =
-          let accepted : isAccepted v ≡ true = rw (r .verdict-is) at (w .fine (both (seenIn q .update) (leb (e .«update_mark») (q .asks .id)) (r .counts) .0)) in
+          let accepted : isAccepted v ≡ true =
+          rw (r .verdict-is) at (w .fine (both (seenIn q .update) (leb (e .«update_mark») (q .asks .id)) (r .counts)
+          .0)) in
           absurd (⊎-elim (λ f. false≢true (rw f at accepted)) (λ f. false≢true (rw f at accepted)) which)
 
 -- 01's soundness on the starting tables, taken apart
-pub sound-parts : (policy : Policy) (t : Tables) (q : Request) → sound policy t q ≡ true → (early t q ≡ 0) × Sound policy q
+pub sound-parts : (policy : Policy) (t : Tables) (q : Request) → sound policy t q ≡ true
+    → (early t q ≡ 0) × Sound policy q
 sound-parts policy t q e =
     let n = eqb (early t q) 0 in
     let m = eqb (reading (q .asks .first) (q .asks .body) .number) 0 in

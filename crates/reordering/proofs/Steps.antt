@@ -2,36 +2,37 @@
 use Prim.Native.Nat.{ℕ}
 use mathlib.Core.Path.{_≡_, refl, sym, ap, _∙_}
 use mathlib.Core.List.{[], map, map-id}
-use mathlib.Core.Bool.{Bool, true, false, cond, _&&_, and-false}
+use mathlib.Core.Bool.{Bool, true, false, cond, _&&_, and-false, false≢true}
 use mathlib.Core.Option.{Option, none, some, Option·map, Option·getD}
-use native.Mathlib.Omega.{arith}
 use native.Mathlib.Decide.{ℕ-discrete}
 use borrow.Author.Tests.{eq-eqb, ne-eqb}
 use lib.Dec.{eqb}
-use lib.ListN.{length, set}
-use Rattle.octets.specs.Flags.{isYes}
+use lib.ListN.{set}
 use Rattle.octets.specs.Lists.{placeOf}
 use Rattle.octets.proofs.Small.{chosen}
 use Rattle.address.specs.declared.pair.Pair.{Pair}
 use Rattle.values.specs.Values.{partOf}
 use Rattle.policy.specs.declared.rules.Policy.{Policy}
-use Rattle.records.specs.Records.{ikeSpi, noIke, marksIn, follows}
+use Rattle.records.specs.Records.{ikeSpi, noneAgreed, noIke, marksIn, follows}
 use Rattle.tables.specs.Calls.{hasIke, listFits}
 use Rattle.tables.specs.Tables.{Tables, tables}
 use Rattle.tables.specs.View.{View, view, Change, stays, becomes, applied, Proper, BySpi}
 use Rattle.records.specs.declared.ike.Agreed.{Agreed}
 use Rattle.records.specs.declared.ike.IkeRecord.{IkeRecord}
 use Rattle.views.proofs.View.{found, applied-stays}
-use Rattle.replying.specs.Reply.{refusalReply}
-use Rattle.answering.specs.Core.{CoreResult, coreAnswer, coreResult, coreResponse, changedBy}
-use Rattle.responder.specs.Handle.{Request, meant, argumentsFit, recordNumber, checkedNumber, earlyNumber, handled, handledResponse, afterRequest}
-use Rattle.responder.proofs.Checks.{passed}
+use Rattle.replying.specs.Reply.{refusalReply, listReplaced}
+use Rattle.answering.specs.Core.{CoreResult, coreAnswer, coreResult, coreResponse}
+use Rattle.replying.specs.Change.{changedBy}
+use Rattle.checking.specs.Checks.{Request, earlyNumberBy}
+use Rattle.responder.specs.Handle.{meant, earlyNumber, handled, handledResponse, afterRequest}
+use Rattle.checking.proofs.Checks.{passed}
 use Rattle.reordering.specs.Requests.{Answer, answer}
 
 abbrev pub early : Tables → Request → ℕ
 early t q = earlyNumber (t .ike) (t .ipsec) q
 
--- What checks 1 to 5 go by beside the request: how many IPsec records are lent, and what was agreed for the record, if there is one.
+-- What checks 1 to 5 go by beside the request: how many IPsec records are lent, and what was agreed for the record, if
+-- there is one.
 pub record Terms : Type 0 where
   pub lent : ℕ
   pub agreed : Option Agreed
@@ -39,30 +40,30 @@ pub record Terms : Type 0 where
 abbrev pub terms : View → Terms
 terms v = record { lent = v .lent; agreed = Option·map (λ (r : IkeRecord). r .agreed) (v .entry) }
 
-abbrev recordNumberOf : Option Agreed → ℕ
-recordNumberOf none = 4
-recordNumberOf (some a) = cond (isYes (a .mobike)) 0 5
+abbrev isThere : {A : Type 0} → Option A → Bool
+isThere none = false
+isThere (some x) = true
 
 abbrev pub earlyBy : Request → Terms → ℕ
-earlyBy q w =
-    checkedNumber (eqb (w .lent) 128 && argumentsFit (q .spi) (q .asks .pair) (q .asks .nat-source) (q .asks .nat-destination))
-    (q .room) (length (q .asks .body)) (recordNumberOf (w .agreed))
+earlyBy q w = earlyNumberBy (w .lent) (isThere (w .agreed)) (Option·getD (w .agreed) noneAgreed) q
 
 pub early-is : (q : Request) (t : Tables) → early t q ≡ earlyBy q (terms (view (q .spi) t))
-unfolding recordNumber checkedNumber
+unfolding earlyNumberBy
 early-is q t = go (eqb (q .spi) 0) refl (hasIke (q .spi) (t .ike)) refl
   where
-    go : (a : Bool) → eqb (q .spi) 0 ≡ a → (b : Bool) → hasIke (q .spi) (t .ike) ≡ b → early t q ≡ earlyBy q (terms (view (q .spi) t))
+    go : (a : Bool) → eqb (q .spi) 0 ≡ a → (b : Bool) → hasIke (q .spi) (t .ike) ≡ b
+        → early t q ≡ earlyBy q (terms (view (q .spi) t))
     go true e b f = rw (e, and-false (listFits (t .ipsec)))
     go false e true f = rw (e, f)
     go false e false f = rw (e, f)
 
 -- where the checks passed there is a record
 pub passed-seen : (q : Request) (v : View) → earlyBy q (terms v) ≡ 0 → (r : IkeRecord) × (v .entry ≡ some r)
-passed-seen q v e = go (v .entry) (passed _ _ _ _ e .there)
+passed-seen q v e = go (v .entry) (passed _ _ _ q e .found)
   where
-    go : (o : Option IkeRecord) → recordNumberOf (Option·map (λ (r : IkeRecord). r .agreed) o) ≡ 0 → (r : IkeRecord) × (o ≡ some r)
-    go none z = absurd (omega arith)
+    go : (o : Option IkeRecord) → isThere (Option·map (λ (r : IkeRecord). r .agreed) o) ≡ true
+        → (r : IkeRecord) × (o ≡ some r)
+    go none z = absurd (false≢true z)
     go (some r) z = (r, refl)
 
 -- a record stored, and its IPsec records moved or not, as the handler says it
@@ -88,7 +89,7 @@ module _ (policy : Policy) where
   -- the answer by the number of the first five checks and by the record
   abbrev answerBy : Request → ℕ → IkeRecord → Answer
   answerBy q n e =
-      let r = cond (eqb n 0) (core q e .reply) (refusalReply n 0 0) in
+      let r = cond (eqb n 0) (core q e .reply) (refusalReply n) in
       record {
         reply = r;
         cookie = partOf (q .asks .body) (r .cookie) (r .«cookie_len»);
@@ -106,10 +107,12 @@ module _ (policy : Policy) where
       go none true = refl
       go none false = refl
       go (some r) true =
-          chosen (λ (x : IkeRecord). x .spi ≡ r .spi) (coreAnswer policy (q .asks) (marksIn r) .relists) (λ e. refl) (λ e. refl)
+          chosen (λ (x : IkeRecord). x .spi ≡ r .spi) (listReplaced (coreAnswer policy (q .asks) (marksIn r)))
+          (λ e. refl) (λ e. refl)
       go (some r) false = tt
 
-  pub does-taken : (q : Request) (v : View) {r : IkeRecord} → earlyBy q (terms v) ≡ 0 → v .entry ≡ some r → does q v ≡ altered q (some r)
+  pub does-taken : (q : Request) (v : View) {r : IkeRecord} → earlyBy q (terms v) ≡ 0 → v .entry ≡ some r
+      → does q v ≡ altered q (some r)
   does-taken q v e o = rw (eq-eqb (earlyBy q (terms v)) 0 e, o)
 
   step-taken : (q : Request) (t : Tables) {r : IkeRecord} → early t q ≡ 0 → view (q .spi) t .entry ≡ some r
@@ -150,7 +153,8 @@ module _ (policy : Policy) where
       go : Dec (early t q ≡ 0) → answerBy q (early t q) (meant (t .ike) (q .spi)) ≡ answerBy q (early t q) e
       go (yes z) =
           let o = passed-seen q (view (q .spi) t) (sym (early-is q t) ∙ z) .1 in
-          ap (answerBy q (early t q)) (found (q .spi) t o .is ∙ ap (λ (x : Option IkeRecord). Option·getD x noIke) (sym o))
+          ap (answerBy q (early t q))
+          (found (q .spi) t o .is ∙ ap (λ (x : Option IkeRecord). Option·getD x noIke) (sym o))
       go (no n) = rw (ne-eqb (early t q) 0 n)
 
   pub by-spi : BySpi (λ (q : Request). q .spi) (afterRequest policy) (answer policy)

@@ -13,7 +13,8 @@ use Rattle.policy.specs.declared.rules.Policy.{Policy}
 use Rattle.tables.specs.Tables.{Tables}
 use Rattle.tables.specs.View.{view}
 use Rattle.records.specs.declared.ike.IkeRecord.{IkeRecord}
-use Rattle.responder.specs.Handle.{Request, afterRequest}
+use Rattle.checking.specs.Checks.{Request}
+use Rattle.responder.specs.Handle.{afterRequest}
 use Rattle.reordering.specs.Requests.{Apart, sound, pairHeld}
 use Rattle.reordering.specs.Reordering.{TablesKept, AnyOrder}
 use Rattle.reordering.proofs.Events as events
@@ -47,26 +48,34 @@ module _ (policy : Policy) (t : Tables) where
   taken : (k : ℕ) (q : Request) → q .spi ≡ k → sound policy t q ≡ true → Taken policy k (terms (view k t)) q
   taken k q e w =
       let parts = sound-parts policy t q w in
-      record { spi = e; passes = ap (λ (i : ℕ). earlyBy q (terms (view i t))) (sym e) ∙ sym (early-is q t) ∙ parts .0; fine = parts .1 }
+      record {
+        spi = e;
+        passes =
+            ap (λ (i : ℕ). earlyBy q (terms (view i t))) (sym e) ∙ sym (early-is q t) ∙ parts .0;
+        fine = parts .1;
+      }
 
   -- A request for k that is sound on t sees a record on s, and is sound there too.
   module _ (k : ℕ) (s : Tables) where
     record Seen : Type 0 where
       entry : IkeRecord
       whole : view k s ≡ seeing entry (length (s .ipsec))
-      fits : (q : Request) → q .spi ≡ k → sound policy t q ≡ true → Taken policy k (terms (seeing entry (length (s .ipsec)))) q
+      fits : (q : Request) → q .spi ≡ k → sound policy t q ≡ true
+          → Taken policy k (terms (seeing entry (length (s .ipsec)))) q
 
     seen : Same k s → (q : Request) → q .spi ≡ k → sound policy t q ≡ true → Seen
     seen same q p w =
         let x = passed-seen q (view k s) (ap (earlyBy q) same ∙ taken k q p w .passes) in
-        let whole : view k s ≡ seeing (x .0) (length (s .ipsec)) = λ i. record { entry = x .1 i; lent = length (s .ipsec) } in
+        let whole : view k s ≡ seeing (x .0) (length (s .ipsec)) =
+        λ i. record { entry = x .1 i; lent = length (s .ipsec) } in
         record {
           entry = x .0;
           whole = whole;
           fits = λ r o v. subst (λ (u : Terms). Taken policy k u r) (sym same ∙ ap terms whole) (taken k r o v);
         }
 
-  keep : (q : Request) → sound policy t q ≡ true → (s : Tables) → Same (q .spi) s → Same (q .spi) (afterRequest policy q s)
+  keep : (q : Request) → sound policy t q ≡ true → (s : Tables) → Same (q .spi) s
+      → Same (q .spi) (afterRequest policy q s)
   keep q w s same =
       let x = seen (q .spi) s same q refl w in
       ap terms (view-sound policy (q .spi) s (x .whole) q (x .fits q refl w)) ∙ ap terms (sym (x .whole)) ∙ same
@@ -75,18 +84,21 @@ module _ (policy : Policy) (t : Tables) where
       → afterRequest policy r (afterRequest policy q s) ≡ afterRequest policy q (afterRequest policy r s)
   swap q r b s same =
       let x = seen (q .spi) s same q refl (b .first) in
-      swap-sound policy (q .spi) s (x .whole) q r (x .fits q refl (b .first)) (x .fits r (sym (b .same)) (b .second)) (b .distinct)
+      swap-sound policy (q .spi) s (x .whole) q r (x .fits q refl (b .first)) (x .fits r (sym (b .same)) (b .second))
+      (b .distinct)
 
   tables-kept : (qs rs : List Request) → TablesKept policy t qs rs
   tables-kept qs rs freed sounds distinct o =
       let P : Request → Type 0 = λ (q : Request). freed (q .spi) ≡ true → sound policy t q ≡ true in
-      let Q : Request → Request → Type 0 = λ (q r : Request). freed (q .spi) ≡ true → q .spi ≡ r .spi → idOf q ≡ idOf r → ⊥ in
+      let Q : Request → Request → Type 0 = λ (q r : Request). freed (q .spi) ≡ true → q .spi ≡ r .spi → idOf q ≡ idOf r
+      → ⊥ in
       let may = order-pairs (λ (q r : Request). P q × P r × Q q r) o (pairs-have P Q qs sounds distinct) weaken in
       let same = events.tables-kept (by-spi policy) t terms freed P Both (λ q f e. keep q (f e)) swap sounds may in (
         same,
         λ k u e.
             ap (λ (x : Tables). pairHeld k x .value) (sym same)
-            ∙ ap (λ (h : Held Pair). h .value) (pair-held policy k t u qs (all-map (λ q f x. taken k q x (f (ap freed x ∙ e))) qs sounds)),
+            ∙ ap (λ (h : Held Pair). h .value)
+            (pair-held policy k t u qs (all-map (λ q f x. taken k q x (f (ap freed x ∙ e))) qs sounds)),
       )
     where
       weaken : (q r : Request) → Apart t q r ⊎ (freed (q .spi) ≡ true)
@@ -98,7 +110,8 @@ module _ (policy : Policy) (t : Tables) where
       weaken q r (inr e) h = go (ℕ-discrete (q .spi) (r .spi))
         where
           go : Dec (q .spi ≡ r .spi) → Apart t q r ⊎ ((freed (q .spi) ≡ true) × Both q r)
-          go (yes p) = inr (e, record { same = p; first = h .0 e; second = h .1 (ap freed (sym p) ∙ e); distinct = h .2 e p })
+          go (yes p) =
+              inr (e, record { same = p; first = h .0 e; second = h .1 (ap freed (sym p) ∙ e); distinct = h .2 e p })
           go (no n) = inl (inl n)
 
 -- Demand 3.

@@ -21,7 +21,8 @@ pub data Winner (a b a' b' : Bool) : Type 0 where
   other : b ≡ true → b' ≡ true → a' ≡ false → Winner a b a' b'
 
 module _ (i j m : ℕ) (d : i ≡ j → ⊥) where
-  pub winner : (x y : Bool) → Winner (counts x i m) (counts y j (markAfter x i m)) (counts x i (markAfter y j m)) (counts y j m)
+  pub winner : (x y : Bool)
+      → Winner (counts x i m) (counts y j (markAfter x i m)) (counts x i (markAfter y j m)) (counts y j m)
   winner false false = nobody refl refl refl refl
   winner true false = go (decLe m i)
     where
@@ -37,14 +38,20 @@ module _ (i j m : ℕ) (d : i ≡ j → ⊥) where
     where
       go : Dec (m ≤ i) → Dec (m ≤ j) → Dec (i < j)
           → Winner (leb m i) (leb (cond (leb m i) (i + 1) m) j) (leb (cond (leb m j) (j + 1) m) i) (leb m j)
-      go (yes h) (yes k) (yes l) = rw (le-leb m i h, le-leb m j k) (other (le-leb (i + 1) j (omega arith)) refl (lt-leb (j + 1) i (omega arith)))
-      go (yes h) (yes k) (no l) = rw (le-leb m i h, le-leb m j k) (one refl (lt-leb (i + 1) j (omega arith)) (le-leb (j + 1) i (omega arith)))
-      go (yes h) (no k) l = rw (le-leb m i h, lt-leb m j (omega arith)) (one refl (lt-leb (i + 1) j (omega arith)) (le-leb m i h))
-      go (no h) (yes k) l = rw (lt-leb m i (omega arith), le-leb m j k) (other refl refl (lt-leb (j + 1) i (omega arith)))
-      go (no h) (no k) l = rw (lt-leb m i (omega arith), lt-leb m j (omega arith)) (nobody refl refl (lt-leb m i (omega arith)) refl)
+      go (yes h) (yes k) (yes l) =
+          rw (le-leb m i h, le-leb m j k) (other (le-leb (i + 1) j (omega arith)) refl (lt-leb (j + 1) i (omega arith)))
+      go (yes h) (yes k) (no l) =
+          rw (le-leb m i h, le-leb m j k) (one refl (lt-leb (i + 1) j (omega arith)) (le-leb (j + 1) i (omega arith)))
+      go (yes h) (no k) l =
+          rw (le-leb m i h, lt-leb m j (omega arith)) (one refl (lt-leb (i + 1) j (omega arith)) (le-leb m i h))
+      go (no h) (yes k) l =
+          rw (lt-leb m i (omega arith), le-leb m j k) (other refl refl (lt-leb (j + 1) i (omega arith)))
+      go (no h) (no k) l =
+          rw (lt-leb m i (omega arith), lt-leb m j (omega arith)) (nobody refl refl (lt-leb m i (omega arith)) refl)
 
 -- so a value that each replaces ends the same
-pub agree : {A : Type 0} {a b a' b' : Bool} → Winner a b a' b' → (x y z : A) → cond b y (cond a x z) ≡ cond a' x (cond b' y z)
+pub agree : {A : Type 0} {a b a' b' : Bool} → Winner a b a' b' → (x y z : A)
+    → cond b y (cond a x z) ≡ cond a' x (cond b' y z)
 agree (nobody p q r s) x y z = rw (p, q, r, s)
 agree (one p q r) x y z = rw (p, q, r)
 agree (other p q r) x y z = rw (p, q, r)

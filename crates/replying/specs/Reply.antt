@@ -1,55 +1,75 @@
--- What is told of a request, and what it changes in its record.
+-- Trusted. What is told of a request, and what it changes in its record: 01's "The numbers given back", and what an
+-- answer tells in steps 1 to 4.
+--
+--   Reply             all that a call gives back but the tables and the output
+--   refusalReply      the reply of 1 to 5: the number alone
+--   errorReply        the reply of 6 and 7: the number, the offset, and what is told of the response
+--   decidedReply      the reply of 0, 8 and 9, by the decision and by what was seen
+--   CoreAnswer        a reply, the marks after it, and where in the body the list stands that may be kept
+--   decidedAnswer     the answer by a decision
+--   unchangedAnswer   the answer that leaves the record as it is
+--   moved             whether the record takes the packet's pair, and what it owns with it
+--   listReplaced      whether the list is kept
 use Prim.Native.Nat.{ℕ}
-use mathlib.Core.Bool.{false, cond}
-use lib.Dec.{eqb}
-use Rattle.octets.specs.Wire.{notifyPayload}
+use mathlib.Core.Bool.{Bool}
 use Rattle.findings.specs.Seen.{noPlaces}
 use Rattle.findings.specs.declared.seen.Seen.{Seen}
 use Rattle.records.specs.declared.ike.Marks.{Marks}
-use Rattle.deciding.specs.Decide.{effectNumber, verdictNumber, isDone}
+use Rattle.verdict.specs.Verdict.{verdictNumber}
+use Rattle.deciding.specs.Decide.{effectNumber, saysDone}
 use Rattle.deciding.specs.declared.decide.Decision.{Decision}
+use Rattle.deciding.specs.declared.decide.Effect.the-variants.{None}
+use Rattle.responding.specs.Respond.{noResponse}
+use Rattle.responding.specs.declared.respond.Response.{Response}
 use Rattle.replying.specs.declared.reply.Reply.{Reply}
 use Rattle.replying.specs.declared.reply.CoreAnswer.{CoreAnswer}
 
--- 01: "Its first type is 41, or 0 where nothing is written."
-abbrev pub firstOf : ℕ → ℕ
-firstOf n = cond (eqb n 0) 0 notifyPayload
-
--- A refusal gives its number and its offset, and no more; the response is `n` octets long.
-abbrev pub refusalReply : ℕ → ℕ → ℕ → Reply
-refusalReply number offset n =
+-- "6 and 7 tell the payload's offset, other answers 0"; "other numbers: none, none"; the count "is 0 with answers 1 to
+-- 7"; the cookie is "empty ... with answers 1 to 7".
+abbrev pub errorReply : ℕ → ℕ → Response → Reply
+errorReply number offset response =
     record {
       number = number;
-      update = 0;
-      list = 0;
-      first = firstOf n;
+      update = effectNumber None;
+      list = effectNumber None;
+      first = response .first;
       «left_off» = 0;
       payloads = 0;
       offset = offset;
       cookie = 0;
       «cookie_len» = 0;
-      length = n;
+      length = response .length;
     }
 
-abbrev pub decidedReply : Decision → Seen → ℕ → Reply
-decidedReply d s n =
+abbrev pub refusalReply : ℕ → Reply
+refusalReply number = errorReply number 0 noResponse
+
+-- "done; tells update none, applied, stale and list none, replaced, stale"; "the answer tells how many were left off".
+abbrev pub decidedReply : Decision → Seen → Response → Reply
+decidedReply d s response =
     record {
       number = verdictNumber (d .verdict);
       update = effectNumber (d .update);
       list = effectNumber (d .list);
-      first = firstOf n;
+      first = response .first;
       «left_off» = d .«left_off»;
       payloads = s .tally .payloads;
       offset = 0;
       cookie = s .cookie;
       «cookie_len» = s .«cookie_len»;
-      length = n;
+      length = response .length;
     }
 
--- What a decision changes in the record: it moves, and its IPsec records follow, exactly where the update was applied.
-abbrev pub decidedAnswer : Decision → Seen → ℕ → CoreAnswer
-decidedAnswer d s n =
-    record { reply = decidedReply d s n; marks = d .marks; moves = isDone (d .update); relists = isDone (d .list); list = s .list }
+abbrev pub decidedAnswer : Decision → Seen → Response → CoreAnswer
+decidedAnswer d s response = record { reply = decidedReply d s response; marks = d .marks; list = s .list }
 
 abbrev pub unchangedAnswer : Reply → Marks → CoreAnswer
-unchangedAnswer reply m = record { reply = reply; marks = m; moves = false; relists = false; list = noPlaces }
+unchangedAnswer reply m = record { reply = reply; marks = m; list = noPlaces }
+
+-- The record moves exactly where the reply says that the update was applied, and has another list exactly where it says
+-- that the list was replaced.
+abbrev pub moved : CoreAnswer → Bool
+moved a = saysDone (a .reply .update)
+
+abbrev pub listReplaced : CoreAnswer → Bool
+listReplaced a = saysDone (a .reply .list)

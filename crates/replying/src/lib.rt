@@ -1,2 +1,3 @@
 // What is told of a request, and what it changes in its record.
+pub mod change;
 pub mod reply;

@@ -1,14 +1,21 @@
 // The reply to a request, and with it what changes in the record that the request means.
 use deciding::decide::Decision;
+use deciding::decide::Effect;
 use deciding::decide::effect_number;
-use deciding::decide::is_done;
-use deciding::decide::verdict_number;
+use deciding::decide::says_done;
 use findings::seen::Places;
 use findings::seen::Seen;
 use findings::seen::nothing_seen;
+use octets::number::Number;
+use octets::number::number_of;
 use records::ike::Marks;
+use responding::respond::Response;
+use responding::respond::no_response;
+use verdict::update::verdict_told;
 ghost use mathlib.Core.Path.{_≡_};
-ghost use Rattle.replying.specs.Reply.{firstOf, refusalReply, decidedReply, decidedAnswer, unchangedAnswer};
+ghost use Rattle.octets.specs.Numbers.{numberOf};
+ghost use Rattle.replying.specs.Reply.{refusalReply, errorReply, decidedReply, decidedAnswer, unchangedAnswer};
+ghost use Rattle.replying.specs.Reply.{moved, listReplaced};
 
 // All that a call gives back but the tables. The cookie is the part of the body at `cookie`.
 #[repr(C)]
@@ -25,77 +32,71 @@ pub struct Reply {
     pub length: u16,
 }
 
-// The reply, and what changes in the record: its marks, its pair if it moves (and its IPsec records follow it), its list if that is
-// replaced, by where the new one stands in the body.
+// The reply, and what changes in the record: its marks; its pair, where the reply says that the update was applied, and
+// its IPsec records follow it; its list, where the reply says that it was replaced, by where it stands in the body.
 pub struct CoreAnswer {
     pub reply: Reply,
     pub marks: Marks,
-    pub moves: bool,
-    pub relists: bool,
     pub list: Places,
 }
 
-// The type of a response's first payload.
-pub fn first_of(length: u16) -> u8
-    ensures { λ r. ⌜ r ≡ firstOf length ⌝ }
-{
-    if length == 0 { 0 } else { 41 }
-}
-
-// A reply that gives a number and an offset, and a response of so many octets.
-pub fn refusal(number: u8, offset: u16, length: u16) -> Reply
-    ensures { λ r. ⌜ r ≡ refusalReply number offset length ⌝ }
+// A reply that gives a number as it is told and an offset, with an error that was written.
+pub fn error_reply(number: u8, offset: u16, response: Response) -> Reply
+    ensures { λ r. ⌜ r ≡ errorReply number offset response ⌝ }
 {
     Reply {
         number,
-        update: 0,
-        list: 0,
-        first: first_of(length),
+        update: effect_number(Effect::None),
+        list: effect_number(Effect::None),
+        first: response.first,
         left_off: 0,
         payloads: 0,
         offset,
         cookie: 0,
         cookie_len: 0,
-        length,
+        length: response.length,
     }
 }
 
-// All that is told of a decision but the tables, with a response of so many octets.
-pub fn reply_to(d: Decision, seen: Seen, length: u16) -> Reply
-    ensures { λ r. ⌜ r ≡ decidedReply d seen length ⌝ }
+// A reply that gives a number and nothing else.
+pub fn refusal(number: Number) -> Reply
+    ensures { λ r. ⌜ r ≡ refusalReply (numberOf number) ⌝ }
+{
+    error_reply(number_of(number), 0, no_response())
+}
+
+// All that is told of a decision but the tables.
+pub fn reply_to(d: Decision, seen: Seen, response: Response) -> Reply
+    ensures { λ r. ⌜ r ≡ decidedReply d seen response ⌝ }
 {
     let t = seen.tally;
     let verdict = d.verdict;
     let update = d.update;
     let list = d.list;
     Reply {
-        number: verdict_number(verdict),
+        number: number_of(verdict_told(verdict)),
         update: effect_number(update),
         list: effect_number(list),
-        first: first_of(length),
+        first: response.first,
         left_off: d.left_off,
         payloads: t.payloads,
         offset: 0,
         cookie: seen.cookie,
         cookie_len: seen.cookie_len,
-        length,
+        length: response.length,
     }
 }
 
-// The reply to a decision, and what it changes in the record: it moves exactly where the update was applied.
-pub fn answer_to(d: Decision, seen: Seen, length: u16) -> CoreAnswer
-    ensures { λ r. ⌜ r ≡ decidedAnswer d seen length ⌝ }
+// The reply to a decision, and what it changes in the record.
+pub fn answer_to(d: Decision, seen: Seen, response: Response) -> CoreAnswer
+    ensures { λ r. ⌜ r ≡ decidedAnswer d seen response ⌝ }
 {
     let marks = d.marks;
-    let update = d.update;
-    let list = d.list;
-    let places = seen.list;
+    let list = seen.list;
     CoreAnswer {
-        reply: reply_to(d, seen, length),
+        reply: reply_to(d, seen, response),
         marks,
-        moves: is_done(update),
-        relists: is_done(list),
-        list: places,
+        list,
     }
 }
 
@@ -105,11 +106,21 @@ pub fn unchanged(reply: Reply, marks: Marks) -> CoreAnswer
 {
     let none = nothing_seen();
     let list = none.list;
-    CoreAnswer {
-        reply,
-        marks,
-        moves: false,
-        relists: false,
-        list,
-    }
+    CoreAnswer { reply, marks, list }
+}
+
+// Whether the record moves, and what it owns follows.
+pub fn moves(a: CoreAnswer) -> bool
+    ensures { λ r. ⌜ r ≡ moved a ⌝ }
+{
+    let reply = a.reply;
+    says_done(reply.update)
+}
+
+// Whether the record has another list.
+pub fn replaces_list(a: CoreAnswer) -> bool
+    ensures { λ r. ⌜ r ≡ listReplaced a ⌝ }
+{
+    let reply = a.reply;
+    says_done(reply.list)
 }

@@ -1,2 +1,4 @@
 -- Laws that belong to no one function.
+pub mod Ways
 pub mod Whole
+pub mod Longest

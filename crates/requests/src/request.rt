@@ -1,9 +1,13 @@
 // The request writer: the notifications that are asked for, in one fixed order, as a payload chain.
-use address::address::width_of;
 use address::pair::Pair;
 use asking::ask::Ask;
 use asking::fits::request_fits;
-use payload::notify::NotifyType;
+use notify::notify::NotifyType;
+use octets::limits::ADDRESS_OCTETS;
+use octets::limits::ADDRESSES_MOST;
+use octets::limits::REQUEST_ROOM;
+use octets::number::Number;
+use octets::number::number_of;
 use putting::put::put_if;
 use putting::put::put_nats;
 use putting::put::put_no_nats;
@@ -14,9 +18,12 @@ ghost use mathlib.Core.Path.{_≡_};
 ghost use mathlib.Core.Bool.{true};
 ghost use Prim.Native.Nat.{_≤_};
 ghost use lib.ListN.{length};
+ghost use Rattle.octets.specs.Limits.{requestRoom};
+ghost use Rattle.octets.specs.Numbers.{numberOf};
 ghost use Rattle.writing.specs.Notify.{placed};
-ghost use Rattle.asking.specs.Request.{request, requestFits, requestOctets};
-ghost use Rattle.requests.specs.Written.{complete, notWritten, written, writtenOctets};
+ghost use Rattle.asking.specs.Draft.{draft, requestOctets};
+ghost use Rattle.asking.specs.Fits.{requestFits};
+ghost use Rattle.requests.specs.Written.{complete, notWritten, WrittenAs};
 
 // The number, the type of the first payload (0: none) and the octets written.
 #[repr(C)]
@@ -30,16 +37,23 @@ pub struct Written {
 pub fn put_request(
     ask: Ask,
     pair: Pair,
-    families: [u8; 16],
-    octets: [[u8; 16]; 16],
-    source: &[u8],
-    destination: &[u8],
+    families: [u8; ADDRESSES_MOST],
+    addresses: [[u8; ADDRESS_OCTETS]; ADDRESSES_MOST],
+    nat_source: &[u8],
+    nat_destination: &[u8],
     cookie: &[u8],
     out: &mut [u8],
 ) -> Written
-    requires { ⌜ (564 ≤ length (now out)) × (requestFits (request ask pair families octets (now source) (now destination) (now cookie)) ≡ true) ⌝ }
-    ensures { λ r. ⌜ r ≡ complete (request ask pair families octets (now (source .entry)) (now (destination .entry)) (now (cookie .entry))) ⌝ }
-    ensures { λ _. ⌜ now (out .exit) ≡ placed (now (out .entry)) 0 (requestOctets (request ask pair families octets (now (source .entry)) (now (destination .entry)) (now (cookie .entry)))) ⌝ }
+    requires { ⌜ (
+        let q = draft ask pair families addresses (now «nat_source») (now «nat_destination») (now cookie) in
+        (requestRoom ≤ length (now out)) × (requestFits q ≡ true)
+        ) ⌝ }
+    ensures { λ r. ⌜ (
+        let nat-source = now («nat_source» .entry) in
+        let nat-destination = now («nat_destination» .entry) in
+        let q = draft ask pair families addresses nat-source nat-destination (now (cookie .entry)) in
+        (r ≡ complete q) × (now (out .exit) ≡ placed (now (out .entry)) 0 (requestOctets q))
+        ) ⌝ }
 {
     let none = [0u8; 0];
     let count = ask.count as usize;
@@ -54,69 +68,76 @@ pub fn put_request(
         NotifyType::UPDATE_SA_ADDRESSES,
         &none,
     );
-    let width = width_of(pair.family) as usize;
-    let from = pair.source;
-    let to = pair.destination;
-    let b = put_no_nats(
+    let b = put_no_nats(out, a, ask.no_nats, to_nats, pair);
+    let c = put_nats(out, b, ask.nat_source, to_tail, nat_source, nat_destination);
+    let end = put_tail(
         out,
-        a,
-        ask.no_nats,
-        to_nats,
-        width,
-        from,
-        to,
-        pair.source_port,
-        pair.destination_port,
+        c,
+        ask.no_additional,
+        count,
+        families,
+        addresses,
+        cookie,
     );
-    let c = put_nats(out, b, ask.nat_source, to_tail, source, destination);
-    let end = put_tail(out, c, ask.no_additional, count, families, octets, cookie);
     Written {
-        number: 0,
+        number: number_of(Number::Done),
         first: type_if(ask.update, to_no_nats),
         length: end as u16,
     }
 }
 
-pub fn not_written(number: u8) -> Written
-    ensures { λ r. ⌜ r ≡ notWritten number ⌝ }
+pub fn not_written(number: Number) -> Written
+    ensures { λ r. ⌜ r ≡ notWritten (numberOf number) ⌝ }
 {
     Written {
-        number,
+        number: number_of(number),
         first: 0,
         length: 0,
     }
 }
 
-// Writes a request to the start of `out`, and leaves the octets past it as they are. The longest request has 564 octets and 21
-// Notify payloads; a peer may refuse that many (strongSwan 5.9.8 refuses a message with more than 20, and destroys the SA), so ask
-// for less at once where the peer isn't known.
+// Writes a request to the start of `out`, and leaves the octets past it as they are. The longest request has 564
+// octets and 21 Notify payloads; a peer may refuse that many (strongSwan 5.9.8 refuses a message with more than 20,
+// and destroys the SA), so ask for less at once where the peer isn't known.
 pub fn write(
     ask: Ask,
     pair: Pair,
-    families: [u8; 16],
-    octets: [[u8; 16]; 16],
-    source: &[u8],
-    destination: &[u8],
+    families: [u8; ADDRESSES_MOST],
+    addresses: [[u8; ADDRESS_OCTETS]; ADDRESSES_MOST],
+    nat_source: &[u8],
+    nat_destination: &[u8],
     cookie: &[u8],
     out: &mut [u8],
 ) -> Written
-    ensures { λ r. ⌜ r ≡ written (request ask pair families octets (now (source .entry)) (now (destination .entry)) (now (cookie .entry))) (length (now (out .entry))) ⌝ }
-    ensures { λ _. ⌜ now (out .exit) ≡ placed (now (out .entry)) 0 (writtenOctets (request ask pair families octets (now (source .entry)) (now (destination .entry)) (now (cookie .entry))) (length (now (out .entry)))) ⌝ }
+    ensures { λ r. ⌜ (
+        let nat-source = now («nat_source» .entry) in
+        let nat-destination = now («nat_destination» .entry) in
+        let q = draft ask pair families addresses nat-source nat-destination (now (cookie .entry)) in
+        WrittenAs q (now (out .entry)) r (now (out .exit))
+        ) ⌝ }
 {
-    if request_fits(ask, pair, families, octets, source, destination, cookie) {
-        if out.len() < 564 {
-            return not_written(2);
+    if request_fits(
+        ask,
+        pair,
+        families,
+        addresses,
+        nat_source,
+        nat_destination,
+        cookie,
+    ) {
+        if out.len() < REQUEST_ROOM {
+            return not_written(Number::OutputTooShort);
         }
         return put_request(
             ask,
             pair,
             families,
-            octets,
-            source,
-            destination,
+            addresses,
+            nat_source,
+            nat_destination,
             cookie,
             out,
         );
     }
-    not_written(1)
+    not_written(Number::BadArgument)
 }

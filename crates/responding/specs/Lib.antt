@@ -1,1 +1,3 @@
 pub mod Respond
+pub mod Put
+pub mod Longest

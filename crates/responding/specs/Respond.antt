@@ -1,40 +1,46 @@
--- The response payloads: 01's "One request, step by step", step 4, and the column "Response" of its table of numbers.
+-- Trusted. The response as a list of notifications: 01's "One request, step by step", step 4, and the column "Response"
+-- of its table of numbers.
+--
+--   wantsNats    whether the request had both NAT detection kinds
+--   errorThen    an error with its data, then the cookie
+--   responseTo   the response to a request that was decided, by the verdict on it
+--   Response     what is told of a response: the type of its first payload, and how many octets it has
+--   toldOf       the same, of a list of notifications
+--   noResponse   the same, where nothing is written
 use Prim.Native.Nat.{ℕ}
-use mathlib.Core.List.{List, [], _++_}
+use mathlib.Core.List.{List, [], _∷_, _++_}
 use mathlib.Core.Bool.{Bool, cond, _&&_, not}
 use lib.Dec.{eqb}
 use lib.ListN.{length}
-use Rattle.octets.specs.Wire.{cookie2, natDetectionDestinationIp, natDetectionSourceIp, notifyPayload, unacceptableAddresses, unexpectedNatDetected}
-use Rattle.writing.specs.Notify.{notifyOctets}
+use Rattle.octets.specs.Wire.{unacceptableAddresses, unexpectedNatDetected}
+use Rattle.writing.specs.Notify.{Notification, notification, firstType, chained}
+use Rattle.writing.specs.Parts.{natNotifies, cookieNotifies}
 use Rattle.findings.specs.declared.seen.Seen.{Seen}
-use Rattle.deciding.specs.declared.decide.Verdict.{Verdict}
-use Rattle.deciding.specs.declared.decide.Verdict.the-variants.{Accepted, Altered, Unacceptable}
-
-abbrev pub nextFor : List ℕ → ℕ
-nextFor cookie = cond (eqb (length cookie) 0) 0 notifyPayload
-
--- "then COOKIE2 unchanged": its data under a header of its own, since next type and flags are written anew.
-unfoldable pub cookieNotify : List ℕ → List ℕ
-cookieNotify cookie = cond (eqb (length cookie) 0) [] (notifyOctets 0 cookie2 cookie)
-
--- "for 8 and 9 the error, then COOKIE2 if the request had it"; "Answers 6 and 7 copy no COOKIE2."
-unfoldable pub errorResponse : ℕ → List ℕ → List ℕ → List ℕ
-errorResponse number octets cookie = notifyOctets (nextFor cookie) number octets ++ cookieNotify cookie
-
--- "Otherwise, for a request with ... both NAT detection kinds, the two lent values, source first; then COOKIE2 unchanged."; E2 leaves out the
--- update that stood between.
-unfoldable pub doneResponse : Bool → List ℕ → List ℕ → List ℕ → List ℕ
-doneResponse wanted source destination cookie =
-    cond wanted
-    (notifyOctets notifyPayload natDetectionSourceIp source ++ (notifyOctets (nextFor cookie) natDetectionDestinationIp destination ++ cookieNotify cookie))
-    (cookieNotify cookie)
+use Rattle.verdict.specs.declared.update.Verdict.{Verdict}
+use Rattle.verdict.specs.declared.update.Verdict.the-variants.{Accepted, Altered, Unacceptable}
+use Rattle.responding.specs.declared.respond.Response.{Response}
 
 -- 01: "both NAT detection kinds"; E2: they are answered "in any INFORMATIONAL request", with an update or without.
 abbrev pub wantsNats : Seen → Bool
 wantsNats s = not (eqb (s .«nat_source») 0) && not (eqb (s .«nat_destination») 0)
 
--- 01, step 4: "UNEXPECTED_NAT_DETECTED (41)" for 8, "UNACCEPTABLE_ADDRESSES (40)" for 9, each with the cookie; else the done response.
-abbrev pub decidedOctets : Verdict → Bool → List ℕ → List ℕ → List ℕ → List ℕ
-decidedOctets Accepted wanted source destination cookie = doneResponse wanted source destination cookie
-decidedOctets Altered wanted source destination cookie = errorResponse unexpectedNatDetected [] cookie
-decidedOctets Unacceptable wanted source destination cookie = errorResponse unacceptableAddresses [] cookie
+-- "for 8 and 9 the error, then COOKIE2 if the request had it"; 6 and 7 have no cookie here: they "copy no COOKIE2".
+abbrev pub errorThen : ℕ → List ℕ → List ℕ → List Notification
+errorThen notifyType octets cookie = notification notifyType octets ∷ cookieNotifies cookie
+
+-- "UNEXPECTED_NAT_DETECTED (41)" for 8, "UNACCEPTABLE_ADDRESSES (40)" for 9. "Otherwise, for a request with ... both
+-- NAT detection kinds, the two lent values, source first; then COOKIE2 unchanged."; E2 leaves out the update that stood
+-- between.
+abbrev pub responseTo : Verdict → Bool → List ℕ → List ℕ → List ℕ → List Notification
+responseTo Accepted wanted nat-source nat-destination cookie =
+    cond wanted (natNotifies nat-source nat-destination) [] ++ cookieNotifies cookie
+responseTo Altered wanted nat-source nat-destination cookie = errorThen unexpectedNatDetected [] cookie
+responseTo Unacceptable wanted nat-source nat-destination cookie = errorThen unacceptableAddresses [] cookie
+
+-- "Its first type is 41, or 0 where nothing is written."
+abbrev pub toldOf : List Notification → Response
+toldOf xs = record { first = firstType xs 0; length = length (chained xs 0) }
+
+-- "None" "reports length 0"
+abbrev pub noResponse : Response
+noResponse = record { first = 0; length = 0 }

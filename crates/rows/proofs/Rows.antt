@@ -2,19 +2,23 @@
 use mathlib.Core.Path.{_≡_, refl}
 use mathlib.Core.Bool.{true}
 use Rattle.octets.specs.Lists.{all}
-use Rattle.payload.specs.Notify.{kindOf}
+use Rattle.notify.specs.Notify.{kindOf}
 use Rattle.payload.specs.Payload.{notifyAt, sized, payloadAt}
 use Rattle.findings.specs.Seen.{noted, contentNoted}
 use Rattle.reader.specs.Chain.{chain, chainAt, scanned, reading}
-use Rattle.policy.specs.Prefix.{prefixMatches}
+use Rattle.prefix.specs.Prefix.{prefixMatches}
 use Rattle.policy.specs.Policy.{ruleMatches, acceptable}
-use Rattle.writing.specs.Notify.{notifyOctets}
-use Rattle.deciding.specs.Decide.{unaltered, verdict, listDecided, updateDecided, decided}
-use Rattle.responding.specs.Respond.{cookieNotify, errorResponse, doneResponse}
-use Rattle.answering.specs.Core.{chainError, coreResponse, coreAnswer, changedBy}
-use Rattle.responder.specs.Handle.{recordNumber, checkedNumber, handled, handledResponse}
+use Rattle.writing.specs.Notify.{notifyOctets, chained}
+use Rattle.verdict.specs.Verdict.{unaltered, verdict}
+use Rattle.deciding.specs.Decide.{listDecided, updateDecided, decided}
+use Rattle.answering.specs.Core.{chainError, coreResponse, coreAnswer}
+use Rattle.replying.specs.Change.{changedBy}
+use Rattle.checking.specs.Checks.{earlyNumberBy}
+use Rattle.responder.specs.Handle.{handled, handledResponse}
 use Rattle.rows.specs.Rows.{rowHolds, rows}
 
 pub rows-hold : all rowHolds rows ≡ true
-unfolding rowHolds kindOf notifyAt sized payloadAt noted contentNoted chain chainAt scanned reading prefixMatches ruleMatches acceptable notifyOctets unaltered verdict listDecided updateDecided decided cookieNotify errorResponse doneResponse chainError coreResponse coreAnswer changedBy recordNumber checkedNumber handled handledResponse
+unfolding rowHolds kindOf notifyAt sized payloadAt noted contentNoted chain chainAt scanned reading prefixMatches
+    ruleMatches acceptable notifyOctets unaltered verdict listDecided updateDecided decided chained chainError
+    coreResponse coreAnswer changedBy earlyNumberBy handled handledResponse
 rows-hold = refl

@@ -1,9 +1,18 @@
--- 01's rows a to j, and its two whole octet strings, as one table of requests with what each must give.
-use Prim.Native.Nat.{ℕ, _+_}
+-- Trusted. 01's rows a to j, and its two whole octet strings, as one table of requests with what each must give
+-- ("The rows a to j form a single table, checked by one theorem about the definitions").
+--   Given, Result, Row      what is given, what must come of it, and both
+--   rowHolds                whether the definitions give that
+--   a to j, whole           the rows by their letters, and "Row c with a cookie, whole"
+--   rows                    the table
+use Prim.Native.Nat.{ℕ, _+_, _-_}
 use mathlib.Core.List.{List, [], _∷_, _++_}
 use mathlib.Core.Bool.{Bool, true, false, _&&_}
 use lib.Dec.{eqb}
 use lib.ListN.{length, getD, replicate}
+use Rattle.octets.specs.declared.number.Number.the-variants as told
+use Rattle.octets.specs.Limits.{addressOctets, ipsecPlaces, natOctets, notifyHeader, responseRoom, rulesMost}
+use Rattle.octets.specs.Numbers.{numberOf}
+use Rattle.octets.specs.Wire.{notifyPayload}
 use Rattle.octets.specs.Octets.{padded}
 use Rattle.address.specs.declared.pair.Pair.{Pair}
 use Rattle.policy.specs.Policy.{noRule}
@@ -12,8 +21,13 @@ use Rattle.policy.specs.declared.rules.Policy.{Policy}
 use Rattle.records.specs.Records.{newIke, noIke, noIpsec, remarked}
 use Rattle.records.specs.declared.ike.Agreed.{Agreed}
 use Rattle.records.specs.declared.ike.IkeRecord.{IkeRecord}
+use Rattle.records.specs.declared.ike.Marks.{Marks}
+use Rattle.deciding.specs.Decide.{effectNumber}
+use Rattle.deciding.specs.declared.decide.Effect.{Effect}
+use Rattle.deciding.specs.declared.decide.Effect.the-variants.{None, Done, Stale}
 use Rattle.answering.specs.Core.{asked}
-use Rattle.responder.specs.Handle.{Request, request, handled, handledResponse}
+use Rattle.checking.specs.Checks.{Request, requestOf}
+use Rattle.responder.specs.Handle.{handled, handledResponse}
 
 abbrev sameList : List ℕ → List ℕ → Bool
 sameList [] [] = true
@@ -23,16 +37,31 @@ sameList (x ∷ xs) (y ∷ ys) = eqb x y && sameList xs ys
 
 -- a packet's pair, and a policy that accepts every IPv4 pair, or none
 abbrev pair : Pair
-pair = record { family = 4; source = padded (10 ∷ 0 ∷ 0 ∷ 1 ∷ []); destination = padded (10 ∷ 0 ∷ 0 ∷ 2 ∷ []); «source_port» = 4500; «destination_port» = 4500 }
+pair =
+    record {
+      family = 4;
+      source = padded (10 ∷ 0 ∷ 0 ∷ 1 ∷ []);
+      destination = padded (10 ∷ 0 ∷ 0 ∷ 2 ∷ []);
+      «source_port» = 4500;
+      «destination_port» = 4500;
+    }
 
 abbrev every : Rule
-every = record { family = 4; source = replicate 16 0; destination = replicate 16 0; «source_len» = 0; «destination_len» = 0 }
+every =
+    record {
+      family = 4;
+      source = replicate addressOctets 0;
+      destination = replicate addressOctets 0;
+      «source_len» = 0;
+      «destination_len» = 0;
+    }
 
 abbrev policyOf : Bool → Policy
-policyOf true = record { count = 1; rules = every ∷ replicate 15 noRule }
-policyOf false = record { count = 0; rules = replicate 16 noRule }
+policyOf true = record { count = 1; rules = every ∷ replicate (rulesMost - 1) noRule }
+policyOf false = record { count = 0; rules = replicate rulesMost noRule }
 
--- What is given: the chain, the ID, the record's update mark as it is kept (0 for none), whether the pair is acceptable.
+-- What is given: the chain, the ID, the record's update mark as it is kept (0 for none), whether the pair is
+-- acceptable.
 pub record Given : Type 0 where
   pub first : ℕ
   pub body : List ℕ
@@ -40,8 +69,8 @@ pub record Given : Type 0 where
   pub mark : ℕ
   pub accepted : Bool
 
--- What must come of it: of the reply the number, the offset, the payloads and what became of the update (0 none, 1 applied, 2 stale);
--- the record's tally; the response.
+-- What must come of it: of the reply the number, the offset, the payloads and what became of the update (none, applied
+-- or stale); the record's tally; the response.
 pub record Result : Type 0 where
   pub number : ℕ
   pub offset : ℕ
@@ -59,17 +88,23 @@ agreed = record { mobike = 1 }
 
 -- a record of SPI 7 for which MOBIKE was agreed, with this mark
 abbrev recordWith : ℕ → IkeRecord
-recordWith mark = remarked (record { agreed = agreed; «update_mark» = mark; «list_mark» = 0; unknown = 0 }) false pair (newIke 7 agreed pair)
+recordWith mark =
+    let marks : Marks = record { agreed = agreed; «update_mark» = mark; «list_mark» = 0; unknown = 0 } in
+    remarked marks false pair (newIke 7 agreed pair)
 
 abbrev asksFor : Given → Request
-asksFor g = request 7 (asked (g .id) pair (replicate 20 1) (replicate 20 2) (g .first) (g .body)) 128
+asksFor g =
+    let asks = asked (g .id) pair (replicate natOctets 1) (replicate natOctets 2) (g .first) (g .body) in
+    requestOf 7 asks responseRoom
 
 unfoldable pub rowHolds : Row → Bool
 rowHolds r =
     let g = r .given in
     let must = r .result in
-    let h = handled (policyOf (g .accepted)) (recordWith (g .mark) ∷ []) (replicate 128 noIpsec) (asksFor g) in
-    let octets = handledResponse (policyOf (g .accepted)) (recordWith (g .mark) ∷ []) (replicate 128 noIpsec) (asksFor g) in
+    let ike = recordWith (g .mark) ∷ [] in
+    let ipsec = replicate ipsecPlaces noIpsec in
+    let h = handled (policyOf (g .accepted)) ike ipsec (asksFor g) in
+    let octets = handledResponse (policyOf (g .accepted)) ike ipsec (asksFor g) in
     eqb (h .reply .number) (must .number)
     && (eqb (h .reply .offset) (must .offset)
     && (eqb (h .reply .payloads) (must .payloads)
@@ -83,7 +118,7 @@ update = 0 ∷ 0 ∷ 0 ∷ 8 ∷ 0 ∷ 0 ∷ 0x40 ∷ 0x10 ∷ []
 
 -- a COOKIE2 of n octets as the only payload
 abbrev cookie : ℕ → List ℕ
-cookie n = 0 ∷ 0 ∷ 0 ∷ (8 + n) ∷ 0 ∷ 0 ∷ 0x40 ∷ 0x11 ∷ replicate n 9
+cookie n = 0 ∷ 0 ∷ 0 ∷ (notifyHeader + n) ∷ 0 ∷ 0 ∷ 0x40 ∷ 0x11 ∷ replicate n 9
 
 abbrev invalidSyntax : List ℕ
 invalidSyntax = 0 ∷ 0 ∷ 0 ∷ 8 ∷ 0 ∷ 0 ∷ 0 ∷ 7 ∷ []
@@ -95,43 +130,79 @@ eight = 1 ∷ 2 ∷ 3 ∷ 4 ∷ 5 ∷ 6 ∷ 7 ∷ 8 ∷ []
 abbrev chain : ℕ → List ℕ → Given
 chain first body = record { first = first; body = body; id = 0; mark = 0; accepted = true }
 
--- done with so many payloads, and nothing else; malformed at an offset
-abbrev done : ℕ → Result
-done payloads = record { number = 0; offset = 0; payloads = payloads; update = 0; tally = 0; response = [] }
+-- done with so many payloads, and what became of the update; malformed at an offset
+abbrev done : ℕ → Effect → Result
+done payloads update =
+    record {
+      number = numberOf told.Done;
+      offset = 0;
+      payloads = payloads;
+      update = effectNumber update;
+      tally = 0;
+      response = [];
+    }
 
 abbrev malformedAt : ℕ → Result
-malformedAt offset = record { number = 6; offset = offset; payloads = 0; update = 0; tally = 0; response = invalidSyntax }
+malformedAt offset =
+    record {
+      number = numberOf told.Malformed;
+      offset = offset;
+      payloads = 0;
+      update = effectNumber None;
+      tally = 0;
+      response = invalidSyntax;
+    }
 
 -- "type 0, no body": "0, empty response, 0 payloads"
 abbrev a : Row
-a = record { given = chain 0 []; result = done 0 }
+a = record { given = chain 0 []; result = done 0 None }
 
 -- "type 41, no body": "6 at 0"
 abbrev b : Row
-b = record { given = chain 41 []; result = malformedAt 0 }
+b = record { given = chain notifyPayload []; result = malformedAt 0 }
 
 -- "type 41, `00 00 00 08 00 00 40 10`": "one update"
 abbrev c : Row
-c = record { given = chain 41 update; result = record { number = 0; offset = 0; payloads = 1; update = 1; tally = 0; response = [] } }
+c = record { given = chain notifyPayload update; result = done 1 Done }
 
 -- "as c, then `FF`": "6 at 8"
 abbrev d : Row
-d = record { given = chain 41 (update ++ (0xFF ∷ [])); result = malformedAt 8 }
+d = record { given = chain notifyPayload (update ++ (0xFF ∷ [])); result = malformedAt 8 }
 
 -- "COOKIE2 of 7 octets": "6"
 abbrev e : Row
-e = record { given = chain 41 (cookie 7); result = malformedAt 0 }
+e = record { given = chain notifyPayload (cookie 7); result = malformedAt 0 }
 
 -- "COOKIE2 of 64 octets": "copied"
 abbrev f : Row
-f = record { given = chain 41 (cookie 64); result = record { number = 0; offset = 0; payloads = 1; update = 0; tally = 0; response = cookie 64 } }
+f =
+    record {
+      given = chain notifyPayload (cookie 64);
+      result =
+          record {
+            number = numberOf told.Done;
+            offset = 0;
+            payloads = 1;
+            update = effectNumber None;
+            tally = 0;
+            response = cookie 64;
+          };
+    }
 
 -- "type 200 critical, `00 80 00 04`": "7 at 0"
 abbrev g : Row
 g =
     record {
       given = chain 200 (0 ∷ 0x80 ∷ 0 ∷ 4 ∷ []);
-      result = record { number = 7; offset = 0; payloads = 0; update = 0; tally = 0; response = 0 ∷ 0 ∷ 0 ∷ 9 ∷ 0 ∷ 0 ∷ 0 ∷ 1 ∷ 200 ∷ [] };
+      result =
+          record {
+            number = numberOf told.UnknownCritical;
+            offset = 0;
+            payloads = 0;
+            update = effectNumber None;
+            tally = 0;
+            response = 0 ∷ 0 ∷ 0 ∷ 9 ∷ 0 ∷ 0 ∷ 0 ∷ 1 ∷ 200 ∷ [];
+          };
     }
 
 -- "type 200, `00 00 00 04`": "0, tally 1"
@@ -139,23 +210,31 @@ abbrev h : Row
 h =
     record {
       given = chain 200 (0 ∷ 0 ∷ 0 ∷ 4 ∷ []);
-      result = record { number = 0; offset = 0; payloads = 1; update = 0; tally = 1; response = [] };
+      result =
+          record {
+            number = numberOf told.Done;
+            offset = 0;
+            payloads = 1;
+            update = effectNumber None;
+            tally = 1;
+            response = [];
+          };
     }
 
 -- "update, ID 0, mark none, acceptable": "applied"
 abbrev i : Row
 i =
     record {
-      given = record { first = 41; body = update; id = 0; mark = 0; accepted = true };
-      result = record { number = 0; offset = 0; payloads = 1; update = 1; tally = 0; response = [] };
+      given = record { first = notifyPayload; body = update; id = 0; mark = 0; accepted = true };
+      result = done 1 Done;
     }
 
 -- "update, ID 5, mark 5": "stale"; a mark of 5 is kept as 6, the least ID that exceeds it
 abbrev j : Row
 j =
     record {
-      given = record { first = 41; body = update; id = 5; mark = 6; accepted = true };
-      result = record { number = 0; offset = 0; payloads = 1; update = 2; tally = 0; response = [] };
+      given = record { first = notifyPayload; body = update; id = 5; mark = 6; accepted = true };
+      result = done 1 Stale;
     }
 
 -- "Row c with a cookie, whole", and "The response if unacceptable"
@@ -164,7 +243,7 @@ whole =
     record {
       given =
           record {
-            first = 41;
+            first = notifyPayload;
             body = 0x29 ∷ 0 ∷ 0 ∷ 8 ∷ 0 ∷ 0 ∷ 0x40 ∷ 0x10 ∷ 0 ∷ 0 ∷ 0 ∷ 0x10 ∷ 0 ∷ 0 ∷ 0x40 ∷ 0x11 ∷ eight;
             id = 0;
             mark = 0;
@@ -172,10 +251,10 @@ whole =
           };
       result =
           record {
-            number = 9;
+            number = numberOf told.NotAcceptable;
             offset = 0;
             payloads = 2;
-            update = 0;
+            update = effectNumber None;
             tally = 0;
             response = 0x29 ∷ 0 ∷ 0 ∷ 8 ∷ 0 ∷ 0 ∷ 0 ∷ 0x28 ∷ 0 ∷ 0 ∷ 0 ∷ 0x10 ∷ 0 ∷ 0 ∷ 0x40 ∷ 0x11 ∷ eight;
           };

@@ -12,7 +12,9 @@ use Rattle.octets.specs.Checks.{firstFailed}
 use Rattle.octets.proofs.Checks.{all-passed}
 use Rattle.octets.proofs.Small.{both, neither}
 use Rattle.records.specs.Records.{ikeSpi, ipsecSpi, noIke, newIpsec, noIpsec, released}
-use Rattle.tables.specs.Calls.{ipsecAnswer, tablesAnswer, hasIke, hasIpsec, listFits, openingChecks, addingChecks, closingChecks, openBoth, openIpsec, closeIke, closeIpsec}
+use Rattle.tables.specs.Calls.{ipsecAnswer, tablesAnswer, hasIke, hasIpsec, listFits}
+use Rattle.tables.specs.Calls.{openingChecks, addingChecks, closingChecks}
+use Rattle.tables.specs.Calls.{openBoth, openIpsec, closeIke, closeIpsec}
 use Rattle.tables.specs.Opened.{BothOpened, NeitherOpened, BothOrNeither}
 use Rattle.records.specs.declared.ike.IkeRecord.{IkeRecord}
 use Rattle.records.specs.declared.ipsec.IpsecRecord.{IpsecRecord}
@@ -49,7 +51,9 @@ module _ (ike : List IkeRecord) (ipsec : List IpsecRecord) (spi owner : ℕ) whe
     pub new : length ipsec ≤ placeOf ipsecSpi spi ipsec
     pub room : placeOf ipsecSpi 0 ipsec < length ipsec
     pub is : openIpsec ike ipsec spi owner
-        ≡ ipsecAnswer 0 (set ipsec (placeOf ipsecSpi 0 ipsec) (newIpsec spi owner (getD ike (placeOf ikeSpi owner ike) noIke .pair)))
+        ≡ ipsecAnswer 0
+        (set ipsec (placeOf ipsecSpi 0 ipsec) (newIpsec spi owner
+        (getD ike (placeOf ikeSpi owner ike) noIke .pair)))
 
   pub open-ipsec-cases : (openIpsec ike ipsec spi owner .ipsec ≡ ipsec) ⊎ IpsecOpened
   unfolding openIpsec
@@ -85,11 +89,16 @@ module _ (ike : List IkeRecord) (ipsec : List IpsecRecord) (spi : ℕ) where
       number : ℕ
       number = firstFailed (closingChecks ipsec spi (hasIke spi ike))
 
-      go : (b : Bool) → eqb number 0 ≡ b → ((closeIke ike ipsec spi .ike ≡ ike) × (closeIke ike ipsec spi .ipsec ≡ ipsec)) ⊎ IkeClosed
+      go : (b : Bool) → eqb number 0 ≡ b
+          → ((closeIke ike ipsec spi .ike ≡ ike) × (closeIke ike ipsec spi .ipsec ≡ ipsec)) ⊎ IkeClosed
       go false e = inl (rw e, rw e)
       go true e =
           let p = all-passed (closingChecks ipsec spi (hasIke spi ike)) refl (eqb-true number 0 e) in
-          inr (record { named = eqb-false spi 0 (neither (not (listFits ipsec)) (eqb spi 0) (p .0) .1); there = ltb-true _ _ (not-false _ (p .1 .0)); is = rw e })
+          inr (record {
+            named = eqb-false spi 0 (neither (not (listFits ipsec)) (eqb spi 0) (p .0) .1);
+            there = ltb-true _ _ (not-false _ (p .1 .0));
+            is = rw e;
+          })
 
 module _ (ipsec : List IpsecRecord) (spi : ℕ) where
   pub record IpsecClosed : Type 0 where
@@ -108,4 +117,8 @@ module _ (ipsec : List IpsecRecord) (spi : ℕ) where
       go false e = inl (rw e)
       go true e =
           let p = all-passed (closingChecks ipsec spi (hasIpsec spi ipsec)) refl (eqb-true number 0 e) in
-          inr (record { named = eqb-false spi 0 (neither (not (listFits ipsec)) (eqb spi 0) (p .0) .1); there = ltb-true _ _ (not-false _ (p .1 .0)); is = rw e })
+          inr (record {
+            named = eqb-false spi 0 (neither (not (listFits ipsec)) (eqb spi 0) (p .0) .1);
+            there = ltb-true _ _ (not-false _ (p .1 .0));
+            is = rw e;
+          })

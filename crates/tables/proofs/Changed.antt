@@ -1,18 +1,22 @@
--- Each table call is a change: the number that is told, and a record stored at a place, past the end where nothing is stored.
+-- Each table call is a change: the number that is told, and a record stored at a place, past the end where nothing is
+-- stored.
 use Prim.Native.Nat.{ℕ}
 use mathlib.Core.Path.{_≡_, refl}
 use mathlib.Core.List.{List, map}
-use mathlib.Core.Bool.{Bool, true, false, cond, _||_, not}
+use mathlib.Core.Bool.{Bool, true, false, cond}
 use native.Mathlib.Omega.{arith}
 use borrow.Author.Tests.{eqb-true}
 use lib.Dec.{eqb, ltb}
 use lib.ListN.{length, getD, set}
 use lib.Seq.{set-out}
+use Rattle.octets.specs.Limits.{ikePlaces}
 use Rattle.octets.specs.Lists.{placeOf}
 use Rattle.records.specs.Records.{ikeSpi, ipsecSpi, noIke, newIpsec, noIpsec, released}
 use Rattle.tables.specs.Opening.{ikeOf, childOf}
-use Rattle.tables.specs.Calls.{ipsecAnswer, tablesAnswer, hasIpsec, openingFits, openBoth, openIpsec, closeIke, closeIpsec}
-use Rattle.tables.specs.Changes.{openingNumber, closingNumber, bothNumber, bothOpening, ipsecOpening, ikeClosing, ipsecClosing}
+use Rattle.tables.specs.Calls.{TablesAnswer, ipsecAnswer, tablesAnswer, hasIpsec, openingFits}
+use Rattle.tables.specs.Calls.{openBoth, openIpsec, closeIke, closeIpsec}
+use Rattle.tables.specs.Changes.{badList, badAdding, addingNumber, closingNumber, bothNumber}
+use Rattle.tables.specs.Changes.{bothOpening, ipsecOpening, ikeClosing, ipsecClosing}
 use Rattle.tables.specs.declared.calls.Opening.{Opening}
 use Rattle.records.specs.declared.ike.IkeRecord.{IkeRecord}
 use Rattle.records.specs.declared.ipsec.IpsecRecord.{IpsecRecord}
@@ -21,36 +25,48 @@ use Rattle.records.specs.declared.ipsec.IpsecRecord.{IpsecRecord}
 unstored : {A : Type 0} (xs : List A) (n : ℕ) (x : A) → length xs ≡ n → set xs n x ≡ xs
 unstored xs n x e = set-out xs n x (omega arith)
 
-module _ (ike : List IkeRecord) (long : length ike ≡ 32) where
+module _ (ike : List IkeRecord) (long : length ike ≡ ikePlaces) where
   module _ (ipsec : List IpsecRecord) where
     pub opens-both : (o : Opening)
-        → let c = bothOpening (length ipsec) o (placeOf ikeSpi (o .spi) ike) (placeOf ikeSpi 0 ike) (placeOf ipsecSpi (o .child) ipsec) (placeOf ipsecSpi 0 ipsec) in
+        → let taken = placeOf ikeSpi (o .spi) ike in
+        let childTaken = placeOf ipsecSpi (o .child) ipsec in
+        let c = bothOpening (length ipsec) o taken (placeOf ikeSpi 0 ike) childTaken (placeOf ipsecSpi 0 ipsec) in
         let r = openBoth ike ipsec o in
-        (c .number ≡ r .number) × (set ike (c .place) (c .entry) ≡ r .ike) × (set ipsec (c .«child_place») (c .child) ≡ r .ipsec)
+        (c .number ≡ r .number) × (set ike (c .place) (c .entry) ≡ r .ike)
+        × (set ipsec (c .«child_place») (c .child) ≡ r .ipsec)
     unfolding openBoth bothOpening
     opens-both o = rw long (go (eqb number 0) refl)
       where
         number : ℕ
         number =
-            bothNumber (openingFits (length ipsec) o) (ltb (placeOf ikeSpi (o .spi) ike) 32) (hasIpsec (o .child) ipsec) (ltb (placeOf ikeSpi 0 ike) 32)
-            (hasIpsec 0 ipsec)
+            bothNumber (openingFits (length ipsec) o) (ltb (placeOf ikeSpi (o .spi) ike) ikePlaces)
+            (hasIpsec (o .child) ipsec) (ltb (placeOf ikeSpi 0 ike) ikePlaces) (hasIpsec 0 ipsec)
+
+        opened : TablesAnswer
+        opened =
+            tablesAnswer 0 (set ike (placeOf ikeSpi 0 ike) (ikeOf o)) (set ipsec (placeOf ipsecSpi 0 ipsec) (childOf o))
 
         go : (b : Bool) → eqb number 0 ≡ b
-            → let r = cond b (tablesAnswer 0 (set ike (placeOf ikeSpi 0 ike) (ikeOf o)) (set ipsec (placeOf ipsecSpi 0 ipsec) (childOf o))) (tablesAnswer number ike ipsec) in
-            (number ≡ r .number) × (set ike (cond b (placeOf ikeSpi 0 ike) 32) (ikeOf o) ≡ r .ike) × (set ipsec (cond b (placeOf ipsecSpi 0 ipsec) (length ipsec)) (childOf o) ≡ r .ipsec)
+            → let r = cond b opened (tablesAnswer number ike ipsec) in
+            (number ≡ r .number) × (set ike (cond b (placeOf ikeSpi 0 ike) ikePlaces) (ikeOf o) ≡ r .ike)
+            × (set ipsec (cond b (placeOf ipsecSpi 0 ipsec) (length ipsec)) (childOf o) ≡ r .ipsec)
         go true e = (eqb-true number 0 e, refl, refl)
-        go false e = (refl, unstored ike 32 (ikeOf o) long, unstored ipsec (length ipsec) (childOf o) refl)
+        go false e = (refl, unstored ike ikePlaces (ikeOf o) long, unstored ipsec (length ipsec) (childOf o) refl)
 
     pub opens-ipsec : (spi owner : ℕ)
-        → let c = ipsecOpening (length ipsec) spi owner (placeOf ikeSpi owner ike) (getD ike (placeOf ikeSpi owner ike) noIke .pair) (placeOf ipsecSpi spi ipsec) (placeOf ipsecSpi 0 ipsec) in
-        (c .number ≡ openIpsec ike ipsec spi owner .number) × (set ipsec (c .place) (c .entry) ≡ openIpsec ike ipsec spi owner .ipsec)
+        → let owned = placeOf ikeSpi owner ike in
+        let pair = getD ike owned noIke .pair in
+        let taken = placeOf ipsecSpi spi ipsec in
+        let c = ipsecOpening (length ipsec) spi owner owned pair taken (placeOf ipsecSpi 0 ipsec) in
+        let r = openIpsec ike ipsec spi owner in
+        (c .number ≡ r .number) × (set ipsec (c .place) (c .entry) ≡ r .ipsec)
     unfolding openIpsec ipsecOpening
     opens-ipsec spi owner = rw long (go (eqb number 0) refl)
       where
         number : ℕ
         number =
-            openingNumber ((not (eqb (length ipsec) 128) || eqb spi 0) || eqb owner 0) (ltb (placeOf ikeSpi owner ike) 32) (hasIpsec spi ipsec)
-            (hasIpsec 0 ipsec)
+            addingNumber (badAdding (length ipsec) spi owner) (ltb (placeOf ikeSpi owner ike) ikePlaces)
+            (hasIpsec spi ipsec) (hasIpsec 0 ipsec)
 
         new : IpsecRecord
         new = newIpsec spi owner (getD ike (placeOf ikeSpi owner ike) noIke .pair)
@@ -62,27 +78,34 @@ module _ (ike : List IkeRecord) (long : length ike ≡ 32) where
         go false e = (refl, unstored ipsec (length ipsec) new refl)
 
     pub closes-ike : (spi : ℕ) → let c = ikeClosing (length ipsec) spi (placeOf ikeSpi spi ike) in
-        (c .number ≡ closeIke ike ipsec spi .number) × (set ike (c .place) (c .entry) ≡ closeIke ike ipsec spi .ike)
-        × (cond (eqb (c .number) 0) (map (released spi) ipsec) ipsec ≡ closeIke ike ipsec spi .ipsec)
+        let r = closeIke ike ipsec spi in
+        (c .number ≡ r .number) × (set ike (c .place) (c .entry) ≡ r .ike)
+        × (cond (eqb (c .number) 0) (map (released spi) ipsec) ipsec ≡ r .ipsec)
     unfolding closeIke ikeClosing
     closes-ike spi = rw long (go (eqb number 0) refl)
       where
         number : ℕ
-        number = closingNumber (not (eqb (length ipsec) 128) || eqb spi 0) (ltb (placeOf ikeSpi spi ike) 32)
+        number = closingNumber (badList (length ipsec) spi) (ltb (placeOf ikeSpi spi ike) ikePlaces)
+
+        closed : TablesAnswer
+        closed = tablesAnswer 0 (set ike (placeOf ikeSpi spi ike) noIke) (map (released spi) ipsec)
 
         go : (b : Bool) → eqb number 0 ≡ b
-            → let r = cond b (tablesAnswer 0 (set ike (placeOf ikeSpi spi ike) noIke) (map (released spi) ipsec)) (tablesAnswer number ike ipsec) in
-            (number ≡ r .number) × (set ike (cond b (placeOf ikeSpi spi ike) 32) noIke ≡ r .ike) × (cond b (map (released spi) ipsec) ipsec ≡ r .ipsec)
+            → let r = cond b closed (tablesAnswer number ike ipsec) in
+            (number ≡ r .number) × (set ike (cond b (placeOf ikeSpi spi ike) ikePlaces) noIke ≡ r .ike)
+            × (cond b (map (released spi) ipsec) ipsec ≡ r .ipsec)
         go true e = (eqb-true number 0 e, refl, refl)
-        go false e = (refl, unstored ike 32 noIke long, refl)
+        go false e = (refl, unstored ike ikePlaces noIke long, refl)
 
-pub closes-ipsec : (ipsec : List IpsecRecord) (spi : ℕ) → let c = ipsecClosing (length ipsec) spi (placeOf ipsecSpi spi ipsec) in
-    (c .number ≡ closeIpsec ipsec spi .number) × (set ipsec (c .place) (c .entry) ≡ closeIpsec ipsec spi .ipsec)
+pub closes-ipsec : (ipsec : List IpsecRecord) (spi : ℕ)
+    → let c = ipsecClosing (length ipsec) spi (placeOf ipsecSpi spi ipsec) in
+    let r = closeIpsec ipsec spi in
+    (c .number ≡ r .number) × (set ipsec (c .place) (c .entry) ≡ r .ipsec)
 unfolding closeIpsec ipsecClosing
 closes-ipsec ipsec spi = go (eqb number 0) refl
   where
     number : ℕ
-    number = closingNumber (not (eqb (length ipsec) 128) || eqb spi 0) (hasIpsec spi ipsec)
+    number = closingNumber (badList (length ipsec) spi) (hasIpsec spi ipsec)
 
     go : (b : Bool) → eqb number 0 ≡ b
         → let r = cond b (ipsecAnswer 0 (set ipsec (placeOf ipsecSpi spi ipsec) noIpsec)) (ipsecAnswer number ipsec) in

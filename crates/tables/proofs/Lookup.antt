@@ -17,9 +17,12 @@ module _ {A : Type 0} (key : A → ℕ) (d : A) (xs : List A) where
   -- opening changes no other lookup
   pub others-opened : (y : A) (k : ℕ) → placeOf key 0 xs < length xs → (k ≡ 0 → ⊥) → (key y ≡ k → ⊥)
       → placeOf key k (set xs (placeOf key 0 xs) y) ≡ placeOf key k xs
-  others-opened y k room n m = store-other key k y xs (placeOf key 0 xs) d room (λ e. n (sym e ∙ place-has key 0 xs d room)) m
+  others-opened y k room n m =
+      store-other key k y xs (placeOf key 0 xs) d room (λ e. n (sym e ∙ place-has key 0 xs d room)) m
 
   -- closing changes no other lookup
-  pub others-closed : (k : ℕ) (y : A) → placeOf key k xs < length xs → key y ≡ 0 → (l : ℕ) → (l ≡ 0 → ⊥) → (k ≡ l → ⊥) → placeOf key l (set xs (placeOf key k xs) y) ≡ placeOf key l xs
+  pub others-closed : (k : ℕ) (y : A) → placeOf key k xs < length xs → key y ≡ 0 → (l : ℕ) → (l ≡ 0 → ⊥)
+      → (k ≡ l → ⊥) → placeOf key l (set xs (placeOf key k xs) y) ≡ placeOf key l xs
   others-closed k y there closed l n m =
-      store-other key l y xs (placeOf key k xs) d there (λ e. m (sym (place-has key k xs d there) ∙ e)) (λ e. n (sym e ∙ closed))
+      store-other key l y xs (placeOf key k xs) d there (λ e. m (sym (place-has key k xs d there) ∙ e))
+      (λ e. n (sym e ∙ closed))

@@ -1,10 +1,20 @@
--- The table calls of 01: their numbers, in the order of its checks, and the tables after them.
+-- Trusted. The table calls of 01 ("Tables", "The numbers given back") and E1: their numbers, in the order of their
+-- checks, and the tables after them.
+--
+--   ipsecAnswer, tablesAnswer   a number and one table, a number and both
+--   hasIke, hasIpsec            a table has a record with an SPI; with 0: it has a free place
+--   listFits, openingFits       what is lent, and what is given to open, is no bad argument
+--   openingChecks, openBoth     an IKE record and its first IPsec record are opened
+--   addingChecks, openIpsec     another IPsec record is opened
+--   closingChecks               of either closing
+--   closeIke, closeIpsec        a record is closed
 use Prim.Native.Nat.{ℕ}
 use mathlib.Core.List.{List, [], _∷_, map}
 use mathlib.Core.Bool.{Bool, cond, _&&_, _||_, not}
 use lib.Dec.{eqb, ltb}
 use lib.ListN.{length, getD, set}
 use Rattle.octets.specs.Limits.{ipsecPlaces}
+use Rattle.octets.specs.declared.number.Number.the-variants.{BadArgument, NoSuchRecord, Full, SpiInUse}
 use Rattle.octets.specs.Checks.{Check, _gives_, firstFailed}
 use Rattle.octets.specs.Lists.{placeOf}
 use Rattle.address.specs.Address.{pairFits}
@@ -41,18 +51,19 @@ hasIpsec spi ipsec = ltb (placeOf ipsecSpi spi ipsec) (length ipsec)
 abbrev pub listFits : List IpsecRecord → Bool
 listFits ipsec = eqb (length ipsec) ipsecPlaces
 
--- 01: "1: family not 4 or 6, IPv4 tail not zero, an SPI of 0, an IPsec list not of 128 records"; of an opening beside a list of `size`.
+-- 01: "1: family not 4 or 6, IPv4 tail not zero, an SPI of 0, an IPsec list not of 128 records"; of an opening beside a
+-- list of `size`.
 abbrev pub openingFits : ℕ → Opening → Bool
 openingFits size o = eqb size ipsecPlaces && (not (eqb (o .spi) 0) && (not (eqb (o .child) 0) && pairFits (o .pair)))
 
 -- E1: "Refusals: 1, 11 (IKE, then IPsec), 10 (IKE, then IPsec)".
 abbrev pub openingChecks : List IkeRecord → List IpsecRecord → Opening → List Check
 openingChecks ike ipsec o =
-    not (openingFits (length ipsec) o) gives 1
-    ∷ hasIke (o .spi) ike gives 11
-    ∷ hasIpsec (o .child) ipsec gives 11
-    ∷ not (hasIke 0 ike) gives 10
-    ∷ not (hasIpsec 0 ipsec) gives 10
+    not (openingFits (length ipsec) o) gives BadArgument
+    ∷ hasIke (o .spi) ike gives SpiInUse
+    ∷ hasIpsec (o .child) ipsec gives SpiInUse
+    ∷ not (hasIke 0 ike) gives Full
+    ∷ not (hasIpsec 0 ipsec) gives Full
     ∷ []
 
 -- E1: "one call opens both or neither". 01: "Opening takes the lowest free place".
@@ -66,23 +77,27 @@ openBoth ike ipsec o =
 -- Another IPsec record. 01: "Opening checks 1, 4 (the owner of an IPsec record), 11, 10."
 abbrev pub addingChecks : List IkeRecord → List IpsecRecord → ℕ → ℕ → List Check
 addingChecks ike ipsec spi owner =
-    ((not (listFits ipsec) || eqb spi 0) || eqb owner 0) gives 1
-    ∷ not (hasIke owner ike) gives 4
-    ∷ hasIpsec spi ipsec gives 11
-    ∷ not (hasIpsec 0 ipsec) gives 10
+    ((not (listFits ipsec) || eqb spi 0) || eqb owner 0) gives BadArgument
+    ∷ not (hasIke owner ike) gives NoSuchRecord
+    ∷ hasIpsec spi ipsec gives SpiInUse
+    ∷ not (hasIpsec 0 ipsec) gives Full
     ∷ []
 
 -- 01: "A new one takes the pair of its IKE record (000, 3.3)."
 unfoldable pub openIpsec : List IkeRecord → List IpsecRecord → ℕ → ℕ → IpsecAnswer
 openIpsec ike ipsec spi owner =
     let number = firstFailed (addingChecks ike ipsec spi owner) in
+    let pair = getD ike (placeOf ikeSpi owner ike) noIke .pair in
     cond (eqb number 0)
-    (ipsecAnswer 0 (set ipsec (placeOf ipsecSpi 0 ipsec) (newIpsec spi owner (getD ike (placeOf ikeSpi owner ike) noIke .pair))))
+    (ipsecAnswer 0 (set ipsec (placeOf ipsecSpi 0 ipsec) (newIpsec spi owner pair)))
     (ipsecAnswer number ipsec)
 
 -- 01: "Closing an IKE or IPsec record checks 1, 4."; `there` says whether a record has the SPI.
 abbrev pub closingChecks : List IpsecRecord → ℕ → Bool → List Check
-closingChecks ipsec spi there = (not (listFits ipsec) || eqb spi 0) gives 1 ∷ not there gives 4 ∷ []
+closingChecks ipsec spi there =
+    (not (listFits ipsec) || eqb spi 0) gives BadArgument
+    ∷ not there gives NoSuchRecord
+    ∷ []
 
 -- 01: "closing sets all its fields to 0 or none"; "Closing an IKE record closes the IPsec records it owns."
 unfoldable pub closeIke : List IkeRecord → List IpsecRecord → ℕ → TablesAnswer

@@ -1,4 +1,8 @@
--- What is claimed of an opening: both records or neither, from any tables.
+-- Trusted. What is claimed of an opening: both records or neither, from any tables (`tables/proofs/Cases.antt`).
+--
+--   BothOpened      both records stand, each at the lowest free place
+--   NeitherOpened   a refusal, and both tables as they were
+--   BothOrNeither   one of the two, whatever is asked for
 use Prim.Native.Nat.{_<_, _≤_}
 use mathlib.Core.Path.{_≡_}
 use mathlib.Core.Logic.{_⊎_}
@@ -35,4 +39,6 @@ module _ (ike : List IkeRecord) (ipsec : List IpsecRecord) (o : Opening) where
 
 -- E1: "one call opens both or neither", whatever its number.
 abbrev pub BothOrNeither : Type 0
-BothOrNeither = (ike : List IkeRecord) (ipsec : List IpsecRecord) (o : Opening) → BothOpened ike ipsec o ⊎ NeitherOpened ike ipsec o
+BothOrNeither =
+    (ike : List IkeRecord) (ipsec : List IpsecRecord) (o : Opening)
+    → BothOpened ike ipsec o ⊎ NeitherOpened ike ipsec o

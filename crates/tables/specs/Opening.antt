@@ -1,4 +1,6 @@
--- The two records of an opening.
+-- Trusted. The two records of an opening.
+--
+--   ikeOf, childOf   the IKE record, and its first IPsec record
 use Rattle.records.specs.Records.{newIke, newIpsec}
 use Rattle.records.specs.declared.ike.IkeRecord.{IkeRecord}
 use Rattle.records.specs.declared.ipsec.IpsecRecord.{IpsecRecord}

@@ -1,7 +1,14 @@
--- Both tables together.
+-- Trusted. Both tables together.
+--
+--   Tables   the list of IKE records and the list of IPsec records
+--   inUse    an IKE SA has an SPI
+use Prim.Native.Nat.{ℕ}
 use mathlib.Core.List.{List}
+use mathlib.Core.Bool.{Bool, _&&_, not}
+use lib.Dec.{eqb}
 use Rattle.records.specs.declared.ike.IkeRecord.{IkeRecord}
 use Rattle.records.specs.declared.ipsec.IpsecRecord.{IpsecRecord}
+use Rattle.tables.specs.Calls.{hasIke}
 
 pub record Tables : Type 0 where
   pub ike : List IkeRecord
@@ -9,3 +16,7 @@ pub record Tables : Type 0 where
 
 abbrev pub tables : List IkeRecord → List IpsecRecord → Tables
 tables ike ipsec = record { ike = ike; ipsec = ipsec }
+
+-- An IKE SA of these tables has this SPI. 0 is no SPI, whatever place is free.
+abbrev pub inUse : ℕ → Tables → Bool
+inUse spi t = not (eqb spi 0) && hasIke spi (t .ike)

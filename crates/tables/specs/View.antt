@@ -1,22 +1,18 @@
--- The tables by SPI: what a call that gives an SPI sees of them, and what it may change.
+-- Inner. The tables by SPI: what a call that gives an SPI sees of them, and what it may change. Serves the proof of
+-- demand 3, which does not speak of it; each kind of call is shown to be such (`closing-by-spi` in
+-- `views/proofs/Closing.antt`, `by-spi` in `reordering/proofs/Steps.antt`).
 use Prim.Native.Nat.{ℕ}
 use mathlib.Core.Path.{_≡_}
 use mathlib.Core.List.{map}
-use mathlib.Core.Bool.{Bool, cond, _&&_, not}
+use mathlib.Core.Bool.{cond}
 use mathlib.Core.Option.{Option, none, some}
-use lib.Dec.{eqb}
 use lib.ListN.{length, getD, set}
 use Rattle.octets.specs.Lists.{placeOf}
 use Rattle.address.specs.declared.pair.Pair.{Pair}
 use Rattle.records.specs.Records.{ikeSpi, noIke, follows, released}
-use Rattle.tables.specs.Calls.{hasIke}
-use Rattle.tables.specs.Tables.{Tables, tables}
+use Rattle.tables.specs.Tables.{Tables, tables, inUse}
 use Rattle.records.specs.declared.ike.IkeRecord.{IkeRecord}
 use Rattle.records.specs.declared.ipsec.IpsecRecord.{IpsecRecord}
-
--- An IKE SA of these tables has this SPI. 0 is no SPI, whatever place is free.
-abbrev pub inUse : ℕ → Tables → Bool
-inUse spi t = not (eqb spi 0) && hasIke spi (t .ike)
 
 -- What a call sees: the IKE record that its SPI means, if any, and how many IPsec records are lent.
 pub record View : Type 0 where
@@ -31,8 +27,8 @@ view spi t =
       lent = length (t .ipsec);
     }
 
--- What a call does to the IKE SA that its SPI means: nothing; it makes the record this one, and its IPsec records take a pair or
--- stay as they are; or it closes the record, and with it the IPsec records it owns.
+-- What a call does to the IKE SA that its SPI means: nothing; it makes the record this one, and its IPsec records take
+-- a pair or stay as they are; or it closes the record, and with it the IPsec records it owns.
 pub data Change : Type 0 where
   stays : Change
   becomes : IkeRecord → Option Pair → Change
@@ -62,8 +58,8 @@ Proper (some r) stays = Unit {0}
 Proper (some r) (becomes new p) = new .spi ≡ r .spi
 Proper (some r) closes = Unit {0}
 
--- Calls that go by their SPI: what each does and answers depends on its view alone. 01: "an IKE SA's requests are all those that
--- give its SPI"; each kind of call that demand 3 speaks of is such.
+-- Calls that go by their SPI: what each does and answers depends on its view alone. 01: "an IKE SA's requests are all
+-- those that give its SPI"; each kind of call that demand 3 speaks of is such.
 pub record BySpi {E A : Type 0} (spi : E → ℕ) (step : E → Tables → Tables) (answer : E → Tables → A) : Type 0 where
   pub does : E → View → Change
   pub says : E → View → A

@@ -1,6 +1,10 @@
 // What each table call comes to, given what was looked up: its number, and the record to store with its place.
 use address::pair::Pair;
 use address::pair::pair_fits;
+use octets::limits::IKE_PLACES;
+use octets::limits::IPSEC_PLACES;
+use octets::number::Number;
+use octets::number::number_of;
 use records::ike::Agreed;
 use records::ike::IkeRecord;
 use records::ike::new_ike;
@@ -8,11 +12,13 @@ use records::ike::no_ike;
 use records::ipsec::IpsecRecord;
 use records::ipsec::no_ipsec;
 ghost use mathlib.Core.Path.{_≡_};
-ghost use mathlib.Core.Bool.{cond, _||_, not};
+ghost use mathlib.Core.Bool.{cond};
 ghost use lib.Dec.{eqb};
+ghost use Rattle.octets.specs.Numbers.{numberOf};
 ghost use Rattle.tables.specs.Opening.{ikeOf, childOf};
 ghost use Rattle.tables.specs.Calls.{openingFits};
-ghost use Rattle.tables.specs.Changes.{openingNumber, closingNumber, bothNumber, bothOpening, ipsecOpening, ikeClosing, ipsecClosing};
+ghost use Rattle.tables.specs.Changes.{badList, badAdding, addingNumber, closingNumber, bothNumber};
+ghost use Rattle.tables.specs.Changes.{bothOpening, ipsecOpening, ikeClosing, ipsecClosing};
 
 // What is given to open an IKE record and its first IPsec record, whose SPI is `child`.
 #[repr(C)]
@@ -23,7 +29,8 @@ pub struct Opening {
     pub child: u32,
 }
 
-// A number, and the record that is stored at a place of the IKE table; 32, where nothing is stored, with any number but 0.
+// A number, and the record that is stored at a place of the IKE table; past its end, where nothing is stored, with any
+// number but 0.
 pub struct IkeChange {
     pub number: u8,
     pub place: usize,
@@ -46,31 +53,35 @@ pub struct BothChange {
     pub child: IpsecRecord,
 }
 
-// The number of an opening: a bad argument, no owner, the SPI in use, no room, or 0.
-pub fn opening_number(bad: bool, owned: bool, taken: bool, room: bool) -> u8
-    ensures { λ r. ⌜ r ≡ openingNumber bad owned taken room ⌝ }
+// The number of opening another IPsec record: a bad argument, no owner, the SPI in use, no room, or 0.
+pub fn adding_number(bad: bool, owned: bool, taken: bool, room: bool) -> Number
+    ensures { λ r. ⌜ numberOf r ≡ addingNumber bad owned taken room ⌝ }
 {
     if bad {
-        return 1;
+        return Number::BadArgument;
     }
     if owned {
         if taken {
-            return 11;
+            return Number::SpiInUse;
         }
-        if room { 0 } else { 10 }
+        if room { Number::Done } else { Number::Full }
     } else {
-        4
+        Number::NoSuchRecord
     }
 }
 
 // The number of a closing: a bad argument, no such record, or 0.
-pub fn closing_number(bad: bool, there: bool) -> u8
-    ensures { λ r. ⌜ r ≡ closingNumber bad there ⌝ }
+pub fn closing_number(bad: bool, there: bool) -> Number
+    ensures { λ r. ⌜ numberOf r ≡ closingNumber bad there ⌝ }
 {
     if bad {
-        return 1;
+        return Number::BadArgument;
     }
-    if there { 0 } else { 4 }
+    if there {
+        Number::Done
+    } else {
+        Number::NoSuchRecord
+    }
 }
 
 // The place to store at: none with any number but 0.
@@ -80,15 +91,16 @@ pub fn place_if(number: u8, place: usize, none: usize) -> usize
     if number == 0 { place } else { none }
 }
 
-// Whether the list hasn't 128 records, or an SPI is 0.
+// Whether the list has another size than it must, or an SPI is 0.
 pub fn is_bad_list(size: usize, spi: u64) -> bool
-    ensures { λ r. ⌜ r ≡ not (eqb size 128) || eqb spi 0 ⌝ }
+    ensures { λ r. ⌜ r ≡ badList size spi ⌝ }
 {
-    if size == 128 { spi == 0 } else { true }
+    if size == IPSEC_PLACES { spi == 0 } else { true }
 }
 
-pub fn is_bad_opening(size: usize, spi: u64, owner: u64) -> bool
-    ensures { λ r. ⌜ r ≡ (not (eqb size 128) || eqb spi 0) || eqb owner 0 ⌝ }
+// The same, or the owner's SPI is 0.
+pub fn is_bad_adding(size: usize, spi: u64, owner: u64) -> bool
+    ensures { λ r. ⌜ r ≡ badAdding size spi owner ⌝ }
 {
     if is_bad_list(size, spi) {
         return true;
@@ -100,7 +112,7 @@ pub fn is_bad_opening(size: usize, spi: u64, owner: u64) -> bool
 pub fn opening_fits(size: usize, o: Opening) -> bool
     ensures { λ r. ⌜ r ≡ openingFits size o ⌝ }
 {
-    if size != 128 {
+    if size != IPSEC_PLACES {
         return false;
     }
     if o.spi == 0 {
@@ -114,22 +126,32 @@ pub fn opening_fits(size: usize, o: Opening) -> bool
 }
 
 // The number of opening both: of each record, whether its SPI is in use and whether there is room for it.
-pub fn both_number(fits: bool, taken: bool, child_taken: bool, room: bool, child_room: bool) -> u8
-    ensures { λ r. ⌜ r ≡ bothNumber fits taken «child_taken» room «child_room» ⌝ }
+pub fn both_number(
+    fits: bool,
+    taken: bool,
+    child_taken: bool,
+    room: bool,
+    child_room: bool,
+) -> Number
+    ensures { λ r. ⌜ numberOf r ≡ bothNumber fits taken «child_taken» room «child_room» ⌝ }
 {
     if !fits {
-        return 1;
+        return Number::BadArgument;
     }
     if taken {
-        return 11;
+        return Number::SpiInUse;
     }
     if child_taken {
-        return 11;
+        return Number::SpiInUse;
     }
     if !room {
-        return 10;
+        return Number::Full;
     }
-    if child_room { 0 } else { 10 }
+    if child_room {
+        Number::Done
+    } else {
+        Number::Full
+    }
 }
 
 // The two records that are opened.
@@ -164,16 +186,16 @@ pub fn both_opening(
     ensures { λ r. ⌜ r ≡ bothOpening size o taken free «child_taken» «child_free» ⌝ }
 {
     let fits = opening_fits(size, o);
-    let number = both_number(
+    let number = number_of(both_number(
         fits,
-        taken < 32,
+        taken < IKE_PLACES,
         child_taken < size,
-        free < 32,
+        free < IKE_PLACES,
         child_free < size,
-    );
+    ));
     BothChange {
         number,
-        place: place_if(number, free, 32),
+        place: place_if(number, free, IKE_PLACES),
         entry: ike_of(o),
         child_place: place_if(number, child_free, size),
         child: child_of(o),
@@ -192,8 +214,8 @@ pub fn ipsec_opening(
 ) -> IpsecChange
     ensures { λ r. ⌜ r ≡ ipsecOpening size spi owner owned («of» .pair) taken free ⌝ }
 {
-    let bad = is_bad_opening(size, spi as u64, owner);
-    let number = opening_number(bad, owned < 32, taken < size, free < size);
+    let bad = is_bad_adding(size, spi as u64, owner);
+    let number = number_of(adding_number(bad, owned < IKE_PLACES, taken < size, free < size));
     let pair = of.pair;
     IpsecChange {
         number,
@@ -206,11 +228,11 @@ pub fn ipsec_opening(
 pub fn ike_closing(size: usize, spi: u64, place: usize) -> IkeChange
     ensures { λ r. ⌜ r ≡ ikeClosing size spi place ⌝ }
 {
-    let number = closing_number(is_bad_list(size, spi), place < 32);
+    let number = number_of(closing_number(is_bad_list(size, spi), place < IKE_PLACES));
     let entry = no_ike();
     IkeChange {
         number,
-        place: place_if(number, place, 32),
+        place: place_if(number, place, IKE_PLACES),
         entry,
     }
 }
@@ -219,7 +241,7 @@ pub fn ike_closing(size: usize, spi: u64, place: usize) -> IkeChange
 pub fn ipsec_closing(size: usize, spi: u32, place: usize) -> IpsecChange
     ensures { λ r. ⌜ r ≡ ipsecClosing size spi place ⌝ }
 {
-    let number = closing_number(is_bad_list(size, spi as u64), place < size);
+    let number = number_of(closing_number(is_bad_list(size, spi as u64), place < size));
     let entry = no_ipsec();
     IpsecChange {
         number,

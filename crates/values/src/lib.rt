@@ -5,18 +5,28 @@ use address::address::width_of;
 use findings::seen::Places;
 use findings::seen::Seen;
 use octets::be16_at;
+use octets::limits::ADDRESS_OCTETS;
+use octets::limits::ADDRESSES_MOST;
+use octets::limits::IP4_OCTETS;
+use octets::limits::IP6_OCTETS;
+use octets::limits::NO_NATS_LEAST;
+use octets::limits::NO_NATS_MOST;
+use octets::limits::PORT_SIZE;
 use octets::padded_to_16;
 ghost use mathlib.Core.Path.{_≡_};
 ghost use Prim.Native.Nat.{_+_, _≤_, min};
 ghost use lib.ListN.{length};
-ghost use Rattle.values.specs.Values.{partOf, PartOf, noNatsIn, noNatsOf, noNatsAt, absent, addressAt, additionalOf, addressesIn};
+ghost use Rattle.octets.specs.Limits.{addressesMost, portSize};
+ghost use Rattle.values.specs.Values.{partOf, PartOf, addressAt, additionalOf, addressesIn};
+ghost use Rattle.values.specs.Values.{noNatsIn, noNatsOf, noNatsAt, absent};
 
-// The `len` octets at `at` as a part of the body; none at place 0, which is no place, or where they would run past the end.
-pub fn part(body: &[u8], at: u16, len: u16) -> &[u8]
-    ensures { λ r. ⌜ PartOf (body .entry) at len r ⌝ }
+// The `size` octets at `at` as a part of the body; none at offset 0, where no data stands, or where they would run past
+// the end.
+pub fn part(body: &[u8], at: u16, size: u16) -> &[u8]
+    ensures { λ r. ⌜ PartOf (body .entry) at size r ⌝ }
 {
     let start = at as usize;
-    let end = start + len as usize;
+    let end = start + size as usize;
     if at == 0 {
         return &body[..0];
     }
@@ -37,26 +47,26 @@ pub fn cookie(body: &[u8], seen: Seen) -> &[u8]
 #[repr(C)]
 pub struct NoNats {
     pub family: u8,
-    pub source: [u8; 16],
-    pub destination: [u8; 16],
+    pub source: [u8; ADDRESS_OCTETS],
+    pub destination: [u8; ADDRESS_OCTETS],
     pub source_port: u16,
     pub destination_port: u16,
 }
 
-// Two addresses of n octets and two ports.
-fn no_nats_in(family: u8, n: usize, data: &[u8]) -> NoNats
-    requires { ⌜ n + n + 4 ≤ length (now «data») ⌝ }
-    ensures { λ r. ⌜ r ≡ noNatsIn family n (now («data» .entry)) ⌝ }
+// Two addresses of `width` octets and two ports.
+fn no_nats_in(family: u8, width: usize, data: &[u8]) -> NoNats
+    requires { ⌜ width + width + (portSize + portSize) ≤ length (now «data») ⌝ }
+    ensures { λ r. ⌜ r ≡ noNatsIn family width (now («data» .entry)) ⌝ }
 {
-    let both = n + n;
-    let source = padded_to_16(&data[..n]);
-    let destination = padded_to_16(&data[n..both]);
+    let ports = width + width;
+    let source = padded_to_16(&data[..width]);
+    let destination = padded_to_16(&data[width..ports]);
     NoNats {
         family,
         source,
         destination,
-        source_port: be16_at(data, both),
-        destination_port: be16_at(data, both + 2),
+        source_port: be16_at(data, ports),
+        destination_port: be16_at(data, ports + PORT_SIZE),
     }
 }
 
@@ -65,8 +75,8 @@ fn nothing_allowed() -> NoNats
 {
     NoNats {
         family: 0,
-        source: [0u8; 16],
-        destination: [0u8; 16],
+        source: [0u8; ADDRESS_OCTETS],
+        destination: [0u8; ADDRESS_OCTETS],
         source_port: 0,
         destination_port: 0,
     }
@@ -76,44 +86,45 @@ fn nothing_allowed() -> NoNats
 pub fn no_nats_of(data: &[u8]) -> NoNats
     ensures { λ r. ⌜ r ≡ noNatsOf (now («data» .entry)) ⌝ }
 {
-    if data.len() == 12 {
-        return no_nats_in(4, 4, data);
+    if data.len() == NO_NATS_LEAST {
+        return no_nats_in(4, IP4_OCTETS, data);
     }
-    if data.len() == 36 {
-        return no_nats_in(6, 16, data);
+    if data.len() == NO_NATS_MOST {
+        return no_nats_in(6, IP6_OCTETS, data);
     }
     nothing_allowed()
 }
 
-// The same by the place and the length that a reading tells.
-pub fn no_nats_at(body: &[u8], at: u16, len: u16) -> NoNats
-    ensures { λ r. ⌜ r ≡ noNatsAt (now (body .entry)) at len ⌝ }
+// The same by the offset and the size that a reading tells.
+pub fn no_nats_at(body: &[u8], at: u16, size: u16) -> NoNats
+    ensures { λ r. ⌜ r ≡ noNatsAt (now (body .entry)) at size ⌝ }
 {
-    no_nats_of(part(body, at, len))
+    no_nats_of(part(body, at, size))
 }
 
-// The address at a place, of a family that says how many octets it has.
-pub fn address_at(body: &[u8], place: u16, family: u8) -> [u8; 16]
-    ensures { λ r. ⌜ r ≡ addressAt (now (body .entry)) place family ⌝ }
+// The address at an offset, of a family that says how many octets it has.
+pub fn address_at(body: &[u8], at: u16, family: u8) -> [u8; ADDRESS_OCTETS]
+    ensures { λ r. ⌜ r ≡ addressAt (now (body .entry)) at family ⌝ }
 {
-    padded_to_16(part(body, place, width_of(family)))
+    padded_to_16(part(body, at, width_of(family)))
 }
 
 // How many of so many additional addresses are kept: the first sixteen.
 pub fn kept_count(count: u16) -> u16
-    ensures { λ r. ⌜ r ≡ min count 16 ⌝ }
+    ensures { λ r. ⌜ r ≡ min count addressesMost ⌝ }
 {
-    if count < 16 { count } else { 16 }
+    let most = ADDRESSES_MOST as u16;
+    if count < most { count } else { most }
 }
 
 // The additional addresses that are kept, with zeros in the places after them.
-pub fn additional(body: &[u8], list: Places) -> [[u8; 16]; 16]
+pub fn additional(body: &[u8], list: Places) -> [[u8; ADDRESS_OCTETS]; ADDRESSES_MOST]
     ensures { λ r. ⌜ r ≡ additionalOf (now (body .entry)) list ⌝ }
 {
     let n = kept_count(list.count) as usize;
     let places = list.places;
     let families = list.families;
-    let mut out = [[0u8; 16]; 16];
+    let mut out = [[0u8; ADDRESS_OCTETS]; ADDRESSES_MOST];
     let mut i = 0;
     while i < n {
         let a = address_at(body, places[i], families[i]);
@@ -124,7 +135,7 @@ pub fn additional(body: &[u8], list: Places) -> [[u8; 16]; 16]
 }
 
 // The same with their families, as a record keeps them.
-pub fn addresses_in(body: &[u8], list: Places) -> [Address; 16]
+pub fn addresses_in(body: &[u8], list: Places) -> [Address; ADDRESSES_MOST]
     ensures { λ r. ⌜ r ≡ addressesIn (now (body .entry)) list ⌝ }
 {
     let octets = additional(body, list);

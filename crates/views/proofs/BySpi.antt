@@ -1,12 +1,13 @@
--- Calls that go by their SPI: those of two SPIs do not see each other, and one of an SPI that no record has is seen by none.
+-- Calls that go by their SPI: those of two SPIs do not see each other, and one of an SPI that no record has is seen by
+-- none.
 use Prim.Native.Nat.{ℕ}
 use mathlib.Core.Path.{_≡_, sym, ap, _∙_}
 use mathlib.Core.Logic.{_⊎_, ⊎-elim}
 use mathlib.Core.Bool.{false}
 use mathlib.Core.Option.{Option, none}
 use native.Mathlib.Decide.{ℕ-discrete}
-use Rattle.tables.specs.Tables.{Tables}
-use Rattle.tables.specs.View.{inUse, View, view, Change, stays, applied, Proper, BySpi}
+use Rattle.tables.specs.Tables.{Tables, inUse}
+use Rattle.tables.specs.View.{View, view, Change, stays, applied, Proper, BySpi}
 use Rattle.records.specs.declared.ike.IkeRecord.{IkeRecord}
 use Rattle.views.proofs.View.{applied-stays, unseen, applied-swap}
 
@@ -14,7 +15,8 @@ use Rattle.views.proofs.View.{applied-stays, unseen, applied-swap}
 abbrev pub Since : Tables → Tables → Type 0
 Since t s = (k : ℕ) → inUse k t ≡ false → view k s ≡ view k t
 
-module _ {E A : Type 0} {spi : E → ℕ} {step : E → Tables → Tables} {answer : E → Tables → A} (b : BySpi spi step answer) where
+module _ {E A : Type 0} {spi : E → ℕ} {step : E → Tables → Tables} {answer : E → Tables → A}
+    (b : BySpi spi step answer) where
   -- what a call does on these tables
   abbrev done : E → Tables → Change
   done e t = b .does e (view (spi e) t)
@@ -26,7 +28,8 @@ module _ {E A : Type 0} {spi : E → ℕ} {step : E → Tables → Tables} {answ
   unseen-by e k n t = rw (b .step-is e t) (unseen (spi e) k n t (done e t) (own e t))
 
   -- one call after the other, by what each sees at first
-  one-after : (e f : E) → (spi e ≡ spi f → ⊥) → (t : Tables) → step f (step e t) ≡ applied (spi f) (done f t) (applied (spi e) (done e t) t)
+  one-after : (e f : E) → (spi e ≡ spi f → ⊥) → (t : Tables)
+      → step f (step e t) ≡ applied (spi f) (done f t) (applied (spi e) (done e t) t)
   one-after e f n t = b .step-is f (step e t) ∙ (rw (unseen-by e (spi f) n t, b .step-is e t))
 
   step-swap : (e f : E) → (spi e ≡ spi f → ⊥) → (t : Tables) → step f (step e t) ≡ step e (step f t)
@@ -58,14 +61,21 @@ module _ {E A : Type 0} {spi : E → ℕ} {step : E → Tables → Tables} {answ
       go (yes x) = rw (idle t e (rw x u) s a) (a k u)
       go (no n) = unseen-by e k n s ∙ a k u
 
-  -- Calls of two SPIs, or the first of one that no record had at the start: neither sees the other, and the tables end the same.
+  -- Calls of two SPIs, or the first of one that no record had at the start: neither sees the other, and the tables end
+  -- the same.
   pub apart : (t s : Tables) → Since t s → (e f : E) → (spi e ≡ spi f → ⊥) ⊎ (inUse (spi e) t ≡ false)
-      → (step f (step e s) ≡ step e (step f s)) × (answer e (step f s) ≡ answer e s) × (answer f (step e s) ≡ answer f s)
-  apart t s a e f = ⊎-elim (λ n. (step-swap e f n s, answer-unseen f e (λ x. n (sym x)) s, answer-unseen e f n s)) silent
+      → (step f (step e s) ≡ step e (step f s)) × (answer e (step f s) ≡ answer e s) ×
+      (answer f (step e s) ≡ answer f s)
+  apart t s a e f =
+      ⊎-elim (λ n. (step-swap e f n s, answer-unseen f e (λ x. n (sym x)) s, answer-unseen e f n s)) silent
     where
       silent : inUse (spi e) t ≡ false
-          → (step f (step e s) ≡ step e (step f s)) × (answer e (step f s) ≡ answer e s) × (answer f (step e s) ≡ answer f s)
+          → (step f (step e s) ≡ step e (step f s)) × (answer e (step f s) ≡ answer e s) ×
+          (answer f (step e s) ≡ answer f s)
       silent u =
           let later = step-since t f s a in
-          let here = idle t e u s a in
-          (ap (step f) here ∙ sym (idle t e u (step f s) later), idle-answer t e u (step f s) s later a, ap (answer f) here)
+          let here = idle t e u s a in (
+            ap (step f) here ∙ sym (idle t e u (step f s) later),
+            idle-answer t e u (step f s) s later a,
+            ap (answer f) here,
+          )

@@ -1,15 +1,19 @@
--- 01's closing of an IKE record is a call that goes by its SPI: "Closing an IKE record closes the IPsec records it owns."
+-- 01's closing of an IKE record is a call that goes by its SPI: "Closing an IKE record closes the IPsec records it
+-- owns."
 use Prim.Native.Nat.{ℕ}
 use mathlib.Core.Path.{_≡_, refl, ap}
 use mathlib.Core.List.{map}
-use mathlib.Core.Bool.{Bool, true, false, cond, _||_, not}
+use mathlib.Core.Bool.{Bool, true, false, cond, not}
 use mathlib.Core.Option.{Option, none, some}
 use lib.Dec.{eqb}
 use lib.ListN.{length, set}
+use Rattle.octets.specs.declared.number.Number.the-variants.{Done, BadArgument, NoSuchRecord}
 use Rattle.octets.specs.Lists.{placeOf}
+use Rattle.octets.specs.Numbers.{numberOf}
 use Rattle.octets.proofs.Small.{neither}
 use Rattle.records.specs.Records.{ikeSpi, noIke, released}
 use Rattle.tables.specs.Calls.{TablesAnswer, tablesAnswer, hasIke, listFits, closeIke}
+use Rattle.tables.specs.Changes.{badList}
 use Rattle.tables.specs.Tables.{Tables, tables}
 use Rattle.tables.specs.View.{View, view, Change, stays, closes, applied, Proper, BySpi}
 use Rattle.records.specs.declared.ike.IkeRecord.{IkeRecord}
@@ -20,8 +24,8 @@ closing none = stays
 closing (some r) = closes
 
 abbrev number : Option IkeRecord → ℕ
-number none = 4
-number (some r) = 0
+number none = numberOf NoSuchRecord
+number (some r) = numberOf Done
 
 -- the tables after a closing, whatever its number
 abbrev closed : ℕ → Tables → Tables
@@ -29,13 +33,13 @@ closed spi t = let a = closeIke (t .ike) (t .ipsec) spi in tables (a .ike) (a .i
 
 module _ (spi : ℕ) where
   abbrev bad : ℕ → Bool
-  bad lent = not (eqb lent 128) || eqb spi 0
+  bad lent = badList lent spi
 
   abbrev does : View → Change
   does v = cond (bad (v .lent)) stays (closing (v .entry))
 
   abbrev says : View → ℕ
-  says v = cond (bad (v .lent)) 1 (number (v .entry))
+  says v = cond (bad (v .lent)) (numberOf BadArgument) (number (v .entry))
 
   proper : (v : View) → Proper (v .entry) (does v)
   proper v = go (bad (v .lent)) (v .entry)
@@ -48,7 +52,8 @@ module _ (spi : ℕ) where
 
   -- the call as a whole, by its two checks
   module _ (t : Tables) where
-    applied-closes : applied spi closes t ≡ tables (set (t .ike) (placeOf ikeSpi spi (t .ike)) noIke) (map (released spi) (t .ipsec))
+    applied-closes : applied spi closes t ≡ tables (set (t .ike) (placeOf ikeSpi spi (t .ike)) noIke)
+        (map (released spi) (t .ipsec))
     unfolding applied
     applied-closes = refl
 

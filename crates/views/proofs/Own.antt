@@ -21,13 +21,15 @@ use Rattle.views.proofs.View.{place, found}
 follow-over : (k : ℕ) (p o : Pair) (x : IpsecRecord) → follows k p (follows k o x) ≡ follows k p x
 follow-over k p o x = go (eqb (x .spi) 0) refl (eqb (x .owner) k) refl
   where
-    go : (a : Bool) → eqb (x .spi) 0 ≡ a → (b : Bool) → eqb (x .owner) k ≡ b → follows k p (follows k o x) ≡ follows k p x
+    go : (a : Bool) → eqb (x .spi) 0 ≡ a → (b : Bool) → eqb (x .owner) k ≡ b
+        → follows k p (follows k o x) ≡ follows k p x
     go true e b f = simp e
     go false e true f = simp (e, f)
     go false e false f = simp (e, f)
 
 -- A record that keeps its SPI is the one meant after the change too.
-module _ (k : ℕ) (t : Tables) {r : IkeRecord} (seen : view k t .entry ≡ some r) (new : IkeRecord) (same : new .spi ≡ r .spi)
+module _ (k : ℕ) (t : Tables) {r : IkeRecord} (seen : view k t .entry ≡ some r) (new : IkeRecord)
+    (same : new .spi ≡ r .spi)
     (p : Option Pair) where
   place-own : place k (tables (set (t .ike) (place k t) new) (t .ipsec)) ≡ place k t
   place-own = store-same ikeSpi k (t .ike) (place k t) new noIke (same ∙ ap ikeSpi (sym (found k t seen .is)))
@@ -50,7 +52,8 @@ module _ (k : ℕ) (t : Tables) {r : IkeRecord} (seen : view k t .entry ≡ some
       → applied k (becomes last q) (applied k (becomes new p) t) ≡ applied k (becomes last (orElse q p)) t
   unfolding applied orElse
   applied-twice last q =
-      let both = map-map _ _ (t .ipsec) ∙ ap (λ (f : IpsecRecord → IpsecRecord). map f (t .ipsec)) (λ i x. go p q x i) in
+      let both =
+      map-map _ _ (t .ipsec) ∙ ap (λ (f : IpsecRecord → IpsecRecord). map f (t .ipsec)) (λ i x. go p q x i) in
       rw (place-own, set-set (t .ike) (place k t) new last) (ap (tables (set (t .ike) (place k t) last)) both)
     where
       go : (p q : Option Pair) (x : IpsecRecord)

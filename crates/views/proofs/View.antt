@@ -1,4 +1,5 @@
--- What a change of one SPI's record leaves alone: another SPI sees nothing of it, and changes of two SPIs may come in either order.
+-- What a change of one SPI's record leaves alone: another SPI sees nothing of it, and changes of two SPIs may come in
+-- either order.
 use Prim.Native.Nat.{ℕ, _<_}
 use mathlib.Core.Path.{_≡_, refl, sym, ap, _∙_}
 use mathlib.Core.Logic.{_⊎_, inl, inr, ⊎-elim}
@@ -53,7 +54,8 @@ module _ (k : ℕ) (x : IpsecRecord) where
 
   not-owned : (y : IpsecRecord) → Others x → cond (eqb (x .spi) 0) x (cond (eqb (x .owner) k) y x) ≡ x
   not-owned y (inl z) = rw (eq-eqb (x .spi) 0 z)
-  not-owned y (inr n) = chosen (λ (z : IpsecRecord). z ≡ x) (eqb (x .spi) 0) (λ e. refl) (λ e. rw (ne-eqb (x .owner) k n))
+  not-owned y (inr n) =
+      chosen (λ (z : IpsecRecord). z ≡ x) (eqb (x .spi) 0) (λ e. refl) (λ e. rw (ne-eqb (x .owner) k n))
 
   child-stays : (c : Change) → Others x → childAfter k c x ≡ x
   child-stays stays o = refl
@@ -65,8 +67,11 @@ module _ (k : ℕ) (x : IpsecRecord) where
   child-still stays = inr refl
   child-still (becomes r none) = inr refl
   child-still (becomes r (some p)) =
-      chosen Still (eqb (x .spi) 0) (λ e. inr refl) (λ e. chosen Still (eqb (x .owner) k) (λ e. inr refl) (λ e. inr refl))
-  child-still closes = chosen Still (eqb (x .spi) 0) (λ e. inr refl) (λ e. chosen Still (eqb (x .owner) k) (λ e. inl refl) (λ e. inr refl))
+      chosen Still (eqb (x .spi) 0) (λ e. inr refl)
+      (λ e. chosen Still (eqb (x .owner) k) (λ e. inr refl) (λ e. inr refl))
+  child-still closes =
+      chosen Still (eqb (x .spi) 0) (λ e. inr refl)
+      (λ e. chosen Still (eqb (x .owner) k) (λ e. inl refl) (λ e. inr refl))
 
 -- so changes of two owners' records may come in either order
 children-swap : (k l : ℕ) → (k ≡ l → ⊥) → (c d : Change) (x : IpsecRecord)
@@ -81,7 +86,8 @@ children-swap k l n c d x = go (ℕ-discrete (x .owner) k) (ℕ-discrete (x .own
     go (no o) f = rw (child-stays k x c (inr o)) (sym (child-stays k (childAfter l d x) c (other k l o d)))
     go (yes e) (no o) = rw (child-stays l x d (inr o)) (child-stays l (childAfter k c x) d (other l k o c))
 
-map-swap : {A : Type 0} (f g : A → A) → ((x : A) → g (f x) ≡ f (g x)) → (xs : List A) → map g (map f xs) ≡ map f (map g xs)
+map-swap : {A : Type 0} (f g : A → A) → ((x : A) → g (f x) ≡ f (g x)) → (xs : List A)
+    → map g (map f xs) ≡ map f (map g xs)
 map-swap {A} f g e xs = map-map g f xs ∙ ap (λ (h : A → A). map h xs) (λ i x. e x i) ∙ sym (map-map f g xs)
 
 -- a call that does nothing
@@ -96,7 +102,8 @@ module _ (k : ℕ) (t : Tables) (p : ℕ) (y : IkeRecord) (xs : List IpsecRecord
   place-unseen = store-other ikeSpi k y (t .ike) p noIke there before behind
 
   elsewhere : place k t ≡ p → ⊥
-  elsewhere e = before (ap (λ (i : ℕ). getD (t .ike) i noIke .spi) (sym e) ∙ place-has ikeSpi k (t .ike) noIke (rw e there))
+  elsewhere e =
+      before (ap (λ (i : ℕ). getD (t .ike) i noIke .spi) (sym e) ∙ place-has ikeSpi k (t .ike) noIke (rw e there))
 
   record-unseen : getD (set (t .ike) p y) (place k t) noIke ≡ getD (t .ike) (place k t) noIke
   record-unseen = getD-set-other (t .ike) p (place k t) y noIke elsewhere
@@ -126,11 +133,13 @@ module _ (k l : ℕ) (n : k ≡ l → ⊥) (named : l ≡ 0 → ⊥) (t : Tables
 
   view-beside : view l (applied k c t) ≡ view l t
   unfolding applied
-  view-beside = rw (entry-unseen l t (place k t) new children (m .there) before behind, length-map (t .ipsec) (childAfter k c))
+  view-beside =
+      rw (entry-unseen l t (place k t) new children (m .there) before behind, length-map (t .ipsec) (childAfter k c))
 
   -- and a change of l's record behind it
   store-beside : (d : Change) → applied l d (applied k c t)
-      ≡ tables (set (set (t .ike) (place k t) new) (place l t) (entryAfter d (getD (t .ike) (place l t) noIke))) (map (childAfter l d) children)
+      ≡ tables (set (set (t .ike) (place k t) new) (place l t) (entryAfter d (getD (t .ike) (place l t) noIke)))
+      (map (childAfter l d) children)
   unfolding applied
   store-beside d =
       rw (
@@ -144,7 +153,8 @@ unfolding applied
 zero-unseen k l z t c = rw (eq-eqb l 0 z, length-map (t .ipsec) (childAfter k c))
 
 -- Another SPI sees nothing of a change.
-pub unseen : (k l : ℕ) → (k ≡ l → ⊥) → (t : Tables) (c : Change) → Proper (view k t .entry) c → view l (applied k c t) ≡ view l t
+pub unseen : (k l : ℕ) → (k ≡ l → ⊥) → (t : Tables) (c : Change) → Proper (view k t .entry) c
+    → view l (applied k c t) ≡ view l t
 unseen k l n t c = go (view k t .entry) refl (ℕ-discrete l 0)
   where
     go : (o : Option IkeRecord) → view k t .entry ≡ o → Dec (l ≡ 0) → Proper o c → view l (applied k c t) ≡ view l t
@@ -153,18 +163,21 @@ unseen k l n t c = go (view k t .entry) refl (ℕ-discrete l 0)
     go (some r) e (no z) p = view-beside k l n z t (found k t e) c p
 
 -- Changes of two SPIs may come in either order.
-pub applied-swap : (k l : ℕ) → (k ≡ l → ⊥) → (t : Tables) (c d : Change) → Proper (view k t .entry) c → Proper (view l t .entry) d
+pub applied-swap : (k l : ℕ) → (k ≡ l → ⊥) → (t : Tables) (c d : Change) → Proper (view k t .entry) c
+    → Proper (view l t .entry) d
     → applied l d (applied k c t) ≡ applied k c (applied l d t)
 applied-swap k l n t c d = go (view k t .entry) refl (view l t .entry) refl
   where
-    go : (o : Option IkeRecord) → view k t .entry ≡ o → (u : Option IkeRecord) → view l t .entry ≡ u → Proper o c → Proper u d
+    go : (o : Option IkeRecord) → view k t .entry ≡ o → (u : Option IkeRecord) → view l t .entry ≡ u → Proper o c
+        → Proper u d
         → applied l d (applied k c t) ≡ applied k c (applied l d t)
     go none e u f p q = rw (p, applied-stays k t) (sym (applied-stays k (applied l d t)))
     go (some r) e none f p q = rw (q, applied-stays l t) (applied-stays l (applied k c t))
     go (some r) e (some s) f p q =
         let m = found k t e in
         let o = found l t f in
-        let differ : place k t ≡ place l t → ⊥ = λ i. n (sym (m .has) ∙ ap (λ (j : ℕ). getD (t .ike) j noIke .spi) i ∙ o .has) in
+        let differ : place k t ≡ place l t
+        → ⊥ = λ i. n (sym (m .has) ∙ ap (λ (j : ℕ). getD (t .ike) j noIke .spi) i ∙ o .has) in
         store-beside k l n (o .named) t m c p d
         ∙ (rw (
           set-comm (t .ike) (place k t) (place l t) _ _ differ,

@@ -5,12 +5,20 @@
 --     calls-both       a call whose contract fixes its result and says φ of the last values: the caller has what says them, and the tokens
 --     calls-to, calls-to-last      a call that returns nothing, and whose contract says φ of the last values: the caller has what says them, and the tokens; the latter ends a block
 --     Token, token, no-token       the tokens of one lifetime, put together and taken apart.        list-last, ref-last      after a call that a `&mut [T]` or a `&mut T` went to for good: what says its last value, and its token
+--     given-shr, given-mut         what a function is given by its first parameter, a shared or a mutable reference or
+--                      slice, and its token
 --     spares           what one of some arguments owns is had once more: of the first, which is Copy (`spare-first`), or of one behind the first (`spare-next`)
 --     _&_              a long tuple in a row.        copied           a local is read, entry n of the context.        ends-local       a local is freed, whatever it holds.        says4       the four facts that four `ensures` state are shown
 -- Assumes `Given`, and that the table of calls is monotone under a frame.
-use Rattle.walks.proofs.Kit.{_≡_, refl, ap, sym, subst, _∙_, ℕ, zero, suc, List, [], _∷_, URA, fullShare, Name, Place, Body, Ty, seq, call, copy, place, Val, vunit, SProp, ent, sep, emp, id⊢, via, Lft, Share, Fml, ftrue, flft, fsep, fat, fdies, Heap, Env, Calls, Loops, spotOf, Atoms, FmC}
-use Rattle.walks.proofs.Kit.{Lfts, Shares, fact, Goal, Soaks, Post, Given, Item, ‵, raw, _⊛_, some, later, prop, runs, lands, frees, Seq, Step, step, _$_, move, use0, use1, split, join, pick, drop, fsplit, fjoin, feqL, await, Opds, look, stop, from, load, forget, free1, RattleType, Denots}
-use Rattle.walks.proofs.Kit.{Valss, owns, Is, Are, Ises, Makess, Tells, shows, typeAt, typesAt, facts, peeks, heard, only, Res, Contract, Triple, calls-at, calls-at-last, tripleOf, Clauses, Ended, Lasts, atExit, lasts, closing}
+use Rattle.walks.proofs.Kit.{_≡_, refl, ap, sym, subst, _∙_, ℕ, zero, suc, List, [], _∷_, URA, fullShare, Name}
+use Rattle.walks.proofs.Kit.{Place, Body, Ty, seq, call, copy, place, Val, vunit, SProp, ent, sep, emp, id⊢, via}
+use Rattle.walks.proofs.Kit.{Lft, Share, Fml, ftrue, flft, fsep, fat, fdies, Heap, Env, Calls, Loops, spotOf}
+use Rattle.walks.proofs.Kit.{Atoms, FmC, Lfts, Shares, fact, Goal, Soaks, Post, Given, Item, ‵, raw, _⊛_, some}
+use Rattle.walks.proofs.Kit.{later, prop, runs, lands, frees, Seq, Step, step, _$_, move, use0, use1, split}
+use Rattle.walks.proofs.Kit.{join, pick, drop, fsplit, fsplit3, fjoin, feqL, await, Opds, look, stop, from, load}
+use Rattle.walks.proofs.Kit.{forget, free1, RattleType, Denots, Valss, owns, Is, Are, Ises, Makess, Tells, shows}
+use Rattle.walks.proofs.Kit.{typeAt, typesAt, facts, peeks, heard, only, Res, Contract, Triple, calls-at}
+use Rattle.walks.proofs.Kit.{calls-at-last, tripleOf, Clauses, Ended, Lasts, atExit, lasts, closing, T}
 use mir.Syntax.{Opd as Operand}
 use base.Logic.{monoL, monoR, comm∗, assoc∗, assoc′, emp∗}
 use ghost.Atoms.{sem}
@@ -118,6 +126,17 @@ module _ {M : Type 1} {𝓤 : URA M} {H : Heap 𝓤} {A : Atoms 𝓤} {K : Type 
 
     pub ref-last : {F P : Fml} → Step K W (‵ F ∷ ‵ (flft κ q) ∷ Γ) G (‵ (fsep F P) ∷ Token 𝓤 κ q ∷ Γ) G
     ref-last = step (λ s. fsplit t $ move t (1 ∷ []) $ drop t $ move t (1 ∷ []) $ no-token t $ move t (1 ∷ []) $ s)
+
+    -- what a function is given by its first parameter, and the token: by a `&κ T` or a `&κ [T]`, and by a `&κ mut T` or
+    -- a `&κ mut [T]`
+    pub given-shr : {X Y Z P : Fml} → Step K W (‵ Z ∷ ‵ (flft κ q) ∷ Γ) G (Token 𝓤 κ q ∷ ‵ (fsep (fsep X (fsep Y Z)) P)
+        ∷ Γ) G
+    given-shr = step (λ s. no-token t $ move t (1 ∷ []) $ fsplit t $ fsplit3 t $ drop t $ drop t $ move t (1 ∷ []) $
+        drop t $ s)
+
+    pub given-mut : {X Y Z P : Fml} → Step K W (‵ Y ∷ ‵ Z ∷ ‵ (flft κ q) ∷ Γ) G (Token 𝓤 κ q
+        ∷ ‵ (fsep (fsep X (fsep Y Z)) P) ∷ Γ) G
+    given-mut = step (λ s. no-token t $ move t (1 ∷ []) $ fsplit t $ fsplit3 t $ drop t $ move t (2 ∷ []) $ drop t $ s)
 
     pub gives : (Rs : List RattleType) (mk : Makess 𝓤 H A Rs (Ises Rs)) (a : Denots Rs) (vss : Valss Rs) (are : Are Rs (Ises Rs) a vss) {F : Fml} → Step K W (Token 𝓤 κ q ∷ ‵ (fsep F (owns Rs a vss)) ∷ Γ) G (‵ F ∷ ‵ (flft κ q) ∷ Γ) G
     gives Rs mk a vss are = step (λ s. beside t Rs mk a vss are $ move t (1 ∷ []) $ token t $ s)

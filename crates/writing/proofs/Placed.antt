@@ -7,6 +7,7 @@ use native.Mathlib.Nat.{add-zero, add-assoc, zero-add}
 use native.Mathlib.Omega.{arith}
 use lib.ListN.{length, take, drop, set, getD, length-append, length-drop, take-append-drop}
 use lib.Seq.{paste, paste-suc, length-take-le, take-all, take-length, take-at, drop-at, drop-drop}
+use Rattle.octets.specs.Limits.{notifyHeader}
 use Rattle.writing.specs.Notify.{placed, notifyOctets}
 
 pub placed-none : (out : List ℕ) (at : ℕ) → placed out at [] ≡ out
@@ -39,16 +40,19 @@ placed-more out at a b fits =
     (simp (drop-drop, append-assoc, length-append, add-assoc))
 
 -- The library's `paste` is how far a loop has come: so many octets are placed, at its end all.
-pub paste-some : (out : List ℕ) (at : ℕ) (octets : List ℕ) (n : ℕ) → n ≤ length octets → paste out at octets n ≡ placed out at (take n octets)
+pub paste-some : (out : List ℕ) (at : ℕ) (octets : List ℕ) (n : ℕ) → n ≤ length octets
+    → paste out at octets n ≡ placed out at (take n octets)
 unfolding placed
 paste-some out at octets n h = rw (length-take-le n octets h) (append-assoc (take at out) (take n octets) _)
 
 pub paste-all : (out : List ℕ) (at : ℕ) (octets : List ℕ) → paste out at octets (length octets) ≡ placed out at octets
-paste-all out at octets = paste-some out at octets (length octets) (omega arith) ∙ ap (placed out at) (take-length octets)
+paste-all out at octets =
+    paste-some out at octets (length octets) (omega arith) ∙ ap (placed out at) (take-length octets)
 
-pub length-notify : (next number : ℕ) (octets : List ℕ) → length (notifyOctets next number octets) ≡ 8 + length octets
+pub length-notify : (next notifyType : ℕ) (octets : List ℕ)
+    → length (notifyOctets next notifyType octets) ≡ notifyHeader + length octets
 unfolding notifyOctets
-length-notify next number octets = omega arith
+length-notify next notifyType octets = omega arith
 
 -- Two parts written one behind the other are the two written as one: `mid` and `end` are what was left after each.
 pub placed-then : (out mid end : List ℕ) (at next : ℕ) (a b : List ℕ) → at + (length a + length b) ≤ length out
@@ -56,22 +60,33 @@ pub placed-then : (out mid end : List ℕ) (at next : ℕ) (a b : List ℕ) → 
 placed-then out mid end at next a b fits m n e = rw (e, m, n) (placed-more out at a b fits)
 
 -- Four octets more, each stored behind the last.
-pub paste-four : (out : List ℕ) (at : ℕ) (octets : List ℕ) (i : ℕ) → at + length octets ≤ length out → i + 4 ≤ length octets
-    → set (set (set (set (paste out at octets i) (at + i) (getD octets i 0)) (at + i + 1) (getD octets (i + 1) 0)) (at + i + 2) (getD octets (i + 2) 0)) (at + i + 3) (getD octets (i + 3) 0)
-    ≡ paste out at octets (i + 4)
+pub paste-four : (out : List ℕ) (at : ℕ) (octets : List ℕ) (i : ℕ) → at + length octets ≤ length out
+    → i + 4 ≤ length octets
+    → let one = set (paste out at octets i) (at + i) (getD octets i 0) in
+    let two = set one (at + i + 1) (getD octets (i + 1) 0) in
+    let three = set two (at + i + 2) (getD octets (i + 2) 0) in
+    set three (at + i + 3) (getD octets (i + 3) 0) ≡ paste out at octets (i + 4)
 paste-four out at octets i fits more =
-    rw (one i (i + 1) (at + i) (omega arith) (omega arith) (omega arith), one (i + 1) (i + 2) (at + i + 1) (omega arith) (omega arith) (omega arith), one (i + 2) (i + 3) (at + i + 2) (omega arith) (omega arith) (omega arith))
+    rw (
+      one i (i + 1) (at + i) (omega arith) (omega arith) (omega arith),
+      one (i + 1) (i + 2) (at + i + 1) (omega arith) (omega arith) (omega arith),
+      one (i + 2) (i + 3) (at + i + 2) (omega arith) (omega arith) (omega arith),
+    )
     (one (i + 3) (i + 4) (at + i + 3) (omega arith) (omega arith) (omega arith))
   where
-    one : (j k place : ℕ) → j < length octets → place ≡ at + j → k ≡ suc j → set (paste out at octets j) place (getD octets j 0) ≡ paste out at octets k
-    one j k place h p q = rw (p, q) (paste-suc out at octets j 0 (omega arith) h)
+    one : (j k to : ℕ) → j < length octets → to ≡ at + j → k ≡ suc j
+        → set (paste out at octets j) to (getD octets j 0) ≡ paste out at octets k
+    one j k to h p q = rw (p, q) (paste-suc out at octets j 0 (omega arith) h)
 
 -- The first n octets and then the rest, as the part behind them, are all.
-pub placed-rest : (out mid end : List ℕ) (at : ℕ) (octets : List ℕ) (n : ℕ) → at + length octets ≤ length out → n ≤ length octets
-    → mid ≡ placed out at (take n octets) → end ≡ placed mid (at + n) (take (length octets - n) (drop n octets)) → end ≡ placed out at octets
+pub placed-rest : (out mid end : List ℕ) (at : ℕ) (octets : List ℕ) (n : ℕ) → at + length octets ≤ length out
+    → n ≤ length octets
+    → mid ≡ placed out at (take n octets) → end ≡ placed mid (at + n) (take (length octets - n) (drop n octets))
+    → end ≡ placed out at octets
 placed-rest out mid end at octets n fits h m e =
     let front = length-take-le n octets h in
     let behind = length-drop n octets in
     let rest = take-all (length octets - n) (drop n octets) (omega (arith, behind)) in
-    placed-then out mid end at (at + n) (take n octets) (drop n octets) (omega (arith, front, behind)) m (omega (arith, front)) (rw (← rest) e)
+    placed-then out mid end at (at + n) (take n octets) (drop n octets) (omega (arith, front, behind)) m
+    (omega (arith, front)) (rw (← rest) e)
     ∙ ap (placed out at) (take-append-drop n octets)

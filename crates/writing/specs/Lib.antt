@@ -1,1 +1,3 @@
 pub mod Notify
+pub mod Parts
+pub mod Wrote

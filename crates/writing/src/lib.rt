@@ -1,12 +1,13 @@
-// Writing payloads: octets copied to a place of a buffer, and a Notify payload laid out there.
-
+// Writing payloads: octets copied into a buffer from an offset on, and a Notify payload laid out there.
+use octets::limits::NOTIFY_HEADER;
 ghost use mathlib.Core.Path.{_≡_};
 ghost use Prim.Native.Nat.{_+_, _≤_};
 ghost use lib.ListN.{length, take};
+ghost use Rattle.octets.specs.Limits.{notifyHeader, cookieMost};
 ghost use Rattle.writing.specs.Notify.{placed, notifyOctets};
 
-// Copies octets four at a time, as far as that goes, and returns how many: each four are read before they are written, so that the
-// compiler moves them as one word.
+// Copies octets four at a time, as far as that goes, and returns how many: each four are read before they are written,
+// so that the compiler moves them as one word.
 fn copy_fours(out: &mut [u8], at: usize, octets: &[u8]) -> usize
     requires { ⌜ at + length (now octets) ≤ length (now out) ⌝ }
     ensures { λ r. ⌜ r ≤ length (now (octets .entry)) ⌝ }
@@ -49,15 +50,16 @@ pub fn copy_octets(out: &mut [u8], at: usize, octets: &[u8])
     copy_each(out, at + n, &octets[n..]);
 }
 
-// Writes a Notify payload with no SPI at `at`, and returns the place after it, where the next payload goes. `next` is
-// that payload's type, 0 where there is none. The longest data, a COOKIE2's, is 64 octets, so the length fits its field.
-pub fn put_notify(out: &mut [u8], at: usize, next: u8, number: u16, octets: &[u8]) -> usize
-    requires { ⌜ at + 8 + length (now octets) ≤ length (now out) ⌝ }
-    requires { ⌜ length (now octets) ≤ 64 ⌝ }
-    ensures { λ r. ⌜ r ≡ at + 8 + length (now (octets .entry)) ⌝ }
-    ensures { λ _. ⌜ now (out .exit) ≡ placed (now (out .entry)) at (notifyOctets next number (now (octets .entry))) ⌝ }
+// Writes a Notify payload with no SPI at `at`, and returns the offset after it, where the next payload goes. `next` is
+// that payload's type, 0 where there is none. The longest data is a COOKIE2's, so the length fits its field.
+pub fn put_notify(out: &mut [u8], at: usize, next: u8, notify_type: u16, octets: &[u8]) -> usize
+    requires { ⌜ at + notifyHeader + length (now octets) ≤ length (now out) ⌝ }
+    requires { ⌜ length (now octets) ≤ cookieMost ⌝ }
+    ensures { λ r. ⌜ r ≡ at + notifyHeader + length (now (octets .entry)) ⌝ }
+    ensures { λ _. ⌜ now (out .exit)
+        ≡ placed (now (out .entry)) at (notifyOctets next «notify_type» (now (octets .entry))) ⌝ }
 {
-    let size = 8 + octets.len();
+    let size = NOTIFY_HEADER + octets.len();
     let flags = 0;
     let protocol = 0;
     let spi_size = 0;
@@ -68,10 +70,10 @@ pub fn put_notify(out: &mut [u8], at: usize, next: u8, number: u16, octets: &[u8
         (size % 256) as u8,
         protocol,
         spi_size,
-        (number / 256) as u8,
-        (number % 256) as u8,
+        (notify_type / 256) as u8,
+        (notify_type % 256) as u8,
     ];
     copy_octets(out, at, &header);
-    copy_octets(out, at + 8, octets);
+    copy_octets(out, at + NOTIFY_HEADER, octets);
     at + size
 }

@@ -1,5 +1,6 @@
 //! The tables and the policy of one gateway, owned together.
 use crate::layout::{IkeRecord, IpsecRecord, Opening, Pair, Policy, Reply, Rule};
+use crate::limits::{IKE_PLACES, IPSEC_PLACES, RULES_MOST};
 use crate::{Number, Request};
 
 /// A gateway's tables and policy, empty at first. A host that keeps them elsewhere lends them to the
@@ -7,9 +8,9 @@ use crate::{Number, Request};
 #[derive(Debug, Clone, PartialEq, Eq)]
 pub struct Gateway {
     /// The IKE records.
-    pub ike: Box<[IkeRecord; 32]>,
+    pub ike: Box<[IkeRecord; IKE_PLACES]>,
     /// The IPsec records.
-    pub ipsec: Box<[IpsecRecord; 128]>,
+    pub ipsec: Box<[IpsecRecord; IPSEC_PLACES]>,
     /// The address policy.
     pub policy: Policy,
 }
@@ -18,8 +19,8 @@ impl Gateway {
     /// Empty tables and the empty policy, which accepts nothing.
     pub fn new() -> Self {
         Gateway {
-            ike: Box::new([IkeRecord::FREE; 32]),
-            ipsec: Box::new([IpsecRecord::FREE; 128]),
+            ike: Box::new([IkeRecord::FREE; IKE_PLACES]),
+            ipsec: Box::new([IpsecRecord::FREE; IPSEC_PLACES]),
             policy: Policy::EMPTY,
         }
     }
@@ -44,10 +45,11 @@ impl Gateway {
         crate::close_ipsec(&mut self.ipsec[..], spi)
     }
 
-    /// As [`set_policy`](crate::set_policy), with all of these rules; over 16 of them are refused there.
+    /// As [`set_policy`](crate::set_policy), with all of these rules; over [`RULES_MOST`] of them are refused
+    /// there.
     pub fn set_policy(&mut self, rules: &[Rule]) -> Number {
         let count = u16::try_from(rules.len()).unwrap_or(u16::MAX);
-        let mut places = [Rule::NONE; 16];
+        let mut places = [Rule::NONE; RULES_MOST];
         for (place, rule) in places.iter_mut().zip(rules) {
             *place = *rule;
         }

@@ -1,5 +1,6 @@
 //! The initiator's end: writing a request, and judging the response to it.
 use crate::layout::{Address, AddressList, Ask, Assessment, Pair, Written};
+use crate::limits::ADDRESSES_MOST;
 use crate::{cookie, raw, Number, Outcome};
 
 /// A request to write. What isn't asked for isn't looked at; the default asks for nothing.
@@ -10,17 +11,17 @@ pub struct Draft<'a> {
     /// The pair for NO_NATS_ALLOWED.
     pub pair: Pair,
     /// The additional addresses, of which the first [`Ask::count`] are written.
-    pub addresses: [Address; 16],
-    /// The data of NAT_DETECTION_SOURCE_IP, of 20 octets.
+    pub addresses: [Address; ADDRESSES_MOST],
+    /// The data of NAT_DETECTION_SOURCE_IP, of [`NAT_OCTETS`](crate::limits::NAT_OCTETS).
     pub nat_source: &'a [u8],
-    /// The data of NAT_DETECTION_DESTINATION_IP, of 20 octets.
+    /// The data of NAT_DETECTION_DESTINATION_IP, of as many.
     pub nat_destination: &'a [u8],
     /// The cookie for the return routability check: 8 to 64 octets, or empty for none.
     pub cookie: &'a [u8],
 }
 
-/// Writes a request to the start of `out`, which must have 564 octets whatever is asked for; the octets
-/// past the length stay as they were.
+/// Writes a request to the start of `out`, which must have [`REQUEST_ROOM`](crate::limits::REQUEST_ROOM)
+/// octets whatever is asked for; the octets past the length stay as they were.
 ///
 /// Numbers, in the order of the checks: [`BadArgument`](Number::BadArgument) for something bad among
 /// what is asked for, [`OutputTooShort`](Number::OutputTooShort), [`Done`](Number::Done). A refusal
@@ -58,7 +59,7 @@ pub fn write(draft: &Draft<'_>, out: &mut [u8]) -> Written {
 #[inline]
 pub fn assess(sent: &[u8], first: u8, body: &[u8]) -> Assessment {
     // SAFETY: each start and length are those of a slice that outlives the call.
-    unsafe { raw::unmavreth_response(sent.as_ptr(), sent.len(), first, body.as_ptr(), body.len()) }
+    unsafe { raw::unmavreth_assess(sent.as_ptr(), sent.len(), first, body.as_ptr(), body.len()) }
 }
 
 impl Written {

@@ -14,6 +14,7 @@
 //! A whole exchange, from the initiator's update to what it makes of the response:
 //!
 //! ```
+//! use unmavreth::limits::{NAT_OCTETS, REQUEST_ROOM, RESPONSE_ROOM};
 //! use unmavreth::{assess, write, Agreed, Ask, Draft, Effect, Gateway, Number, Opening, Outcome, Pair};
 //! use unmavreth::{Request, Rule};
 //!
@@ -29,7 +30,7 @@
 //! // The initiator's end writes an update, with a cookie for the return routability check.
 //! let ask = Ask { update: true, ..Ask::default() };
 //! let sent = [1, 2, 3, 4, 5, 6, 7, 8];
-//! let mut out = [0; 564];
+//! let mut out = [0; REQUEST_ROOM];
 //! let written = write(&Draft { ask, cookie: &sent, ..Draft::default() }, &mut out);
 //! assert_eq!((written.number(), written.length()), (Number::Done, 24));
 //!
@@ -39,12 +40,12 @@
 //!     spi: 7,
 //!     id: 0,
 //!     pair: new,
-//!     nat_source: &[0; 20],
-//!     nat_destination: &[0; 20],
+//!     nat_source: &[0; NAT_OCTETS],
+//!     nat_destination: &[0; NAT_OCTETS],
 //!     first: written.first(),
 //!     body: written.body(&out),
 //! };
-//! let mut answer = [0; 128];
+//! let mut answer = [0; RESPONSE_ROOM];
 //! let reply = gateway.handle(&request, &mut answer);
 //! assert_eq!((reply.number(), reply.update()), (Number::Done, Effect::Applied));
 //! assert_eq!(reply.cookie(request.body), sent);
@@ -61,6 +62,7 @@
 mod gateway;
 mod initiator;
 mod layout;
+pub mod limits;
 mod numbers;
 mod policy;
 mod raw;

@@ -29,7 +29,7 @@ pub enum Number {
     /// 11: the SPI is in use in that table.
     SpiInUse,
     /// 12: a policy of over 16 rules, or a prefix that is too long.
-    PolicyTooLong,
+    BadPolicy,
     /// A number that no call gives.
     Other(u8),
 }
@@ -56,7 +56,7 @@ impl From<u8> for Number {
             9 => Number::NotAcceptable,
             10 => Number::Full,
             11 => Number::SpiInUse,
-            12 => Number::PolicyTooLong,
+            12 => Number::BadPolicy,
             other => Number::Other(other),
         }
     }
@@ -77,7 +77,7 @@ impl From<Number> for u8 {
             Number::NotAcceptable => 9,
             Number::Full => 10,
             Number::SpiInUse => 11,
-            Number::PolicyTooLong => 12,
+            Number::BadPolicy => 12,
             Number::Other(other) => other,
         }
     }

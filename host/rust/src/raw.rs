@@ -4,62 +4,72 @@ use crate::layout::{
     AddressList, Ask, Assessment, IkeRecord, IpsecRecord, Opening, Pair, Part, Places, Policy,
     Reading, Reply, Rule, Written,
 };
+use crate::limits::{IKE_PLACES, RULES_MOST};
 
 extern "C" {
-    pub(crate) fn unmavreth_read(first: u8, body: *const u8, octets: usize) -> Reading;
+    pub(crate) fn unmavreth_read(first: u8, body: *const u8, body_size: usize) -> Reading;
 
     /// `*out` must hold a valid part on entry.
     pub(crate) fn unmavreth_cookie(
         out: *mut Part,
         body: *const u8,
-        octets: usize,
+        body_size: usize,
         cookie: u16,
         cookie_len: u16,
     );
 
     /// `*out` must hold a valid part on entry.
-    pub(crate) fn unmavreth_nat_value(out: *mut Part, body: *const u8, octets: usize, place: u16);
+    pub(crate) fn unmavreth_nat_value(
+        out: *mut Part,
+        body: *const u8,
+        body_size: usize,
+        place: u16,
+    );
 
     pub(crate) fn unmavreth_no_nats(
         body: *const u8,
-        octets: usize,
+        body_size: usize,
         no_nats: u16,
         no_nats_len: u16,
     ) -> Pair;
 
-    pub(crate) fn unmavreth_addresses(body: *const u8, octets: usize, list: Places) -> AddressList;
+    pub(crate) fn unmavreth_addresses(
+        body: *const u8,
+        body_size: usize,
+        list: Places,
+    ) -> AddressList;
 
-    pub(crate) fn unmavreth_response(
+    pub(crate) fn unmavreth_assess(
         sent: *const u8,
-        sent_octets: usize,
+        sent_size: usize,
         first: u8,
         body: *const u8,
-        octets: usize,
+        body_size: usize,
     ) -> Assessment;
 
     pub(crate) fn unmavreth_write(
         ask: Ask,
         pair: Pair,
         addresses: AddressList,
-        source: *const u8,
-        source_octets: usize,
-        destination: *const u8,
-        destination_octets: usize,
+        nat_source: *const u8,
+        nat_source_size: usize,
+        nat_destination: *const u8,
+        nat_destination_size: usize,
         cookie: *const u8,
-        cookie_octets: usize,
+        cookie_size: usize,
         out: *mut u8,
-        out_octets: usize,
+        out_size: usize,
     ) -> Written;
 
     pub(crate) fn unmavreth_open(
-        ike: *mut [IkeRecord; 32],
+        ike: *mut [IkeRecord; IKE_PLACES],
         ipsec: *mut IpsecRecord,
         records: usize,
         opening: Opening,
     ) -> u8;
 
     pub(crate) fn unmavreth_open_ipsec(
-        ike: *const [IkeRecord; 32],
+        ike: *const [IkeRecord; IKE_PLACES],
         ipsec: *mut IpsecRecord,
         records: usize,
         spi: u32,
@@ -67,7 +77,7 @@ extern "C" {
     ) -> u8;
 
     pub(crate) fn unmavreth_close_ike(
-        ike: *mut [IkeRecord; 32],
+        ike: *mut [IkeRecord; IKE_PLACES],
         ipsec: *mut IpsecRecord,
         records: usize,
         spi: u64,
@@ -78,28 +88,28 @@ extern "C" {
     pub(crate) fn unmavreth_set_policy(
         policy: *mut Policy,
         count: u16,
-        rules: *const [Rule; 16],
+        rules: *const [Rule; RULES_MOST],
     ) -> u8;
 
     /// A `bool` in C, taken as the octet that it is.
     pub(crate) fn unmavreth_acceptable(policy: *const Policy, pair: Pair) -> u8;
 
-    pub(crate) fn unmavreth_request(
-        ike: *mut [IkeRecord; 32],
+    pub(crate) fn unmavreth_handle(
+        ike: *mut [IkeRecord; IKE_PLACES],
         ipsec: *mut IpsecRecord,
         records: usize,
         policy: *const Policy,
         spi: u64,
         id: u32,
         pair: Pair,
-        source: *const u8,
-        source_octets: usize,
-        destination: *const u8,
-        destination_octets: usize,
+        nat_source: *const u8,
+        nat_source_size: usize,
+        nat_destination: *const u8,
+        nat_destination_size: usize,
         first: u8,
         body: *const u8,
-        octets: usize,
+        body_size: usize,
         out: *mut u8,
-        out_octets: usize,
+        out_size: usize,
     ) -> Reply;
 }

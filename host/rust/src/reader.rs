@@ -1,5 +1,6 @@
 //! Reading a payload chain, and the values that a reading hands out.
 use crate::layout::{Address, Pair, Part, Reading, Seen};
+use crate::limits::ADDRESSES_MOST;
 use crate::{raw, Number};
 
 /// Reads any octets as a payload chain whose first payload has the type `first`.
@@ -50,10 +51,10 @@ pub fn no_nats(body: &[u8], seen: &Seen) -> Pair {
     unsafe { raw::unmavreth_no_nats(body.as_ptr(), body.len(), seen.no_nats, seen.no_nats_len) }
 }
 
-/// The first 16 additional addresses, from the body that was read and what was seen in it; zeros past
+/// The first [`ADDRESSES_MOST`] additional addresses, from the body that was read and what was seen in it; zeros past
 /// the last.
 #[inline]
-pub fn addresses(body: &[u8], seen: &Seen) -> [Address; 16] {
+pub fn addresses(body: &[u8], seen: &Seen) -> [Address; ADDRESSES_MOST] {
     // SAFETY: as in `no_nats`.
     unsafe { raw::unmavreth_addresses(body.as_ptr(), body.len(), seen.list) }.list
 }

@@ -1,5 +1,6 @@
 //! The table calls, on lent tables that are changed in place.
 use crate::layout::{IkeRecord, IpsecRecord, Opening};
+use crate::limits::IKE_PLACES;
 use crate::{raw, Number};
 
 /// Opens an IKE record and its first IPsec record: both, each at the lowest free place of its table, or
@@ -11,7 +12,11 @@ use crate::{raw, Number};
 /// IKE record, then for the IPsec record; [`Full`](Number::Full) likewise; [`Done`](Number::Done). A
 /// refusal leaves both tables.
 #[inline]
-pub fn open(ike: &mut [IkeRecord; 32], ipsec: &mut [IpsecRecord], opening: &Opening) -> Number {
+pub fn open(
+    ike: &mut [IkeRecord; IKE_PLACES],
+    ipsec: &mut [IpsecRecord],
+    opening: &Opening,
+) -> Number {
     // SAFETY: both tables are lent for the call and to nothing else, the count is that of the slice, and
     // the opening goes by value; any may be given.
     unsafe { raw::unmavreth_open(ike, ipsec.as_mut_ptr(), ipsec.len(), *opening) }.into()
@@ -25,7 +30,7 @@ pub fn open(ike: &mut [IkeRecord; 32], ipsec: &mut [IpsecRecord], opening: &Open
 /// the list.
 #[inline]
 pub fn open_ipsec(
-    ike: &[IkeRecord; 32],
+    ike: &[IkeRecord; IKE_PLACES],
     ipsec: &mut [IpsecRecord],
     spi: u32,
     owner: u64,
@@ -41,7 +46,7 @@ pub fn open_ipsec(
 /// records or an SPI of 0, [`NoSuchRecord`](Number::NoSuchRecord), [`Done`](Number::Done). A refusal
 /// leaves both tables.
 #[inline]
-pub fn close_ike(ike: &mut [IkeRecord; 32], ipsec: &mut [IpsecRecord], spi: u64) -> Number {
+pub fn close_ike(ike: &mut [IkeRecord; IKE_PLACES], ipsec: &mut [IpsecRecord], spi: u64) -> Number {
     // SAFETY: as in `open_ipsec`.
     unsafe { raw::unmavreth_close_ike(ike, ipsec.as_mut_ptr(), ipsec.len(), spi) }.into()
 }

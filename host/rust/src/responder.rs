@@ -1,5 +1,6 @@
 //! The responder's end: one INFORMATIONAL request is checked, decided, applied and answered.
 use crate::layout::{IkeRecord, IpsecRecord, Pair, Policy, Reply};
+use crate::limits::IKE_PLACES;
 use crate::{cookie, raw, Effect, Number};
 
 /// A request as it came: authenticated, decrypted, and within the message window.
@@ -11,9 +12,10 @@ pub struct Request<'a> {
     pub id: u32,
     /// The addresses and ports of the packet.
     pub pair: Pair,
-    /// The NAT detection value of the response's source, of 20 octets.
+    /// The NAT detection value of the response's source, of
+    /// [`NAT_OCTETS`](crate::limits::NAT_OCTETS).
     pub nat_source: &'a [u8],
-    /// The NAT detection value of the response's destination, of 20 octets.
+    /// The NAT detection value of the response's destination, of as many.
     pub nat_destination: &'a [u8],
     /// The type of the first payload.
     pub first: u8,
@@ -36,7 +38,7 @@ pub struct Request<'a> {
 /// shows a changed mapping.
 #[inline]
 pub fn handle(
-    ike: &mut [IkeRecord; 32],
+    ike: &mut [IkeRecord; IKE_PLACES],
     ipsec: &mut [IpsecRecord],
     policy: &Policy,
     request: &Request<'_>,
@@ -45,7 +47,7 @@ pub fn handle(
     // SAFETY: each start and count are those of a slice or an array that is lent for the call, what is
     // written to nothing else; the rest goes by value, and any may be given.
     unsafe {
-        raw::unmavreth_request(
+        raw::unmavreth_handle(
             ike,
             ipsec.as_mut_ptr(),
             ipsec.len(),

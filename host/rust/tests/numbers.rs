@@ -205,10 +205,10 @@ fn setting_a_policy() {
     let mut policy = gateway().policy;
     let before = policy;
     let mut rules = [RULE; 16];
-    assert_eq!(set_policy(&mut policy, 17, &rules), Number::PolicyTooLong);
-    assert_eq!(set_policy(&mut policy, u16::MAX, &rules), Number::PolicyTooLong);
+    assert_eq!(set_policy(&mut policy, 17, &rules), Number::BadPolicy);
+    assert_eq!(set_policy(&mut policy, u16::MAX, &rules), Number::BadPolicy);
     rules[2].source_len = 33;
-    assert_eq!(set_policy(&mut policy, 16, &rules), Number::PolicyTooLong);
+    assert_eq!(set_policy(&mut policy, 16, &rules), Number::BadPolicy);
     rules[3].family = 5;
     assert_eq!(set_policy(&mut policy, 16, &rules), Number::BadArgument);
     assert_eq!(policy, before);
@@ -220,8 +220,8 @@ fn setting_a_policy() {
 #[test]
 fn setting_a_policy_from_a_list() {
     let mut gateway = gateway();
-    assert_eq!(gateway.set_policy(&[Rule::NONE; 17]), Number::PolicyTooLong);
-    assert_eq!(gateway.set_policy(&vec![RULE; 65552]), Number::PolicyTooLong);
+    assert_eq!(gateway.set_policy(&[Rule::NONE; 17]), Number::BadPolicy);
+    assert_eq!(gateway.set_policy(&vec![RULE; 65552]), Number::BadPolicy);
     assert_eq!(gateway.set_policy(&[Rule::NONE]), Number::BadArgument);
     assert!(gateway.acceptable(&NEW) && !gateway.acceptable(&OLD));
     assert_eq!(gateway.set_policy(&[]), Number::Done);

@@ -8,15 +8,17 @@ use mathlib.Core.List.{_++_}
 use borrow.Author.Needs.{needs}
 use native.Mathlib.Omega.{arith}
 use lib.ListN.{replicate}
+use Rattle.octets.specs.Limits.{addressOctets}
 use Rattle.octets.proofs.Pad.{copied, turn-in, turn-past, copied-all}
 use Rattle.octets.proofs.padded_to_16.Statement.{statement}
 use Rattle.octets.proofs.padded_to_16.Tie as tie
 
 abbrev Inv-loop : tie.InvT-loop
-Inv-loop s out₀ i₀ out i = (i ≤ 16) × (out ≡ copied 0 (s ++ replicate 16 0) 16 i)
+Inv-loop octets out₀ i₀ out i =
+    (i ≤ addressOctets) × (out ≡ copied 0 (octets ++ replicate addressOctets 0) addressOctets i)
 
 abbrev μ-loop : tie.MeasureT-loop
-μ-loop s out₀ i₀ out i = 16 - i
+μ-loop octets out₀ i₀ out i = addressOctets - i
 
 loop-holds : tie.Need-loop-holds Inv-loop μ-loop
 loop-holds c = (search needs, refl)
@@ -35,18 +37,19 @@ loop-less c = search needs
 
 loop-again : tie.Need-loop-again Inv-loop μ-loop
 loop-again c =
-    let s = c .before .before .before .args .s .now in
+    let octets = c .before .before .before .args .octets .now in
     let i = c .before .before .loop .i in
+    let out = c .before .before .loop .out in
     let turn = c .before .before .loop .inv .1 in (
       omega arith,
       ⊎-elim
-          (λ w. w .2 ∙ turn-in 0 s (c .before .before .loop .out) 16 i (c .before .loop-test .taken) turn (w .0 .taken))
-          (λ w. w .1 ∙ turn-past 0 s (c .before .before .loop .out) 16 i (c .before .loop-test .taken) turn (w .0 .left))
+          (λ w. w .2 ∙ turn-in 0 octets out addressOctets i (c .before .loop-test .taken) turn (w .0 .taken))
+          (λ w. w .1 ∙ turn-past 0 octets out addressOctets i (c .before .loop-test .taken) turn (w .0 .left))
           (c .if1 .came),
     )
 
 returns : tie.Need-returns Inv-loop μ-loop
-returns c = c .before .loop .inv .1 ∙ copied-all 0 _ 16 (c .before .loop .i) (omega arith)
+returns c = c .before .loop .inv .1 ∙ copied-all 0 _ addressOctets (c .before .loop .i) (omega arith)
 
 pub padded-to-16-spec : {M : Type 1} → statement M
 padded-to-16-spec =

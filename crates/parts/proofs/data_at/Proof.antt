@@ -1,10 +1,16 @@
 -- `parts::data_at` meets its contract: a walk of its MIR, by hand. The reader that `reader_at` returns is held in a local and passed to `octets`, whose part is the result. Of the two only their contracts are known.
 -- Assumes nothing.
-use Rattle.walks.proofs.Kit.{_≡_, refl, ℕ, _<_, _^_, List, [], _∷_, length, URA, named, erased, w16, Val, vint, SProp, ent, emp, via, fst∗, id⊢, Lft, Share, ftrue, flft, Memory, Routine, Heap, Calls, Loops, WpFn, Atoms, Fun, givenOf, tables, tablesOf}
-use Rattle.walks.proofs.Kit.{Given, ‵, _⊛_, ⋆, _$_, _∵_, !, qed, by, move, drop, fsplit, fjoin, suffices, frame, done, look, init, forget, stop, from, load, and-then, no-more, land, returns, enter, alloc1, alloc0, params1, pass1, pass0, free1, free0}
-use Rattle.walks.proofs.Kit.{FmC, fmOf, RattleType, owns, Is, uint-vals, uint-tells, uint-makes, u8, u16, RefT, NamedLft, plain, shrSliceOf, sliceVal, ShrSlice, slice-vals, shr-slice-tells, shr-slice-lawful, nothing, Triple, Vals, onEntry, cited, says, Stays, stay-dropped, walkOf, goes-dropped, ends-at, yes}
+use Rattle.walks.proofs.Kit.{_≡_, refl, ℕ, _<_, _^_, List, [], _∷_, length, URA, named, erased, w16, Val, vint, SProp}
+use Rattle.walks.proofs.Kit.{ent, emp, via, fst∗, id⊢, Lft, Share, ftrue, flft, Memory, Routine, Heap, Calls, Loops}
+use Rattle.walks.proofs.Kit.{WpFn, Atoms, Fun, givenOf, tables, tablesOf, Given, ‵, _⊛_, ⋆, _$_, _∵_, !, qed, by, move}
+use Rattle.walks.proofs.Kit.{drop, fsplit, fjoin, suffices, frame, done, and-then, no-more, enter, params1, pass0, FmC}
+use Rattle.walks.proofs.Kit.{fmOf, RattleType, owns, Is, uint-vals, uint-tells, uint-makes, u8, u16, RefT, NamedLft}
+use Rattle.walks.proofs.Kit.{plain, shrSliceOf, sliceVal, ShrSlice, slice-vals, shr-slice-tells, shr-slice-lawful}
+use Rattle.walks.proofs.Kit.{nothing, Triple, Vals, onEntry, cited, says, Stays, stay-dropped, walkOf, goes-dropped}
+use Rattle.walks.proofs.Kit.{ends-at, yes, mem}
 use Rattle.walks.proofs.Walk.{closes}
-use Rattle.walks.proofs.Calls.{_&_, Told, beside, calls-told}
+use Rattle.walks.proofs.Calls.{_&_, Token, Told, beside, calls-told}
+use Rattle.walks.proofs.Locals.{allocates, passed, given-first, value, lands-in, hands, ends}
 use denote.Struct.Laws as LL
 use Rattle.values.specs.Values.{PartOf}
 use Rattle.parts.specs.declared.PayloadReader.{PayloadReader}
@@ -63,22 +69,25 @@ module _ {M : Type 1} (𝓤 : URA M) (H : Heap 𝓤) (A : Atoms 𝓤) (W : Given
   module _ (C : Calls 𝓤 H) (Λ : Loops 𝓤 H) (fm : FmC 𝓤 H (W .laws) C) (known-reader-at : Triple 𝓤 (C reader-at-def.name) (Told 𝓤 H A reader-at.ended (reader-at.clauses 𝓤 H A mem run))) (known-octets : Triple 𝓤 (C octets-def.name) (Told 𝓤 H A octets.ended (octets.clauses 𝓤 H A mem run))) where
     walk : Is Slice s (v ∷ []) → ent 𝓤 (onEntry 𝓤 H A f.signature (κ, tt) (q, tt) (s, (at, (n, tt))) vals) (WpFn 𝓤 H C Λ code.function (v ∷ vint w16 at ∷ vint w16 n ∷ []) Post)
     walk p =
-        qed W ((‵ (flft κ q) ⊛ ‵ ftrue) ∷ ‵ (owns (Slice ∷ u16 ∷ u16 ∷ []) (s, (at, (n, tt))) vals) ∷ []) ∵ enter ! C Λ code.function (v ∷ vint w16 at ∷ vint w16 n ∷ []) _ $
-        alloc1 ! (λ l₀. alloc1 ! (λ l₁. alloc1 ! (λ l₂. alloc1 ! (λ l₃. alloc1 ! (λ l₄. alloc0 ! $ params1 ! $
-        pass1 ! (init ! 6 refl (shr-slice-lawful 𝓤 H A W (named 0) κ u8 .typed s (v ∷ []) p .0)) $ pass1 ! (init ! 4 refl (tt, record { fits = at-fits })) $ pass1 ! (init ! 2 refl (tt, record { fits = len-fits })) $ pass0 ! $
-        move ! (11 ∷ []) $ fsplit ! $ move ! (1 ∷ []) $ drop ! $ beside ! (u16 ∷ []) (uint-makes 𝓤 H A W w16 & tt) (at, tt) (vint w16 at ∷ [], tt) ((refl, at-fits), tt) $ move ! (11 ∷ []) $
-        calls-told ! fm reader-at.ended (reader-at.clauses 𝓤 H A mem run) known-reader-at to-reader-at (id⊢ 𝓤 _) (and-then ! (load ! (from ! (stop !)) (look ! 7 refl)) (and-then ! (load ! (from ! (stop !)) (look ! 5 refl)) (no-more !)))
-        Made (λ r ws. id⊢ 𝓤 _) (λ u r made is.
-        -- [what the reader owns; the token; room for _4; …; _3; …; _2; …; _1; …; room for _0; …]
-        land ! (from ! (stop !)) (init ! 2 refl (LL.lawful (T.the-type αᵉ) (T′.the-laws αᵉ) 𝓤 H A W .typed r _ is .0)) $
+        qed W (Token 𝓤 κ q ∷ ‵ (owns (Slice ∷ u16 ∷ u16 ∷ []) (s, (at, (n, tt))) vals) ∷ []) ∵
+        enter ! C Λ code.function (v ∷ vint w16 at ∷ vint w16 n ∷ []) _ $ allocates ! (λ l. params1 ! $
+        passed ! refl (shr-slice-lawful 𝓤 H A W (named 0) κ u8 .typed s (v ∷ []) p .0) $
+        passed ! refl (tt, record { fits = at-fits }) $ passed ! refl (tt, record { fits = len-fits }) $ pass0 ! $
+        given-first ! $
+        move ! (1 ∷ []) $ fsplit ! $ move ! (1 ∷ []) $ drop ! $
+        beside ! (u16 ∷ []) (uint-makes 𝓤 H A W w16 & tt) (at, tt) (vint w16 at ∷ [], tt) ((refl, at-fits), tt) $
+        move ! (1 ∷ []) $
+        calls-told ! fm reader-at.ended (reader-at.clauses 𝓤 H A mem run) known-reader-at to-reader-at (id⊢ 𝓤 _)
+        (and-then ! (value ! refl) (and-then ! (value ! refl) (no-more !))) Made (λ r ws. id⊢ 𝓤 _) (λ u r made is.
+        -- [what the reader owns; the token; the locals]
+        lands-in ! refl (LL.lawful (T.the-type αᵉ) (T′.the-laws αᵉ) 𝓤 H A W .typed r _ is .0) $
         beside ! (u16 ∷ []) (uint-makes 𝓤 H A W w16 & tt) (n, tt) (vint w16 n ∷ [], tt) ((refl, len-fits), tt) $ move ! (1 ∷ []) $
-        calls-told ! fm octets.ended (octets.clauses 𝓤 H A mem run) known-octets (to-octets r u) (id⊢ 𝓤 _) (and-then ! (load ! (from ! (stop !)) (look ! 1 refl)) (and-then ! (load ! (from ! (stop !)) (look ! 3 refl)) (no-more !)))
+        calls-told ! fm octets.ended (octets.clauses 𝓤 H A mem run) known-octets (to-octets r u) (id⊢ 𝓤 _)
+        (and-then ! (value ! refl) (and-then ! (value ! refl) (no-more !)))
         (PartOf (r .body) (r .at) n) (λ x ws. id⊢ 𝓤 _) (λ u′ x taken is′.
-        -- [what the part owns; the token; _4; …; _3; …; _2; …; _1; …; room for _0; …]
-        land ! (from ! (stop !)) (init ! 10 refl (shr-slice-lawful 𝓤 H A W (named 0) κ u8 .typed x _ is′ .0)) $
-        returns ! (look ! 10 refl) $ forget ! 2 refl $ forget ! 4 refl $ forget ! 6 refl $ forget ! 8 refl $ forget ! 10 refl $
-        move ! (10 ∷ 11 ∷ []) $ free1 ! $ move ! (8 ∷ 9 ∷ []) $ free1 ! $ move ! (6 ∷ 7 ∷ []) $ free1 ! $ move ! (4 ∷ 5 ∷ []) $ free1 ! $ move ! (2 ∷ 3 ∷ []) $ free1 ! $ free0 ! $
-        by ! (exits x u′ (rw (made .0, made .1) at taken)))))))))
+        -- [what the part owns; the token; the locals]
+        lands-in ! refl (shr-slice-lawful 𝓤 H A W (named 0) κ u8 .typed x _ is′ .0) $
+        hands ! refl $ ends ! refl refl $ by ! (exits x u′ (rw (made .0, made .1) at taken)))))
 
 pub data-at-spec : {M : Type 1} → stated.statement M
 unfolding code.routine tablesOf

@@ -1,10 +1,16 @@
 -- `parts::octets` meets its contract: a walk of its MIR, by hand. The struct is taken apart, and `values::part` is called on its slice and number; the part that comes back is the result. Of `part` only its contract is known.
 -- Assumes nothing.
-use Rattle.walks.proofs.Kit.{_≡_, refl, ℕ, _<_, _^_, List, [], _∷_, T as Holds, length, URA, named, w16, Val, WT, hasTy, vint, SProp, ent, emp, via, fst∗, id⊢, Lft, Share, ftrue, flft, Memory, Routine, Heap, Calls, Loops, WpFn, Atoms, Lfts, Fun, givenOf, tables, tablesOf}
-use Rattle.walks.proofs.Kit.{Given, ‵, _⊛_, given, ⋆, _$_, _∵_, !, qed, by, move, drop, use1, split, learn, fsplit, fjoin, suffices, frame, done, whole, sub, look-in, look, init, forget, stop, fld, from, load, of-opd, and-then, no-more, assigns, land, returns, enter, alloc1, alloc0, params1, pass1, pass0, free1, free0}
-use Rattle.walks.proofs.Kit.{FmC, fmOf, RattleType, owns, uint-vals, uint-tells, uint-makes, u8, u16, RefT, plain, namedLft, sliceVal, ShrSlice, shr-slice-lawful, nothing, Triple, Vals, onEntry, cited, says, Stays, stay-dropped, walkOf, goes-dropped, ends-at, yes}
+use Rattle.walks.proofs.Kit.{_≡_, refl, ℕ, _<_, _^_, List, [], _∷_, T as Holds, length, URA, named, w16, Val, WT, hasTy}
+use Rattle.walks.proofs.Kit.{vint, SProp, ent, emp, via, fst∗, id⊢, Lft, Share, ftrue, flft, Memory, Routine, Heap}
+use Rattle.walks.proofs.Kit.{Calls, Loops, WpFn, Atoms, Lfts, Fun, givenOf, tables, tablesOf, Given, ‵, _⊛_, given, ⋆}
+use Rattle.walks.proofs.Kit.{_$_, _∵_, !, qed, by, move, drop, use1, split, learn, fsplit, fjoin, suffices, frame, done}
+use Rattle.walks.proofs.Kit.{whole, sub, of-opd, and-then, no-more, enter, params1, pass0, FmC, fmOf, RattleType, owns}
+use Rattle.walks.proofs.Kit.{uint-vals, uint-tells, uint-makes, u8, u16, RefT, plain, namedLft, sliceVal, ShrSlice}
+use Rattle.walks.proofs.Kit.{shr-slice-lawful, nothing, Triple, Vals, onEntry, cited, says, Stays, stay-dropped, walkOf}
+use Rattle.walks.proofs.Kit.{goes-dropped, ends-at, yes, mem}
 use Rattle.walks.proofs.Walk.{closes}
-use Rattle.walks.proofs.Calls.{_&_, Told, beside, calls-told}
+use Rattle.walks.proofs.Calls.{_&_, Token, Told, beside, calls-told}
+use Rattle.walks.proofs.Locals.{allocates, passed, given-first, value, part as part-of, sets, lands-in, hands, ends}
 use denote.Struct.Declared.{Declared}
 use denote.Struct.Laws as LL
 use denote.Struct.Rest.{all-own, ownAt, rest, own-open, own-out}
@@ -71,21 +77,26 @@ module _ {M : Type 1} (𝓤 : URA M) (H : Heap 𝓤) (A : Atoms 𝓤) (W : Given
   module _ (C : Calls 𝓤 H) (Λ : Loops 𝓤 H) (fm : FmC 𝓤 H (W .laws) C) (known : Triple 𝓤 (C part-def.name) (Told 𝓤 H A part.ended (part.clauses 𝓤 H A mem run))) where
     walk : Holds (hasTy (T′.mir (named 0)) mach) × WT mach → ent 𝓤 (onEntry 𝓤 H A f.signature (κ, tt) (q, tt) (d, (n, tt)) vals) (WpFn 𝓤 H C Λ code.function (mach ∷ vint w16 n ∷ []) Post)
     walk wt =
-        qed W ((‵ (flft κ q) ⊛ ‵ ftrue) ∷ ‵ (owns (B (κ, tt) ∷ u16 ∷ []) (d, (n, tt)) vals) ∷ []) ∵ enter ! C Λ code.function (mach ∷ vint w16 n ∷ []) _ $
-        alloc1 ! (λ l₀. alloc1 ! (λ l₁. alloc1 ! (λ l₂. alloc1 ! (λ l₃. alloc1 ! (λ l₄. alloc0 ! $ params1 ! $ pass1 ! (init ! 6 refl wt) $ pass1 ! (init ! 4 refl (tt, record { fits = fits })) $ pass0 ! $
-        assigns ! (of-opd ! (load ! (from ! (fld ! refl (stop !))) (look-in ! 6 (sub ! 0 refl (whole !))))) (from ! (stop !)) (init ! 2 refl (tt, wt .1 .0)) $
-        assigns ! (of-opd ! (load ! (from ! (fld ! refl (stop !))) (look-in ! 6 (sub ! 1 refl (whole !))))) (from ! (stop !)) (init ! 0 refl (tt, wt .1 .1 .0)) $
+        qed W (Token 𝓤 κ q ∷ ‵ (owns (B (κ, tt) ∷ u16 ∷ []) (d, (n, tt)) vals) ∷ []) ∵
+        enter ! C Λ code.function (mach ∷ vint w16 n ∷ []) _ $ allocates ! (λ l. params1 ! $
+        passed ! refl wt $ passed ! refl (tt, record { fits = fits }) $ pass0 ! $ given-first ! $
+        sets ! (of-opd ! (part-of ! refl (sub ! 0 refl (whole !)))) refl (tt, wt .1 .0) $
+        sets ! (of-opd ! (part-of ! refl (sub ! 1 refl (whole !)))) refl (tt, wt .1 .1 .0) $
         -- of what the struct owns, what the slice owns
-        move ! (11 ∷ []) $ fsplit ! $ move ! (1 ∷ []) $ drop ! $
-        use1 W (given (mach ∷ [] ≡ mach ∷ []) (‵ (all-own (D (κ, tt) .parts) (L (κ, tt)) vd))) (own-open 𝓤 H A W (D (κ, tt)) (L (κ, tt)) vd mach) $ learn ! (λ _.
-        use1 W (‵ (ownAt (D (κ, tt) .parts) (L (κ, tt)) 0 (d .body)) ⊛ ‵ (rest (D (κ, tt) .parts) (L (κ, tt)) 0 vd)) (own-out 𝓤 H A W (D (κ, tt) .parts) (L (κ, tt)) 0 vd) $ split ! $ move ! (1 ∷ []) $ drop ! $
-        beside ! (u16 ∷ u16 ∷ []) (uint-makes 𝓤 H A W w16 & uint-makes 𝓤 H A W w16 & tt) (d .at, (n, tt)) (vint w16 (d .at) ∷ [], (vint w16 n ∷ [], tt)) ((refl, wt .1 .1 .0 .fits), ((refl, fits), tt)) $ move ! (11 ∷ []) $
-        calls-told ! fm part.ended (part.clauses 𝓤 H A mem run) known to (id⊢ 𝓤 _) (and-then ! (load ! (from ! (stop !)) (look ! 3 refl)) (and-then ! (load ! (from ! (stop !)) (look ! 1 refl)) (and-then ! (load ! (from ! (stop !)) (look ! 5 refl)) (no-more !))))
+        move ! (1 ∷ []) $ fsplit ! $ move ! (1 ∷ []) $ drop ! $
+        use1 W (given (mach ∷ [] ≡ mach ∷ []) (‵ (all-own (D (κ, tt) .parts) (L (κ, tt)) vd)))
+        (own-open 𝓤 H A W (D (κ, tt)) (L (κ, tt)) vd mach) $ learn ! (λ _.
+        use1 W (‵ (ownAt (D (κ, tt) .parts) (L (κ, tt)) 0 (d .body)) ⊛ ‵ (rest (D (κ, tt) .parts) (L (κ, tt)) 0 vd))
+        (own-out 𝓤 H A W (D (κ, tt) .parts) (L (κ, tt)) 0 vd) $ split ! $ move ! (1 ∷ []) $ drop ! $
+        beside ! (u16 ∷ u16 ∷ []) (uint-makes 𝓤 H A W w16 & uint-makes 𝓤 H A W w16 & tt) (d .at, (n, tt))
+        (vint w16 (d .at) ∷ [], (vint w16 n ∷ [], tt)) ((refl, wt .1 .1 .0 .fits), ((refl, fits), tt)) $
+        move ! (1 ∷ []) $
+        calls-told ! fm part.ended (part.clauses 𝓤 H A mem run) known to (id⊢ 𝓤 _)
+        (and-then ! (value ! refl) (and-then ! (value ! refl) (and-then ! (value ! refl) (no-more !))))
         Said (λ r ws. id⊢ 𝓤 _) (λ u r e is.
-        -- [what the part owns; the token; _4; …; _3; …; _2; …; _1; …; room for _0; …]
-        land ! (from ! (stop !)) (init ! 10 refl (shr-slice-lawful 𝓤 H A W (named 0) κ u8 .typed r _ is .0)) $
-        returns ! (look ! 10 refl) $ forget ! 2 refl $ forget ! 4 refl $ forget ! 6 refl $ forget ! 8 refl $ forget ! 10 refl $
-        move ! (10 ∷ 11 ∷ []) $ free1 ! $ move ! (8 ∷ 9 ∷ []) $ free1 ! $ move ! (6 ∷ 7 ∷ []) $ free1 ! $ move ! (4 ∷ 5 ∷ []) $ free1 ! $ move ! (2 ∷ 3 ∷ []) $ free1 ! $ free0 ! $ by ! (exits r u e))))))))
+        -- [what the part owns; the token; the locals]
+        lands-in ! refl (shr-slice-lawful 𝓤 H A W (named 0) κ u8 .typed r _ is .0) $
+        hands ! refl $ ends ! refl refl $ by ! (exits r u e))))
 
 pub octets-spec : {M : Type 1} → stated.statement M
 unfolding code.routine tablesOf

@@ -1,9 +1,15 @@
 -- `parts::reader_at` meets its contract: a walk of its MIR, by hand. A `PayloadReader` is made of the slice and the number passed, in the result's local; what the slice owns goes into it.
 -- Assumes nothing.
-use Rattle.walks.proofs.Kit.{refl, ℕ, _<_, _^_, List, [], _∷_, length, URA, named, w16, Val, vint, SProp, ent, emp, via, fst∗, Lft, Share, ftrue, flft, Memory, Routine, Heap, Calls, Loops, WpFn, Atoms, Fun, givenOf, tables, tablesOf}
-use Rattle.walks.proofs.Kit.{Given, ‵, raw, _⊛_, _$_, _∵_, !, qed, by, move, drop, fsplit, fjoin, suffices, frame, agg, look, init, forget, stop, from, load, and-then, no-more, assigns, returns, enter, alloc1, alloc0, params1, pass1, pass0, free1, free0}
-use Rattle.walks.proofs.Kit.{owns, Is, uint-vals, uint-tells, uint-makes, u8, u16, RefT, NamedLft, plain, shrSliceOf, namedLft, sliceVal, ShrSlice, slice-vals, shr-slice-tells, shr-slice-lawful, nothing, owned, Vals, onEntry, says, Stays, stay-dropped, walkOf, goes-dropped, ends-at, yes}
+use Rattle.walks.proofs.Kit.{refl, ℕ, _<_, _^_, List, [], _∷_, length, URA, named, w16, Val, vint, SProp, ent, emp, via}
+use Rattle.walks.proofs.Kit.{fst∗, Lft, Share, ftrue, flft, Memory, Routine, Heap, Calls, Loops, WpFn, Atoms, Fun}
+use Rattle.walks.proofs.Kit.{givenOf, tables, tablesOf, Given, ‵, _⊛_, _$_, _∵_, !, qed, by, move, drop, fsplit, fjoin}
+use Rattle.walks.proofs.Kit.{suffices, frame, agg, and-then, no-more, enter, params1, pass0, owns, Is, uint-vals}
+use Rattle.walks.proofs.Kit.{uint-tells, uint-makes, u8, u16, RefT, NamedLft, plain, shrSliceOf, namedLft, sliceVal}
+use Rattle.walks.proofs.Kit.{ShrSlice, slice-vals, shr-slice-tells, shr-slice-lawful, nothing, owned, Vals, onEntry}
+use Rattle.walks.proofs.Kit.{says, Stays, stay-dropped, walkOf, goes-dropped, ends-at, yes, mem}
 use Rattle.walks.proofs.Walk.{closes}
+use Rattle.walks.proofs.Calls.{Token}
+use Rattle.walks.proofs.Locals.{allocates, passed, given-first, value, sets, hands, ends}
 use denote.Struct.Rest.{own-shut}
 use Rattle.parts.specs.declared.PayloadReader.{PayloadReader}
 use Rattle.parts.proofs.PayloadReader as T
@@ -45,11 +51,13 @@ module _ {M : Type 1} (𝓤 : URA M) (H : Heap 𝓤) (A : Atoms 𝓤) (W : Given
   module _ (C : Calls 𝓤 H) (Λ : Loops 𝓤 H) where
     walk : Is (ShrSlice (named 0) κ u8) s (v ∷ []) → ent 𝓤 (onEntry 𝓤 H A f.signature (κ, tt) (q, tt) (s, (n, tt)) vals) (WpFn 𝓤 H C Λ code.function (v ∷ vint w16 n ∷ []) Post)
     walk p =
-        qed W (raw (onEntry 𝓤 H A f.signature (κ, tt) (q, tt) (s, (n, tt)) vals) ∷ []) ∵ enter ! C Λ code.function (v ∷ vint w16 n ∷ []) _ $
-        alloc1 ! (λ l₀. alloc1 ! (λ l₁. alloc1 ! (λ l₂. alloc0 ! $ params1 ! $ pass1 ! (init ! 2 refl (shr-slice-lawful 𝓤 H A W (named 0) κ u8 .typed s (v ∷ []) p .0)) $ pass1 ! (init ! 0 refl (tt, record { fits = fits })) $ pass0 ! $
-        assigns ! (agg ! (and-then ! (load ! (from ! (stop !)) (look ! 2 refl)) (and-then ! (load ! (from ! (stop !)) (look ! 0 refl)) (no-more !)))) (from ! (stop !))
-        (init ! 4 refl (tt, (shr-slice-lawful 𝓤 H A W (named 0) κ u8 .typed s (v ∷ []) p .0 .1, (record { fits = fits }, tt)))) $
-        returns ! (look ! 4 refl) $ forget ! 0 refl $ forget ! 2 refl $ forget ! 4 refl $ move ! (4 ∷ 5 ∷ []) $ free1 ! $ move ! (2 ∷ 3 ∷ []) $ free1 ! $ free1 ! $ free0 ! $ by ! exits)))
+        qed W (Token 𝓤 κ q ∷ ‵ (owns (ShrSlice (named 0) κ u8 ∷ u16 ∷ []) (s, (n, tt)) vals) ∷ []) ∵
+        enter ! C Λ code.function (v ∷ vint w16 n ∷ []) _ $ allocates ! (λ l. params1 ! $
+        passed ! refl (shr-slice-lawful 𝓤 H A W (named 0) κ u8 .typed s (v ∷ []) p .0) $
+        passed ! refl (tt, record { fits = fits }) $ pass0 ! $ given-first ! $
+        sets ! (agg ! (and-then ! (value ! refl) (and-then ! (value ! refl) (no-more !)))) refl
+        (tt, (shr-slice-lawful 𝓤 H A W (named 0) κ u8 .typed s (v ∷ []) p .0 .1, (record { fits = fits }, tt))) $
+        hands ! refl $ ends ! refl refl $ by ! exits)
 
 pub reader-at-spec : {M : Type 1} → stated.statement M
 unfolding code.routine tablesOf

@@ -6,16 +6,18 @@ use mathlib.Core.List.{List}
 use borrow.Author.Needs.{needs}
 use native.Mathlib.Omega.{arith}
 use lib.ListN.{replicate}
+use Rattle.octets.specs.Limits.{addressesMost, addressOctets}
 use Rattle.octets.proofs.Zip.{joined, joins-one}
 use Rattle.values.specs.Values.{addressAt}
 use Rattle.values.proofs.additional.Statement.{statement}
 use Rattle.values.proofs.additional.Tie as tie
 
 abbrev zeros : List ℕ
-zeros = replicate 16 0
+zeros = replicate addressOctets 0
 
 abbrev Inv-loop : tie.InvT-loop
-Inv-loop body n places families out₀ i₀ out i = (i ≤ n) × (n ≤ 16) × (out ≡ joined (addressAt body) zeros places families 16 i)
+Inv-loop body n places families out₀ i₀ out i =
+    (i ≤ n) × (n ≤ addressesMost) × (out ≡ joined (addressAt body) zeros places families addressesMost i)
 
 abbrev μ-loop : tie.MeasureT-loop
 μ-loop body n places families out₀ i₀ out i = n - i
@@ -43,7 +45,8 @@ additional-spec =
       omega arith,
       l .inv .1,
       rw (c .address-at .ensures)
-          (joins-one (addressAt (a .body .now)) zeros (a .list .places) (a .list .families) 16 (search needs) (search needs) (l .out) (l .i) 0 0 (omega arith) (l .inv .2)),
+          (joins-one (addressAt (a .body .now)) zeros (a .list .places) (a .list .families) addressesMost
+          (search needs) (search needs) (l .out) (l .i) 0 0 (omega arith) (l .inv .2)),
     ))
     (λ c.
     let same : c .before .loop .i ≡ c .before .before .before .before .kept-count .result = omega arith in

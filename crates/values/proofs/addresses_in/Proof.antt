@@ -13,4 +13,6 @@ addresses-in-spec =
     (λ c κs. search needs)
     (λ c. search needs)
     (λ c κs. omega (arith, c .kept-count .ensures))
-    (λ c. rw (← c .before .before .before .additional .ensures, ← c .before .kept-count .ensures) (c .addresses-of .ensures)))
+    (λ c.
+    rw (← c .before .before .before .additional .ensures, ← c .before .kept-count .ensures)
+    (c .addresses-of .ensures)))

@@ -23,11 +23,11 @@ no-nats-in-spec =
     (λ c. search needs)
     (λ c κs. search needs)
     (λ c.
-    let n = c .before .before .before .before .before .before .before .args .n in
+    let width = c .before .before .before .before .before .before .before .args .width in
     rw (
       c .before .before .before .before .padded-to-16 .ensures,
       c .before .before .padded-to-162 .ensures,
       c .before .be16-at .ensures,
       c .be16-at2 .ensures,
-      add-sub-cancel-left n n,
+      add-sub-cancel-left width width,
     )))

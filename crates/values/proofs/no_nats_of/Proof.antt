@@ -14,4 +14,5 @@ no-nats-of-spec =
     (λ c κs. search needs)
     (λ c. rw (ne-eqb _ _ (c .before .before .if1 .left), eq-eqb _ _ (c .before .if2 .taken)) (c .no-nats-in2 .ensures))
     (λ c κs. search needs)
-    (λ c. rw (ne-eqb _ _ (c .before .before .if1 .left), ne-eqb _ _ (c .before .if2 .left)) (c .nothing-allowed .ensures)))
+    (λ c.
+    rw (ne-eqb _ _ (c .before .before .if1 .left), ne-eqb _ _ (c .before .if2 .left)) (c .nothing-allowed .ensures)))

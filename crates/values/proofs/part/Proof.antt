@@ -18,17 +18,19 @@ part-spec =
     (λ c. search needs)
     (λ c.
     let a = c .before .before .args in
-    let none : stands (a .body .now) (a .at) (a .len) ≡ false = rw (eq-eqb _ _ (c .before .if1 .taken)) in
+    let none : stands (a .body .now) (a .at) (a .size) ≡ false = rw (eq-eqb _ _ (c .before .if1 .taken)) in
     record { octets = rw none; allocation = refl; offset = rw none (omega arith) })
     (λ c. search needs)
     (λ c.
     let a = c .before .before .before .args in
-    let none : stands (a .body .now) (a .at) (a .len) ≡ false = rw (ne-eqb _ _ (c .before .before .if1 .left), lt-leb _ _ (c .before .if2 .taken)) in
+    let none : stands (a .body .now) (a .at) (a .size) ≡ false =
+    rw (ne-eqb _ _ (c .before .before .if1 .left), lt-leb _ _ (c .before .if2 .taken)) in
     record { octets = rw none; allocation = refl; offset = rw none (omega arith) })
     (λ c. search needs)
     (λ c. search needs)
     (λ c. search needs)
     (λ c.
     let a = c .before .before .before .args in
-    let there : stands (a .body .now) (a .at) (a .len) ≡ true = rw (ne-eqb _ _ (c .before .before .if1 .left), le-leb _ _ (c .before .if2 .left)) in
+    let there : stands (a .body .now) (a .at) (a .size) ≡ true =
+    rw (ne-eqb _ _ (c .before .before .if1 .left), le-leb _ _ (c .before .if2 .left)) in
     record { octets = rw (there, add-sub-cancel-left); allocation = refl; offset = rw there (omega arith) }))

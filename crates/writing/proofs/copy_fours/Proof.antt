@@ -1,5 +1,5 @@
--- `writing::copy_fours` meets its contract. The loop's invariant: `out` is what it was with the first i octets pasted in from `at`, and
--- as long as it was.
+-- `writing::copy_fours` meets its contract. The loop's invariant: `out` is what it was with the first i octets pasted
+-- in from `at`, and as long as it was.
 -- Assumes nothing.
 use Prim.Native.Nat.{_≤_, _-_}
 use mathlib.Core.Path.{_≡_, refl}

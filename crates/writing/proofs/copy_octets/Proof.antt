@@ -22,10 +22,19 @@ copy-octets-spec =
     (λ c κs.
     let a = c .before .before .before .before .before .before .before .before .args in
     let f = c .before .before .before .before .copy-fours in
-    let kept : length (f .last .0) ≡ length (a .out .now) = rw (f .ensures .1) (length-placed (a .out .now) (a .at) (take (f .result) (a .octets .now)) (omega (arith, length-take-le (f .result) (a .octets .now) (f .ensures .0)))) in
-    omega (arith, kept, f .ensures .0, length-take (length (a .octets .now) - f .result) (drop (f .result) (a .octets .now)), length-drop (f .result) (a .octets .now)))
+    let octets = a .octets .now in
+    let some = length-take-le (f .result) octets (f .ensures .0) in
+    let kept : length (f .last .0) ≡ length (a .out .now) =
+    rw (f .ensures .1) (length-placed (a .out .now) (a .at) (take (f .result) octets) (omega (arith, some)))
+    in
+    let rest = length-take (length octets - f .result) (drop (f .result) octets) in
+    omega (arith, kept, f .ensures .0, rest, length-drop (f .result) octets))
     (λ c. search needs)
     (λ c.
-    let a = c .before .before .before .before .before .before .before .before .before .before .before .args in
+    let start = c .before .before .before .before .before .before .before .before .before .before .before in
+    let a = start .args in
     let f = c .before .before .before .before .before .before .before .copy-fours in
-    placed-rest (a .out .now) (f .last .0) (c .before .before .copy-each .last .0) (a .at) (a .octets .now) (f .result) (c .before .before .before .before .before .before .before .before .before .before .before .pre) (f .ensures .0) (f .ensures .1) (c .before .before .copy-each .ensures)))
+    let e = c .before .before .copy-each in
+    placed-rest (a .out .now) (f .last .0) (e .last .0) (a .at) (a .octets .now) (f .result) (start .pre)
+    (f .ensures .0)
+    (f .ensures .1) (e .ensures)))

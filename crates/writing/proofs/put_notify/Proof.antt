@@ -3,6 +3,7 @@
 use borrow.Author.Needs.{needs}
 use native.Mathlib.Omega.{arith}
 use lib.ListN.{take}
+use Rattle.octets.specs.Limits.{notifyHeader}
 use Rattle.writing.specs.Notify.{notifyOctets}
 use Rattle.writing.proofs.Placed.{placed-more}
 use Rattle.writing.proofs.put_notify.Statement.{statement}
@@ -12,9 +13,12 @@ returns : tie.Need-returns
 unfolding notifyOctets
 returns c =
     let a = c .before .before .before .before .before .before .before .before .before .before .before .args in
-    let header = take 8 (notifyOctets (a .next) (a .number) (a .octets .now)) in (
+    let header = take notifyHeader (notifyOctets (a .next) (a .notify-type) (a .octets .now)) in (
       omega arith,
-      rw (c .before .before .copy-octets2 .ensures, c .before .before .before .before .before .before .copy-octets .ensures)
+      rw (
+        c .before .before .copy-octets2 .ensures,
+        c .before .before .before .before .before .before .copy-octets .ensures,
+      )
           (placed-more (a .out .now) (a .at) header (a .octets .now) (omega arith)),
     )
 

@@ -1,5 +1,6 @@
 //! What a payload chain says, and what a request of ours is to carry.
 use super::Flag;
+use crate::limits::ADDRESSES_MOST;
 
 /// How many payloads a chain has, and how many of them are not known.
 #[repr(C)]
@@ -17,16 +18,16 @@ pub struct Tally {
     pub first_error: u16,
 }
 
-/// The additional addresses of a chain: all are counted, the first 16 are told.
+/// The additional addresses of a chain: all are counted, the first [`ADDRESSES_MOST`] are told.
 #[repr(C)]
 #[derive(Debug, Clone, Copy, Default, PartialEq, Eq)]
 pub struct Places {
-    /// How many there are, those past 16 too.
+    /// How many there are, those past [`ADDRESSES_MOST`] too.
     pub count: u16,
     /// Where the octets of each begin in the body.
-    pub places: [u16; 16],
+    pub places: [u16; ADDRESSES_MOST],
     /// The family of each.
-    pub families: [u8; 16],
+    pub families: [u8; ADDRESSES_MOST],
 }
 
 /// What the payloads of a chain say. A place is an offset into the body, and 0 means none.
@@ -80,7 +81,7 @@ pub struct Ask {
     pub nat_destination: bool,
     /// NO_ADDITIONAL_ADDRESSES; not with additional addresses.
     pub no_additional: bool,
-    /// How many of the additional addresses, at most 16.
+    /// How many of the additional addresses, at most [`ADDRESSES_MOST`].
     pub count: u16,
 }
 

@@ -1,5 +1,6 @@
 //! The records that are lent to the library and changed in place, and what they are opened with.
 use super::{Address, Flag, Pair};
+use crate::limits::ADDRESSES_MOST;
 
 /// What is agreed when an IKE record is opened; it stays until the record is closed.
 #[repr(C)]
@@ -9,7 +10,7 @@ pub struct Agreed {
     pub mobike: Flag,
 }
 
-/// An IKE record. The table has 32 places, and a place is free while its SPI is 0.
+/// An IKE record. The table has [`IKE_PLACES`](crate::limits::IKE_PLACES), and a place is free while its SPI is 0.
 #[repr(C)]
 #[derive(Debug, Clone, Copy, Default, PartialEq, Eq)]
 pub struct IkeRecord {
@@ -26,8 +27,9 @@ pub struct IkeRecord {
     /// How many additional addresses are kept.
     pub count: u16,
     /// The additional addresses, zeros past the count.
-    pub addresses: [Address; 16],
-    /// How many unknown payloads and notifications came; it stays at the greatest number.
+    pub addresses: [Address; ADDRESSES_MOST],
+    /// How many unknown payloads and notifications came; it stays at
+    /// [`TALLY_MOST`](crate::limits::TALLY_MOST).
     pub unknown: u32,
 }
 
@@ -70,7 +72,7 @@ impl Agreed {
 }
 
 impl IkeRecord {
-    /// A free place. A gateway begins with 32 of these.
+    /// A free place. A gateway begins with a table of these.
     pub const FREE: IkeRecord = IkeRecord {
         spi: 0,
         agreed: Agreed::NONE,
@@ -78,12 +80,12 @@ impl IkeRecord {
         update_mark: 0,
         list_mark: 0,
         count: 0,
-        addresses: [Address::NONE; 16],
+        addresses: [Address::NONE; ADDRESSES_MOST],
         unknown: 0,
     };
 }
 
 impl IpsecRecord {
-    /// A free place. A gateway begins with 128 of these.
+    /// A free place. A gateway begins with a list of these.
     pub const FREE: IpsecRecord = IpsecRecord { spi: 0, owner: 0, pair: Pair::NONE };
 }

@@ -21,7 +21,7 @@ const _: () = assert!(offset_of!(CAssessed, cookie_len) == 14);
 
 #[link(name = "host", kind = "static")]
 extern "C" {
-    fn unmavreth_response(
+    fn unmavreth_assess(
         sent: *const u8,
         sent_len: usize,
         first: u8,
@@ -34,7 +34,7 @@ extern "C" {
 pub fn assess<'a>(sent: &[u8], first: u8, body: &'a [u8]) -> Assessed<'a> {
     // SAFETY: each start and length are those of a slice that outlives the call.
     let assessed =
-        unsafe { unmavreth_response(sent.as_ptr(), sent.len(), first, body.as_ptr(), body.len()) };
+        unsafe { unmavreth_assess(sent.as_ptr(), sent.len(), first, body.as_ptr(), body.len()) };
     let CAssessed { number, outcome, payloads, offset, tally, cookie, cookie_len } = assessed;
     let handed_out = hand_out(body, cookie, cookie_len);
     let cookie = Place::in_body(body, usize::from(cookie), usize::from(cookie_len));

@@ -27,7 +27,7 @@ const _: () = assert!(size_of::<CReply>() == 16 && offset_of!(CReply, left_off) 
 
 #[link(name = "host", kind = "static")]
 extern "C" {
-    fn unmavreth_request(
+    fn unmavreth_handle(
         ike: *mut IkeRecord,
         ipsec: *mut IpsecRecord,
         ipsec_len: usize,
@@ -58,7 +58,7 @@ pub fn handle<'a>(request: &'a Request, tables: &mut Tables) -> (Handled<'a>, bo
     // records has its 32, that of the policy is one's, and no two of these overlap; the rest goes by
     // value, and any is allowed.
     let told = unsafe {
-        unmavreth_request(
+        unmavreth_handle(
             lent.ike().as_mut_ptr(),
             lent.ipsec().as_mut_ptr(),
             ipsec_length,

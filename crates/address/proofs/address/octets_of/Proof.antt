@@ -6,6 +6,7 @@ use mathlib.Core.List.{[]}
 use borrow.Author.Needs.{needs}
 use native.Mathlib.Omega.{arith}
 use lib.ListN.{replicate}
+use Rattle.octets.specs.Limits.{addressesMost, addressOctets}
 use Rattle.octets.proofs.Mapped.{unmapped, mapped, maps-one, maps-all}
 use Rattle.address.specs.Address.{addressOf}
 use Rattle.address.specs.declared.address.Address.{Address}
@@ -13,10 +14,12 @@ use Rattle.address.proofs.address.octets_of.Statement.{statement}
 use Rattle.address.proofs.address.octets_of.Tie as tie
 
 abbrev Inv-loop : tie.InvT-loop
-Inv-loop addresses out₀ i₀ out i = (i ≤ 16) × (out ≡ mapped (λ (a : Address). a .octets) (replicate 16 0) addresses 16 i)
+Inv-loop addresses out₀ i₀ out i =
+    (i ≤ addressesMost)
+    × (out ≡ mapped (λ (a : Address). a .octets) (replicate addressOctets 0) addresses addressesMost i)
 
 abbrev μ-loop : tie.MeasureT-loop
-μ-loop addresses out₀ i₀ out i = 16 - i
+μ-loop addresses out₀ i₀ out i = addressesMost - i
 
 pub octets-of-spec : {M : Type 1} → statement M
 octets-of-spec =
@@ -31,5 +34,12 @@ octets-of-spec =
     (λ c. search needs)
     (λ c. search needs)
     (λ c. search needs)
-    (λ c. (omega arith, maps-one (λ (x : Address). x .octets) (replicate 16 0) (c .before .before .before .before .args .t1) 16 (search (needs, unmapped)) _ _ (addressOf 0 []) (omega arith) (c .before .before .before .loop .inv .1)))
-    (λ c. maps-all (λ (x : Address). x .octets) (replicate 16 0) (c .before .before .args .t1) 16 (search (needs, unmapped)) _ (c .before .loop .i) (omega arith) (c .before .loop .inv .1)))
+    (λ c. (
+      omega arith,
+      maps-one (λ (x : Address). x .octets) (replicate addressOctets 0) (c .before .before .before .before .args .t1)
+          addressesMost (search (needs, unmapped)) _ _ (addressOf 0 []) (omega arith)
+          (c .before .before .before .loop .inv .1),
+    ))
+    (λ c.
+    maps-all (λ (x : Address). x .octets) (replicate addressOctets 0) (c .before .before .args .t1) addressesMost
+    (search (needs, unmapped)) _ (c .before .loop .i) (omega arith) (c .before .loop .inv .1)))

@@ -8,6 +8,7 @@ use borrow.Author.Needs.{needs}
 use native.Mathlib.Omega.{arith}
 use lib.ListN.{length, getD, drop}
 use borrow.Author.Tests.{eq-eqb, ne-eqb}
+use Rattle.octets.specs.Limits.{addressOctets}
 use Rattle.octets.specs.Lists.{all}
 use Rattle.octets.proofs.Tests.{all-step, all-end}
 use Rattle.address.specs.Address.{isZero}
@@ -15,20 +16,22 @@ use Rattle.address.proofs.address.zero_from.Statement.{statement}
 use Rattle.address.proofs.address.zero_from.Tie as tie
 
 abbrev Inv-loop : tie.InvT-loop
-Inv-loop from octets i₀ i = (i ≤ 16) × (all isZero (drop from octets) ≡ all isZero (drop i octets))
+Inv-loop from octets i₀ i = (i ≤ addressOctets) × (all isZero (drop from octets) ≡ all isZero (drop i octets))
 
 abbrev μ-loop : tie.MeasureT-loop
-μ-loop from octets i₀ i = 16 - i
+μ-loop from octets i₀ i = addressOctets - i
 
 module _ (c : tie.At-loop Inv-loop μ-loop) where
   abbrev octets : List ℕ
   octets = c .before .args .t1
 
-  long : length octets ≡ 16
+  long : length octets ≡ addressOctets
   long = search needs
 
   -- one turn of the loop
-  step : c .loop .i < 16 → all isZero (drop (c .before .args .from) octets) ≡ isZero (getD octets (c .loop .i) 0) && all isZero (drop (c .loop .i + 1) octets)
+  step : c .loop .i < addressOctets
+      → all isZero (drop (c .before .args .from) octets) ≡ isZero (getD octets (c .loop .i) 0) && all isZero
+      (drop (c .loop .i + 1) octets)
   step h = c .loop .inv .1 ∙ all-step isZero octets (c .loop .i) 0 (omega (arith, long))
 
 pub zero-from-spec : {M : Type 1} → statement M
@@ -43,4 +46,6 @@ zero-from-spec =
     (λ c. search needs)
     (λ c. search needs)
     (λ c. (omega arith, rw (eq-eqb _ _ (c .if1 .left)) at (step (c .before .before) (omega arith))))
-    (λ c. sym (c .before .loop .inv .1 ∙ all-end isZero (octets (c .before)) (c .before .loop .i) (omega (arith, long (c .before))))))
+    (λ c. sym
+    (c .before .loop .inv .1 ∙ all-end isZero (octets (c .before)) (c .before .loop .i)
+    (omega (arith, long (c .before))))))

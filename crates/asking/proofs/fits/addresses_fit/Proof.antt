@@ -7,7 +7,7 @@ use borrow.Author.Needs.{needs}
 use native.Mathlib.Omega.{arith}
 use Rattle.octets.specs.Lists.{allBelow}
 use Rattle.octets.proofs.Below.{one-more, one-fails}
-use Rattle.asking.specs.Request.{listedFits}
+use Rattle.asking.specs.Fits.{listedFits}
 use Rattle.asking.proofs.fits.addresses_fit.Statement.{statement}
 use Rattle.asking.proofs.fits.addresses_fit.Tie as tie
 
@@ -32,11 +32,15 @@ addresses-fit-spec =
     (λ c. search needs)
     (λ c.
     let a = c .before .before .before .before .before .args in
-    let l = c .before .before .before .before .loop in
-    (omega arith, one-more (listedFits (a .t1) (a .t2)) (l .i) (l .inv .1) (sym (c .before .address-fits .ensures) ∙ c .if1 .taken)))
+    let l = c .before .before .before .before .loop in (
+      omega arith,
+      one-more (listedFits (a .t1) (a .t2)) (l .i) (l .inv .1)
+          (sym (c .before .address-fits .ensures) ∙ c .if1 .taken),
+    ))
     (λ c.
     let a = c .before .before .before .before .before .args in
-    sym (one-fails (listedFits (a .t1) (a .t2)) (c .before .before .before .before .loop .i) (a .n) (c .before .before .before .loop-test .taken) (sym (c .before .address-fits .ensures) ∙ c .if1 .left)))
+    sym (one-fails (listedFits (a .t1) (a .t2)) (c .before .before .before .before .loop .i) (a .n)
+    (c .before .before .before .loop-test .taken) (sym (c .before .address-fits .ensures) ∙ c .if1 .left)))
     (λ c.
     let same : c .before .loop .i ≡ c .before .before .args .n = omega arith in
     sym (rw same at (c .before .loop .inv .1))))

@@ -1,7 +1,7 @@
 -- `asking::fits::cookie_fits` meets its contract.
 -- Assumes nothing.
 use borrow.Author.Tests.{eq-eqb, ne-eqb, lt-ltb, le-ltb}
-use Rattle.asking.specs.Request.{cookieFits}
+use Rattle.asking.specs.Fits.{cookieFits}
 use Rattle.asking.proofs.fits.cookie_fits.Statement.{statement}
 use Rattle.asking.proofs.fits.cookie_fits.Tie as tie
 

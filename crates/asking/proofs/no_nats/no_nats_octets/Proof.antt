@@ -1,58 +1,99 @@
 -- `asking::no_nats::no_nats_octets` meets its contract: three parts copied one behind the other.
 -- Assumes nothing.
 use borrow.Author.Needs.{needs}
+use Prim.Native.Nat.{ℕ, _≤_}
 use mathlib.Core.Path.{_≡_, refl, sym}
 use lib.ListN.{length, take}
 use native.Mathlib.Omega.{arith}
+use Rattle.octets.specs.Limits.{addressOctets, noNatsMost}
+use Rattle.octets.proofs.Mapped.{unmapped}
+use Rattle.address.specs.declared.pair.Pair.{Pair}
+use Rattle.address.proofs.Width.{width-small}
 use Rattle.asking.proofs.NoNats.{taken, one-length, two-length, copied}
 use Rattle.asking.proofs.no_nats.no_nats_octets.Statement.{statement}
 use Rattle.asking.proofs.no_nats.no_nats_octets.Tie as tie
 
-module _ (c : tie.Start) where
-  long-source : length (c .args .t2) ≡ 16
-  long-source = omega (arith, c .good .1 .0)
+module _ (c : tie.After-octets) where
+  abbrev sized : tie.After-width-of
+  sized = c .before .before .before .before .before .before .before
 
-  long-destination : length (c .args .t3) ≡ 16
-  long-destination = omega (arith, c .good .1 .1 .0)
+  abbrev pair : Pair
+  pair = sized .before .args .pair
 
-  taken-source : length (take (c .args .width) (c .args .t2)) ≡ c .args .width
-  taken-source = taken (c .args .width) (c .args .t2) long-source (c .pre)
+  abbrev width : ℕ
+  width = sized .width-of .result
 
-  taken-destination : length (take (c .args .width) (c .args .t3)) ≡ c .args .width
-  taken-destination = taken (c .args .width) (c .args .t3) long-destination (c .pre)
+  long-source : length (pair .source) ≡ addressOctets
+  long-source = search (needs, unmapped)
+
+  long-destination : length (pair .destination) ≡ addressOctets
+  long-destination = search (needs, unmapped)
+
+  small : width ≤ addressOctets
+  small = omega (arith, sized .width-of .ensures, width-small (pair .family))
+
+  taken-source : length (take width (pair .source)) ≡ width
+  taken-source = taken width (pair .source) long-source small
+
+  taken-destination : length (take width (pair .destination)) ≡ width
+  taken-destination = taken width (pair .destination) long-destination small
 
 -- the array keeps its length
-after-one : (c : tie.After-copy-octets) → length (c .copy-octets .last .0) ≡ 36
-after-one c =
-    let s = c .before .before .before in
-    one-length (s .args .width) (s .args .t2) (s .args .t3) (long-source s) (long-destination s) (s .pre) (c .copy-octets .ensures)
+module _ (c : tie.After-copy-octets) where
+  abbrev at-one : tie.After-octets
+  at-one = c .before .before
 
-after-two : (c : tie.After-copy-octets2) → length (c .copy-octets2 .last .0) ≡ 36
-after-two c =
-    let s = c .before .before .before .before .before .before .before in
-    two-length (s .args .width) (s .args .t2) (s .args .t3) (long-source s) (long-destination s) (s .pre) (c .before .before .before .before .copy-octets .ensures) (c .copy-octets2 .ensures)
+  after-one : length (c .copy-octets .last .0) ≡ noNatsMost
+  after-one =
+      one-length (width at-one) (pair at-one .source) (pair at-one .destination) (long-source at-one)
+      (long-destination at-one)
+      (small at-one) (c .copy-octets .ensures)
+
+module _ (c : tie.After-copy-octets2) where
+  abbrev at-two : tie.After-copy-octets
+  at-two = c .before .before .before .before
+
+  abbrev began : tie.After-octets
+  began = at-one at-two
+
+  after-two : length (c .copy-octets2 .last .0) ≡ noNatsMost
+  after-two =
+      two-length (width began) (pair began .source) (pair began .destination) (long-source began)
+      (long-destination began)
+      (small began) (at-two .copy-octets .ensures) (c .copy-octets2 .ensures)
 
 pub no-nats-octets-spec : {M : Type 1} → statement M
 no-nats-octets-spec =
     tie.close
     (tie.spec
+    (λ c κs. search needs)
+    (λ c. search needs)
     (λ c. search needs)
     (λ c. search needs)
     (λ c. search needs)
     (λ c. search needs)
     (λ c. refl)
-    (λ c. omega (arith, c .before .pre, long-source (c .before)))
-    (λ c. sym (taken-source (c .before .before)))
-    (λ c κs. omega (arith, c .before .before .pre, taken-source (c .before .before)))
+    (λ c. omega (arith, small c, long-source c))
+    (λ c. sym (taken-source (c .before)))
+    (λ c κs. omega (arith, small (c .before), taken-source (c .before)))
     (λ c. sym (after-one (c .before .before)))
-    (λ c. omega (arith, c .before .before .before .before .before .pre, long-destination (c .before .before .before .before .before)))
-    (λ c. sym (taken-destination (c .before .before .before .before .before .before)))
-    (λ c κs. rw (after-one (c .before .before .before)) (omega (arith, c .before .before .before .before .before .before .pre, taken-destination (c .before .before .before .before .before .before))))
+    (λ c. let s = at-one (c .before .before) in omega (arith, small s, long-destination s))
+    (λ c. sym (taken-destination (at-one (c .before .before .before))))
+    (λ c κs.
+    let one = c .before .before .before in
+    rw (after-one one) (omega (arith, small (at-one one), taken-destination (at-one one))))
     (λ c. sym (after-two (c .before .before)))
-    (λ c. omega arith)
+    (λ c. search needs)
     (λ c. refl)
-    (λ c κs. rw (after-two (c .before .before .before)) (omega (arith, c .before .before .before .before .before .before .before .before .before .before .pre)))
+    (λ c κs.
+    let two = c .before .before .before in
+    rw (after-two two) (omega (arith, small (began two))))
     (λ c.
-    let s = c .before .before .before .before .before .before .before .before .before .before .before .before in
-    copied (s .args .width) (s .args .t2) (s .args .t3) (long-source s) (long-destination s) (s .pre) (c .before .before .before .before .before .before .before .before .before .copy-octets .ensures) (c .before .before .before .before .before .copy-octets2 .ensures)
-    (s .args .source-port) (s .args .destination-port) (c .before .copy-octets3 .last .0) (c .before .copy-octets3 .ensures)))
+    let three = c .before in
+    let two = three .before .before .before .before in
+    let s = began two in
+    let p = pair s in
+    rw (← sized s .width-of .ensures)
+    (copied (width s) (p .source) (p .destination) (long-source s) (long-destination s) (small s)
+    (at-two two .copy-octets .ensures) (two .copy-octets2 .ensures)
+    (p .«source_port») (p .«destination_port») (three .copy-octets3 .last .0) (three .copy-octets3 .ensures))))

@@ -15,5 +15,4 @@ decide-spec =
     (λ c. search needs)
     (λ c κs. search needs)
     (λ c κs. search needs)
-    (λ c κs. search needs)
-    (λ c. rw (← c .before .verdict-on .ensures, ← c .before .before .add-tally .ensures) (c .decide-update .ensures)))
+    (λ c. rw (← c .before .add-tally .ensures) (c .decide-update .ensures)))

@@ -15,6 +15,11 @@ decide-list-spec =
     (λ c κs. search needs)
     (λ c. search needs)
     (λ c κs. search needs)
-    (λ c. rw (sym (c .before .before .before .before .before .carries-list .ensures) ∙ c .before .before .before .before .if1 .taken, le-leb _ _ (c .before .before .if2 .taken), c .left-off .ensures))
-    (λ c. rw (sym (c .before .before .before .carries-list .ensures) ∙ c .before .before .if1 .taken, lt-leb _ _ (c .if2 .left)))
+    (λ c.
+    let one = c .before .before .before .before in
+    let listed = sym (one .before .carries-list .ensures) ∙ one .if1 .taken in
+    rw (listed, le-leb _ _ (c .before .before .if2 .taken), c .left-off .ensures))
+    (λ c.
+    let listed = sym (c .before .before .before .carries-list .ensures) ∙ c .before .before .if1 .taken in
+    rw (listed, lt-leb _ _ (c .if2 .left)))
     (λ c. rw (sym (c .before .carries-list .ensures) ∙ c .if1 .left)))

@@ -2,21 +2,31 @@
 -- Assumes nothing.
 use borrow.Author.Needs.{needs}
 use Prim.Native.Nat.{ℕ, _+_, _-_, _≤_}
-use mathlib.Core.Path.{_≡_, refl, sym, _∙_}
+use mathlib.Core.Path.{_≡_, refl, _∙_}
+use mathlib.Core.List.{List}
 use native.Mathlib.Omega.{arith}
 use native.Mathlib.Nat.{mod-lt}
 use lib.ListN.{length, getD, take, drop, length-take, length-drop}
 use lib.Seq.{getD-drop, getD-take}
 use Rattle.octets.proofs.Mapped.{mapped, maps-one, maps-all}
+use Rattle.octets.specs.Limits.{addressesMost}
+use Rattle.findings.specs.Slots.{familiesSlot, stateSize}
 use Rattle.findings.specs.State.{octet}
 use Rattle.findings.proofs.state.families_of.Statement.{statement}
 use Rattle.findings.proofs.state.families_of.Tie as tie
 
+-- the families as they are kept
+abbrev kept : List ℕ → List ℕ
+kept state = take addressesMost (drop familiesSlot state)
+
+kept-length : (state : List ℕ) → length state ≡ stateSize → length (kept state) ≡ addressesMost
+kept-length state long = simp (length-take, length-drop) (omega arith)
+
 abbrev Inv-loop : tie.InvT-loop
-Inv-loop state out₀ i₀ out i = (i ≤ 16) × (out ≡ mapped octet 0 (take 16 (drop 30 state)) 16 i)
+Inv-loop state out₀ i₀ out i = (i ≤ addressesMost) × (out ≡ mapped octet 0 (kept state) addressesMost i)
 
 abbrev μ-loop : tie.MeasureT-loop
-μ-loop state out₀ i₀ out i = 16 - i
+μ-loop state out₀ i₀ out i = addressesMost - i
 
 pub families-of-spec : {M : Type 1} → statement M
 families-of-spec =
@@ -29,8 +39,8 @@ families-of-spec =
     (λ c. search needs)
     (λ c. search needs)
     (λ c.
-    let i = c .before .before .loop .i in
-    omega (arith, mod-lt (getD (c .before .before .before .args .state .now) (30 + i) 0) {m = 256} (omega arith)))
+    let s = c .before .before .before .args .state .now in
+    omega (arith, mod-lt (getD s (familiesSlot + c .before .before .loop .i) 0) {m = 256} (omega arith)))
     (λ c. search needs)
     (λ c. search needs)
     (λ c. search needs)
@@ -38,12 +48,14 @@ families-of-spec =
     let b = c .before .before .before in
     let s = b .args .state .now in
     let l = c .before .before .loop in
-    let long : length (take 16 (drop 30 s)) ≡ 16 = simp (length-take, length-drop) (omega (arith, b .pre)) in
-    let here : getD (take 16 (drop 30 s)) (l .i) 0 ≡ getD s (30 + l .i) 0 =
-    getD-take 16 (drop 30 s) (l .i) 0 (omega arith) ∙ getD-drop 30 s (l .i) 0 in
-    (omega arith, rw (← here) (maps-one octet 0 (take 16 (drop 30 s)) 16 long (l .out) (l .i) 0 (omega arith) (l .inv .1))))
+    let long = kept-length s (b .pre) in
+    let here : getD (kept s) (l .i) 0 ≡ getD s (familiesSlot + l .i) 0 =
+    getD-take addressesMost (drop familiesSlot s) (l .i) 0 (omega arith) ∙ getD-drop familiesSlot s (l .i) 0 in (
+      omega arith,
+      rw (← here) (maps-one octet 0 (kept s) addressesMost long (l .out) (l .i) 0 (omega arith) (l .inv .1)),
+    ))
     (λ c.
     let b = c .before .before in
+    let l = c .before .loop in
     let s = b .args .state .now in
-    let long : length (take 16 (drop 30 s)) ≡ 16 = simp (length-take, length-drop) (omega (arith, b .pre)) in
-    maps-all octet 0 (take 16 (drop 30 s)) 16 long (c .before .loop .out) (c .before .loop .i) (omega arith) (c .before .loop .inv .1)))
+    maps-all octet 0 (kept s) addressesMost (kept-length s (b .pre)) (l .out) (l .i) (omega arith) (l .inv .1)))

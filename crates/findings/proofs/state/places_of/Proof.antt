@@ -1,20 +1,22 @@
 -- `findings::state::places_of` meets its contract. The loop's invariant: the first i places are copied.
 -- Assumes nothing.
 use borrow.Author.Needs.{needs}
-use Prim.Native.Nat.{_+_, _-_, _≤_}
+use Prim.Native.Nat.{_+_, _-_, _≤_, _<_}
 use mathlib.Core.Path.{_≡_, refl, _∙_}
 use native.Mathlib.Omega.{arith}
-use lib.ListN.{drop, length-drop}
+use lib.ListN.{length, drop, length-drop}
 use lib.Seq.{getD-drop}
 use Rattle.octets.proofs.Pad.{copied, stored, copied-all}
+use Rattle.octets.specs.Limits.{addressesMost}
+use Rattle.findings.specs.Slots.{placesSlot}
 use Rattle.findings.proofs.state.places_of.Statement.{statement}
 use Rattle.findings.proofs.state.places_of.Tie as tie
 
 abbrev Inv-loop : tie.InvT-loop
-Inv-loop state out₀ i₀ out i = (i ≤ 16) × (out ≡ copied 0 (drop 14 state) 16 i)
+Inv-loop state out₀ i₀ out i = (i ≤ addressesMost) × (out ≡ copied 0 (drop placesSlot state) addressesMost i)
 
 abbrev μ-loop : tie.MeasureT-loop
-μ-loop state out₀ i₀ out i = 16 - i
+μ-loop state out₀ i₀ out i = addressesMost - i
 
 pub places-of-spec : {M : Type 1} → statement M
 places-of-spec =
@@ -33,9 +35,10 @@ places-of-spec =
     (λ c.
     let b = c .before .before .before in
     let s = b .args .state .now in
-    let l = c .before .before .loop in (
+    let l = c .before .before .loop in
+    let room : l .i < length (drop placesSlot s) = omega (arith, length-drop placesSlot s, b .pre) in (
       omega arith,
-      rw (l .inv .1, ← getD-drop 14 s (l .i) 0)
-          (stored 0 (drop 14 s) 16 (l .i) (omega (arith, length-drop 14 s, b .pre)) (omega arith) 0),
+      rw (l .inv .1, ← getD-drop placesSlot s (l .i) 0)
+          (stored 0 (drop placesSlot s) addressesMost (l .i) room (omega arith) 0),
     ))
-    (λ c. c .before .loop .inv .1 ∙ copied-all 0 _ 16 (c .before .loop .i) (omega arith)))
+    (λ c. c .before .loop .inv .1 ∙ copied-all 0 _ addressesMost (c .before .loop .i) (omega arith)))

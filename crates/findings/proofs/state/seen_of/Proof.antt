@@ -26,4 +26,6 @@ seen-of-spec =
     (λ c. search needs)
     (λ c. search needs)
     (λ c. search needs)
-    (λ c. let f = c .before .before .before .before .before .before .before .before in rw (f .before .places-of .ensures, f .families-of .ensures)))
+    (λ c.
+    let f = c .before .before .before .before .before .before .before .before in
+    rw (f .before .places-of .ensures, f .families-of .ensures)))

@@ -1,7 +1,12 @@
 -- `host::calls::unmavreth_acceptable` meets its contract: a walk of its MIR, by hand. The policy is read by `policy_of`, and the covered `is_acceptable` decides.
 -- Assumes nothing.
-use Rattle.walks.proofs.Kit.{ℕ, refl, [], _∷_, List, URA, named, Val, vbool, SProp, ent, emp, via, id⊢, fst∗, flft, Memory, Routine, Heap, Calls, Loops, WpFn, Atoms, Lfts, Shares, Fun, givenOf, tables, tablesOf, Given, ‵, ⋆, _$_, _∵_, !, qed, by, move, drop, join, keep, fsplit, fjoin, suffices, frame, done, look, init, stop, from}
-use Rattle.walks.proofs.Kit.{and-then, no-more, land, returns, enter, alloc1, alloc0, params1, pass1, pass0, free0, FmC, fmOf, owns, flat, Is, Spells, valss, bool-makes, bool-vals, bool-tells, bool, RefT, ptr-vals, shr-tells, plain, shrRefTo, typesAt, owned, nothing, Triple, Args, Vals, onEntry, cited, says, Stays, stay-dropped, walkOf, goes-dropped, ends-at, yes}
+use Rattle.walks.proofs.Kit.{refl, [], _∷_, List, URA, named, Val, vbool, SProp, ent, emp, via, id⊢, fst∗, flft, Memory}
+use Rattle.walks.proofs.Kit.{Routine, Heap, Calls, Loops, WpFn, Atoms, Lfts, Shares, Fun, givenOf, tables, tablesOf}
+use Rattle.walks.proofs.Kit.{Given, ‵, ⋆, _$_, _∵_, !, qed, by, move, drop, join, keep, fsplit, fjoin, suffices, frame}
+use Rattle.walks.proofs.Kit.{done, and-then, no-more, enter, params1, pass0, FmC, fmOf, owns, flat, Is, Spells, valss}
+use Rattle.walks.proofs.Kit.{bool-makes, bool-vals, bool-tells, bool, RefT, ptr-vals, shr-tells, plain, shrRefTo}
+use Rattle.walks.proofs.Kit.{typesAt, owned, nothing, Triple, Args, Vals, onEntry, cited, says, Stays, stay-dropped}
+use Rattle.walks.proofs.Kit.{walkOf, goes-dropped, ends-at, yes}
 use denote.Struct.Laws as LL
 use Rattle.address.specs.declared.pair.Pair.{Pair}
 use Rattle.address.proofs.pair.Pair as P
@@ -13,8 +18,9 @@ use Rattle.policy.proofs.rules.Policy.Laws as Y′
 use Rattle.policy.proofs.rules.is_acceptable as decide
 use Rattle.policy.proofs.rules.is_acceptable.Symbol as decide-def
 use Rattle.policy.proofs.rules.is_acceptable.Met as decide-thm
-use Rattle.walks.proofs.Walk.{closes, local}
-use Rattle.walks.proofs.Calls.{tokens, Told, no-token, plainly, calls-for, copied, ends-local}
+use Rattle.walks.proofs.Walk.{closes}
+use Rattle.walks.proofs.Locals.{allocates, passed, given-first, value, lands-in, hands, ends}
+use Rattle.walks.proofs.Calls.{tokens, Told, no-token, plainly, calls-for}
 use Rattle.lent.proofs.Asked.{reads-policy}
 use Rattle.lent_policy.proofs.PolicyTypes.{R, policy-vals}
 use Rattle.lent_policy.proofs.rules.policy_of as read
@@ -24,10 +30,6 @@ use Rattle.host.proofs.calls.unmavreth_acceptable.Key as key
 use Rattle.host.proofs.calls.unmavreth_acceptable as f
 use Rattle.host.proofs.calls.unmavreth_acceptable.Statement as stated
 use Rattle.host.proofs.calls.unmavreth_acceptable.Code as code
-
--- where parameter i stands among what is had, behind so many entries that are no locals
-abbrev param : ℕ → ℕ → ℕ
-param = local 3
 
 abbrev stayed : Stays (f.ended .signature .params) (f.ended .kept)
 stayed = (stay-dropped (shrRefTo (0 ∷ []) tt (plain (λ _. R))) yes, (stay-dropped (plain (λ _. P.the-row)) yes, tt))
@@ -57,15 +59,17 @@ module _ {M : Type 1} (𝓤 : URA M) (H : Heap 𝓤) (A : Atoms 𝓤) (W : Given
     walk : ent 𝓤 (onEntry 𝓤 H A f.signature κs qs a vals) (WpFn 𝓤 H C Λ code.function (flat (typesAt (f.signature .params) κs) vals) Post)
     walk =
         qed W (tokens 𝓤 1 κs qs ∷ ‵ (owns (typesAt (f.signature .params) κs) a vals) ∷ []) ∵ enter ! C Λ code.function (flat (typesAt (f.signature .params) κs) vals) _ $
-        alloc1 ! (λ l₀. alloc1 ! (λ l₁. alloc1 ! (λ l₂. alloc1 ! (λ l₃. alloc0 ! $ params1 ! $ pass1 ! (init ! (param 0 1) refl (tt, tt)) $ pass1 ! (init ! (param 0 2) refl (LL.lawful P.the-type P′.the-laws 𝓤 H A W .typed g _ g-is .0)) $ pass0 ! $
-        move ! (9 ∷ []) $ fsplit ! $ move ! (1 ∷ []) $ drop ! $ move ! (9 ∷ []) $ no-token ! $ move ! (1 ∷ []) $
-        -- [the policy; its token; _3 at 2; …; _i at 8 - 2 i; …; room for _0 at 8; …]
-        reads-policy ! fm at-mem run x known-read (λ i j. and-then ! (copied ! (param 2 1) refl) (no-more !)) (λ p-is. land ! (from ! (stop !)) (init ! 2 refl (LL.lawful Y.the-type Y′.the-laws 𝓤 H A W .typed (x .now) _ p-is .0)) $
+        allocates ! (λ l. params1 ! $ passed ! refl (tt, tt) $
+        passed ! refl (LL.lawful P.the-type P′.the-laws 𝓤 H A W .typed g _ g-is .0) $ pass0 ! $ given-first ! $
+        move ! (1 ∷ []) $ fsplit ! $ move ! (1 ∷ []) $ drop ! $ move ! (1 ∷ []) $ no-token ! $ move ! (1 ∷ []) $
+        -- [the policy; its token; the locals]
+        reads-policy ! fm at-mem run x known-read (λ i j. and-then ! (value ! refl) (no-more !))
+        (λ p-is. lands-in ! refl (LL.lawful Y.the-type Y′.the-laws 𝓤 H A W .typed (x .now) _ p-is .0) $
         plainly ! (R ∷ P.the-row ∷ []) (LL.makes Y.the-type Y′.the-plain 𝓤 H A, (LL.makes P.the-type P′.the-plain 𝓤 H A, tt)) (x .now, (g, tt)) (policy-vals (x .now), (pair-vals g, tt)) (p-is, (g-is, tt)) $
         calls-for ! fm decide.ended (decide.clauses 𝓤 H A at-mem run) known-decide ((tt, tt, tt, (x .now, (g, tt)), (policy-vals (x .now), (pair-vals g, tt))), tt) (id⊢ 𝓤 _)
-        (and-then ! (copied ! 3 refl) (and-then ! (copied ! (param 3 2) refl) (no-more !))) bool-vals bool-tells (acceptable (x .now) g) (λ r ws. id⊢ 𝓤 _) (λ _. drop ! $
-        land ! (from ! (stop !)) (init ! 8 refl (tt, tt)) $ returns ! (look ! 8 refl) $
-        move ! (8 ∷ 9 ∷ []) $ ends-local ! $ move ! (6 ∷ 7 ∷ []) $ ends-local ! $ move ! (4 ∷ 5 ∷ []) $ ends-local ! $ move ! (2 ∷ 3 ∷ []) $ ends-local ! $ free0 ! $ keep ! (1 ∷ []) $ by ! exits))))))
+        (and-then ! (value ! refl) (and-then ! (value ! refl) (no-more !))) bool-vals bool-tells (acceptable (x .now) g)
+        (λ r ws. id⊢ 𝓤 _) (λ _. drop ! $
+        lands-in ! refl (tt, tt) $ hands ! refl $ ends ! refl refl $ keep ! (1 ∷ []) $ by ! exits)))
 
 pub unmavreth-acceptable-spec : {M : Type 1} → stated.statement M
 unfolding code.routine tablesOf

@@ -1,10 +1,15 @@
 -- `host::calls::unmavreth_close_ike` meets its contract: a walk of its MIR, by hand. The list is lent to `ipsec_count` and the table to `ike_place`, the covered `ike_closing` decides, and then the table is passed for good to `ike_store`, and the list to `release_if`.
 -- Assumes nothing.
-use Rattle.walks.proofs.Kit.{_≡_, refl, ℕ, _<_, _^_, cond, [], _∷_, List, map, eqb, length, set, URA, named, w8, w64, Val, vint, SProp, ent, emp, via, id⊢, fst∗, flft, fres, Memory, Routine, Heap, Calls, Loops, WpFn, Atoms, Lfts, Shares, Fun, givenOf, tables, tablesOf, Given, ‵, ⋆, _$_}
-use Rattle.walks.proofs.Kit.{_∵_, !, qed, by, move, drop, split, join, fsplit, fjoin, suffices, frame, done, look, init, stop, hop, fld, from, load, lit, of-opd, bin, addr, assigns, and-then, no-more, land, returns, enter, alloc1, alloc0, params1, pass1, pass0, free0, whole, sub, look-in}
-use Rattle.walks.proofs.Kit.{agg, FmC, fmOf, owns, flat, Is, Spells, valss, uint-makes, uint-vals, uint-tells, bool-makes, bool-vals, nothing-tells, u8, u64, usize, bool, ArrayOf, RefT, ptr-vals, mut-tells, slice-vals, mut-slice-tells, Room, finally, Slot, plain, typesAt, owned, nothing}
-use Rattle.walks.proofs.Kit.{Triple, Args, Vals, onEntry, cited, says, Stays, stay-dropped, gave-ref, gave-slice, walkOf, goes-dropped, goes-gave-ref, goes-gave-slice, ends-at, yes}
-use types.Run.{store as stores}
+use Rattle.walks.proofs.Kit.{_≡_, refl, ℕ, _<_, _^_, cond, [], _∷_, List, map, eqb, length, set, URA, named, w8, w64}
+use Rattle.walks.proofs.Kit.{Val, vint, SProp, ent, emp, via, id⊢, fst∗, flft, fres, Memory, Routine, Heap, Calls}
+use Rattle.walks.proofs.Kit.{Loops, WpFn, Atoms, Lfts, Shares, Fun, givenOf, tables, tablesOf, Given, ‵, ⋆, _$_, _∵_, ! }
+use Rattle.walks.proofs.Kit.{qed, by, move, drop, split, join, fsplit, fjoin, suffices, frame, done, stop, lit, of-opd}
+use Rattle.walks.proofs.Kit.{bin, addr, and-then, no-more, enter, params1, pass0, whole, sub, agg, FmC, fmOf, owns}
+use Rattle.walks.proofs.Kit.{flat, Is, Spells, valss, uint-makes, uint-vals, uint-tells, bool-makes, bool-vals}
+use Rattle.walks.proofs.Kit.{nothing-tells, u8, u64, usize, bool, ArrayOf, RefT, ptr-vals, mut-tells, slice-vals}
+use Rattle.walks.proofs.Kit.{mut-slice-tells, Room, finally, Slot, plain, typesAt, owned, nothing, Triple, Args, Vals}
+use Rattle.walks.proofs.Kit.{onEntry, cited, says, Stays, stay-dropped, gave-ref, gave-slice, walkOf, goes-dropped}
+use Rattle.walks.proofs.Kit.{goes-gave-ref, goes-gave-slice, ends-at, yes}
 use denote.Struct.Laws as LL
 use Rattle.octets.specs.Lists.{placeOf}
 use Rattle.records.specs.Records.{ikeSpi, released}
@@ -18,8 +23,10 @@ use Rattle.tables.proofs.calls.IkeChange.Laws as D′
 use Rattle.tables.proofs.calls.ike_closing as closing
 use Rattle.tables.proofs.calls.ike_closing.Symbol as closing-def
 use Rattle.tables.proofs.calls.ike_closing.Met as closing-thm
-use Rattle.walks.proofs.Walk.{closes, local}
-use Rattle.walks.proofs.Calls.{_&_, tokens, Told, no-token, list-last, plainly, gives, calls-for, calls-to, copied, ends-local}
+use Rattle.walks.proofs.Walk.{closes}
+use Rattle.walks.proofs.Locals.{allocates, passed, given-first, value, part, behind, behind-part, sets, lands-in}
+use Rattle.walks.proofs.Locals.{lands-over, hands, ends}
+use Rattle.walks.proofs.Calls.{_&_, tokens, Told, no-token, list-last, plainly, gives, calls-for, calls-to}
 use Rattle.lent.proofs.Asked.{counts, finds-ike, stores-ike}
 use Rattle.lent_ike.proofs.IkeTable.{R as Rₖ, Q}
 use Rattle.lent_ipsec.proofs.IpsecTable.{R}
@@ -39,10 +46,6 @@ use Rattle.host.proofs.calls.unmavreth_close_ike.Key as key
 use Rattle.host.proofs.calls.unmavreth_close_ike as f
 use Rattle.host.proofs.calls.unmavreth_close_ike.Statement as stated
 use Rattle.host.proofs.calls.unmavreth_close_ike.Code as code
-
--- where parameter i stands among what is had, behind so many entries that are no locals
-abbrev param : ℕ → ℕ → ℕ
-param = local 14
 
 abbrev table : Slot 2
 table = ArrayOf (plain (λ _. Rₖ)) (λ κs. tt) 32
@@ -88,32 +91,43 @@ module _ {M : Type 1} (𝓤 : URA M) (H : Heap 𝓤) (A : Atoms 𝓤) (W : Given
     walk : ent 𝓤 (onEntry 𝓤 H A f.signature κs qs a vals) (WpFn 𝓤 H C Λ code.function (flat (typesAt (f.signature .params) κs) vals) Post)
     walk =
         qed W (tokens 𝓤 2 κs qs ∷ ‵ (owns (typesAt (f.signature .params) κs) a vals) ∷ []) ∵ enter ! C Λ code.function (flat (typesAt (f.signature .params) κs) vals) _ $
-        alloc1 ! (λ l₀. alloc1 ! (λ l₁. alloc1 ! (λ l₂. alloc1 ! (λ l₃. alloc1 ! (λ l₄. alloc1 ! (λ l₅. alloc1 ! (λ l₆. alloc1 ! (λ l₇. alloc1 ! (λ l₈. alloc1 ! (λ l₉. alloc1 ! (λ l₁₀. alloc1 ! (λ l₁₁. alloc1 ! (λ l₁₂. alloc1 ! (λ l₁₃. alloc1 ! (λ l₁₄. alloc0 ! $ params1 ! $
-        pass1 ! (init ! (param 0 1) refl (tt, tt)) $ pass1 ! (init ! (param 0 2) refl (tt, (tt, (record { fits = room .0 }, tt)))) $ pass1 ! (init ! (param 0 3) refl (tt, record { fits = k-fits })) $ pass0 ! $
-        move ! (31 ∷ []) $ fsplit ! $ move ! (1 ∷ []) $ fsplit ! $ move ! (1 ∷ []) $ drop ! $ move ! (32 ∷ []) $ split ! $ move ! (1 ∷ []) $ no-token ! $ move ! (2 ∷ 0 ∷ 3 ∷ 1 ∷ []) $
-        -- [the list; its token; the table; its token; _14 at 4; …; _i at 32 - 2 i; …; room for _0 at 32; …]
-        assigns ! (addr ! (from ! (fld ! refl (hop ! (look-in ! (param 4 2) (sub ! 0 refl (whole !))) (stop !))))) (from ! (stop !)) (init ! 18 refl (tt, tt)) $
-        assigns ! (agg ! (and-then ! (copied ! 18 refl) (and-then ! (load ! (from ! (fld ! refl (stop !))) (look-in ! (param 4 2) (sub ! 1 refl (whole !)))) (no-more !)))) (from ! (stop !)) (init ! 16 refl (tt, (tt, (record { fits = room .0 }, tt)))) $
-        counts ! fm at-mem run x known-count room (λ i j. (and-then ! (copied ! 16 refl) (no-more !))) $ land ! (from ! (stop !)) (init ! 24 refl (tt, record { fits = room .0 })) $
-        assigns ! (addr ! (from ! (hop ! (look ! (param 4 1) refl) (stop !)))) (from ! (stop !)) (init ! 14 refl (tt, tt)) $ move ! (2 ∷ 3 ∷ []) $
+        allocates ! (λ l. params1 ! $
+        passed ! refl (tt, tt) $ passed ! refl (tt, (tt, (record { fits = room .0 }, tt))) $
+        passed ! refl (tt, record { fits = k-fits }) $ pass0 ! $ given-first ! $
+        move ! (1 ∷ []) $ fsplit ! $ move ! (1 ∷ []) $ fsplit ! $ move ! (1 ∷ []) $ drop ! $ move ! (2 ∷ []) $ split ! $
+        move ! (1 ∷ []) $ no-token ! $ move ! (2 ∷ 0 ∷ 3 ∷ 1 ∷ []) $
+        -- [the list; its token; the table; its token; the locals]
+        sets ! (addr ! (behind-part ! refl (sub ! 0 refl (whole !)) (stop !))) refl (tt, tt) $
+        sets ! (agg ! (and-then ! (value ! refl) (and-then ! (part ! refl (sub ! 1 refl (whole !))) (no-more !)))) refl
+        (tt, (tt, (record { fits = room .0 }, tt))) $
+        counts ! fm at-mem run x known-count room (λ i j. (and-then ! (value ! refl) (no-more !))) $
+        lands-in ! refl (tt, record { fits = room .0 }) $
+        sets ! (addr ! (behind ! refl (stop !))) refl (tt, tt) $ move ! (2 ∷ 3 ∷ []) $
         -- [the table; its token; the list; its token; the locals as before]
-        finds-ike ! fm at-mem run y known-place k k-fits (λ i j. (and-then ! (copied ! 14 refl) (and-then ! (copied ! (param 4 3) refl) (no-more !)))) (λ long found-fits. land ! (from ! (stop !)) (init ! 22 refl (tt, record { fits = found-fits })) $
+        finds-ike ! fm at-mem run y known-place k k-fits (λ i j. (and-then ! (value ! refl) (and-then ! (value ! refl)
+        (no-more !)))) (λ long found-fits. lands-in ! refl (tt, record { fits = found-fits }) $
         plainly ! (usize ∷ u64 ∷ usize ∷ []) (uint-makes 𝓤 H A W w64 & uint-makes 𝓤 H A W w64 & uint-makes 𝓤 H A W w64 & tt) (length (x .now), (k, (found, tt))) (uint-vals w64 (length (x .now)), (uint-vals w64 k, (uint-vals w64 found, tt))) ((refl, room .0), ((refl, k-fits), ((refl, found-fits), tt))) $
         calls-for ! fm closing.ended (closing.clauses 𝓤 H A at-mem run) known-closing ((tt, tt, tt, (length (x .now), (k, (found, tt))), (uint-vals w64 (length (x .now)), (uint-vals w64 k, (uint-vals w64 found, tt)))), tt) (id⊢ 𝓤 _)
-        (and-then ! (copied ! 25 refl) (and-then ! (copied ! (param 5 3) refl) (and-then ! (copied ! 23 refl) (no-more !)))) (LL.vals D.the-type D′.the-laws) (LL.tells D.the-type D′.the-laws) c (λ r ws. id⊢ 𝓤 _) (λ is. drop ! $
-        land ! (from ! (stop !)) (init ! 20 refl (LL.lawful D.the-type D′.the-laws 𝓤 H A W .typed c _ is .0)) $
-        assigns ! (addr ! (from ! (hop ! (look ! (param 4 1) refl) (stop !)))) (from ! (stop !)) (init ! 10 refl (tt, tt)) $
-        stores-ike ! fm at-mem run y known-store (c .place) (c .entry) (LL.owed D.the-type D′.the-laws c _ is .1 .0) (LL.owed D.the-type D′.the-laws c _ is .1 .1 .0) (λ j. (and-then ! (copied ! 9 refl) (and-then ! (load ! (from ! (fld ! refl (stop !))) (look-in ! 19 (sub ! 1 refl (whole !)))) (and-then ! (load ! (from ! (fld ! refl (stop !))) (look-in ! 19 (sub ! 2 refl (whole !)))) (no-more !))))) (λ zs e₁. land ! (from ! (stop !)) (init ! 12 refl (tt, tt)) $ move ! (2 ∷ 3 ∷ []) $
+        (and-then ! (value ! refl) (and-then ! (value ! refl) (and-then ! (value ! refl) (no-more !))))
+        (LL.vals D.the-type D′.the-laws) (LL.tells D.the-type D′.the-laws) c (λ r ws. id⊢ 𝓤 _) (λ is. drop ! $
+        lands-in ! refl (LL.lawful D.the-type D′.the-laws 𝓤 H A W .typed c _ is .0) $
+        sets ! (addr ! (behind ! refl (stop !))) refl (tt, tt) $
+        stores-ike ! fm at-mem run y known-store (c .place) (c .entry) (LL.owed D.the-type D′.the-laws c _ is .1 .0)
+        (LL.owed D.the-type D′.the-laws c _ is .1 .1 .0) (λ j. (and-then ! (value ! refl) (and-then ! (part ! refl
+        (sub ! 1 refl (whole !))) (and-then ! (part ! refl (sub ! 2 refl (whole !))) (no-more !)))))
+        (λ zs e₁. lands-in ! refl (tt, tt) $ move ! (2 ∷ 3 ∷ []) $
         -- [the list; its token; what says the last records; the table's token; the locals as before]
-        assigns ! (addr ! (from ! (fld ! refl (hop ! (look-in ! (param 4 2) (sub ! 0 refl (whole !))) (stop !))))) (from ! (stop !)) (init ! 8 refl (tt, tt)) $
-        assigns ! (agg ! (and-then ! (copied ! 8 refl) (and-then ! (load ! (from ! (fld ! refl (stop !))) (look-in ! (param 4 2) (sub ! 1 refl (whole !)))) (no-more !)))) (from ! (stop !)) (init ! 6 refl (tt, (tt, (record { fits = room .0 }, tt)))) $
-        assigns ! (bin ! (load ! (from ! (fld ! refl (stop !))) (look-in ! 20 (sub ! 0 refl (whole !)))) (lit ! tt) tt) (from ! (stop !)) (init ! 4 refl (tt, tt)) $
+        sets ! (addr ! (behind-part ! refl (sub ! 0 refl (whole !)) (stop !))) refl (tt, tt) $
+        sets ! (agg ! (and-then ! (value ! refl) (and-then ! (part ! refl (sub ! 1 refl (whole !))) (no-more !)))) refl
+        (tt, (tt, (record { fits = room .0 }, tt))) $
+        sets ! (bin ! (part ! refl (sub ! 0 refl (whole !))) (lit ! tt) tt) refl (tt, tt) $
         gives ! (bool ∷ u64 ∷ []) (bool-makes 𝓤 H A W & uint-makes 𝓤 H A W w64 & tt) (eqb (c .number) 0, (k, tt)) (bool-vals (eqb (c .number) 0), (uint-vals w64 k, tt)) (refl, ((refl, k-fits), tt)) $
         calls-to ! fm release.ended (release.clauses 𝓤 H A at-mem run) known-release (((κs .1 .0, tt), (qs .1 .0, tt), tt, (x, (eqb (c .number) 0, (k, tt))), (slice-vals x, (bool-vals (eqb (c .number) 0), (uint-vals w64 k, tt)))), tt) (id⊢ 𝓤 _)
-        (and-then ! (copied ! 5 refl) (and-then ! (copied ! 3 refl) (and-then ! (copied ! (param 3 3) refl) (no-more !)))) nothing-tells (λ ws. ws .0 ≡ left) (λ r ws. id⊢ 𝓤 _) (λ us e₂. list-last ! (λ l. land ! (from ! (stop !)) (stores ! 12 refl (tt, tt)) $
-        assigns ! (of-opd ! (load ! (from ! (fld ! refl (stop !))) (look-in ! 20 (sub ! 0 refl (whole !))))) (from ! (stop !)) (init ! 32 refl (tt, record { fits = LL.owed D.the-type D′.the-laws c _ is .0 .1 })) $ returns ! (look ! 32 refl) $
-        move ! (32 ∷ 33 ∷ []) $ ends-local ! $ move ! (30 ∷ 31 ∷ []) $ ends-local ! $ move ! (28 ∷ 29 ∷ []) $ ends-local ! $ move ! (26 ∷ 27 ∷ []) $ ends-local ! $ move ! (24 ∷ 25 ∷ []) $ ends-local ! $ move ! (22 ∷ 23 ∷ []) $ ends-local ! $ move ! (20 ∷ 21 ∷ []) $ ends-local ! $ move ! (18 ∷ 19 ∷ []) $ ends-local ! $ move ! (16 ∷ 17 ∷ []) $ ends-local ! $ move ! (14 ∷ 15 ∷ []) $ ends-local ! $ move ! (12 ∷ 13 ∷ []) $ ends-local ! $ move ! (10 ∷ 11 ∷ []) $ ends-local ! $ move ! (8 ∷ 9 ∷ []) $ ends-local ! $ move ! (6 ∷ 7 ∷ []) $ ends-local ! $ move ! (4 ∷ 5 ∷ []) $ ends-local ! $ free0 ! $
-        by ! (exits long (LL.owed D.the-type D′.the-laws c _ is .0 .1) zs (us .0) l e₁ e₂)))))))))))))))))))))
+        (and-then ! (value ! refl) (and-then ! (value ! refl) (and-then ! (value ! refl) (no-more !)))) nothing-tells
+        (λ ws. ws .0 ≡ left) (λ r ws. id⊢ 𝓤 _) (λ us e₂. list-last ! (λ l. lands-over ! refl (tt, tt) $
+        sets ! (of-opd ! (part ! refl (sub ! 0 refl (whole !)))) refl
+        (tt, record { fits = LL.owed D.the-type D′.the-laws c _ is .0 .1 }) $ hands ! refl $ ends ! refl refl $
+        by ! (exits long (LL.owed D.the-type D′.the-laws c _ is .0 .1) zs (us .0) l e₁ e₂)))))))
 
 pub unmavreth-close-ike-spec : {M : Type 1} → stated.statement M
 unfolding code.routine tablesOf

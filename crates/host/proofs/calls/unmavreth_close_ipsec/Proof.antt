@@ -1,9 +1,13 @@
 -- `host::calls::unmavreth_close_ipsec` meets its contract: a walk of its MIR, by hand. The list is lent to `ipsec_count` and `ipsec_place`, the covered `ipsec_closing` decides, and the list is passed for good to `ipsec_store`.
 -- Assumes nothing.
-use Rattle.walks.proofs.Kit.{_≡_, refl, ℕ, _<_, _^_, [], _∷_, List, length, set, URA, named, w8, w32, w64, Val, vint, SProp, ent, emp, via, id⊢, fst∗, flft, Memory, Routine, Heap, Calls, Loops, WpFn, Atoms, Lfts, Shares, Fun, givenOf, tables, tablesOf, Given, ‵, ⋆, _$_, _∵_, !, qed, by}
-use Rattle.walks.proofs.Kit.{move, drop, join, fsplit, fjoin, suffices, frame, done, look, init, stop, hop, fld, from, load, of-opd, addr, assigns, and-then, no-more, land, returns, enter, alloc1, alloc0, params1, pass1, pass0, free0, whole, sub, look-in, agg, FmC, fmOf, owns, flat, Is}
-use Rattle.walks.proofs.Kit.{Spells, valss, uint-makes, uint-vals, uint-tells, u8, u32, usize, RefT, slice-vals, mut-slice-tells, Room, finally, plain, typesAt, owned, nothing, Triple, Args, Vals, onEntry, cited, says, Stays, stay-dropped, gave-slice, walkOf, goes-dropped, goes-gave-slice}
-use Rattle.walks.proofs.Kit.{ends-at, yes}
+use Rattle.walks.proofs.Kit.{_≡_, refl, ℕ, _<_, _^_, [], _∷_, List, length, set, URA, named, w8, w32, w64, Val, vint}
+use Rattle.walks.proofs.Kit.{SProp, ent, emp, via, id⊢, fst∗, flft, Memory, Routine, Heap, Calls, Loops, WpFn, Atoms}
+use Rattle.walks.proofs.Kit.{Lfts, Shares, Fun, givenOf, tables, tablesOf, Given, ‵, ⋆, _$_, _∵_, !, qed, by, move}
+use Rattle.walks.proofs.Kit.{drop, join, fsplit, fjoin, suffices, frame, done, stop, of-opd, addr, and-then, no-more}
+use Rattle.walks.proofs.Kit.{enter, params1, pass0, whole, sub, agg, FmC, fmOf, owns, flat, Is, Spells, valss}
+use Rattle.walks.proofs.Kit.{uint-makes, uint-vals, uint-tells, u8, u32, usize, RefT, slice-vals, mut-slice-tells, Room}
+use Rattle.walks.proofs.Kit.{finally, plain, typesAt, owned, nothing, Triple, Args, Vals, onEntry, cited, says, Stays}
+use Rattle.walks.proofs.Kit.{stay-dropped, gave-slice, walkOf, goes-dropped, goes-gave-slice, ends-at, yes}
 use denote.Struct.Laws as LL
 use Rattle.octets.specs.Lists.{placeOf}
 use Rattle.records.specs.Records.{ipsecSpi}
@@ -16,8 +20,9 @@ use Rattle.tables.proofs.calls.IpsecChange.Laws as D′
 use Rattle.tables.proofs.calls.ipsec_closing as closing
 use Rattle.tables.proofs.calls.ipsec_closing.Symbol as closing-def
 use Rattle.tables.proofs.calls.ipsec_closing.Met as closing-thm
-use Rattle.walks.proofs.Walk.{closes, local}
-use Rattle.walks.proofs.Calls.{_&_, tokens, Told, no-token, plainly, calls-for, copied, ends-local}
+use Rattle.walks.proofs.Walk.{closes}
+use Rattle.walks.proofs.Locals.{allocates, passed, given-first, value, part, behind-part, sets, lands-in, hands, ends}
+use Rattle.walks.proofs.Calls.{_&_, tokens, Told, no-token, plainly, calls-for}
 use Rattle.lent.proofs.Asked.{counts, finds-ipsec, stores-ipsec}
 use Rattle.lent_ipsec.proofs.IpsecTable.{R}
 use Rattle.lent_ipsec.proofs.places.ipsec_count as count
@@ -33,10 +38,6 @@ use Rattle.host.proofs.calls.unmavreth_close_ipsec.Key as key
 use Rattle.host.proofs.calls.unmavreth_close_ipsec as f
 use Rattle.host.proofs.calls.unmavreth_close_ipsec.Statement as stated
 use Rattle.host.proofs.calls.unmavreth_close_ipsec.Code as code
-
--- where parameter i stands among what is had, behind so many entries that are no locals
-abbrev param : ℕ → ℕ → ℕ
-param = local 12
 
 abbrev stayed : Stays (f.ended .signature .params) (f.ended .kept)
 stayed = (gave-slice (0 ∷ []) tt (plain (λ _. R)), (stay-dropped (plain (λ _. u32)) yes, tt))
@@ -75,28 +76,37 @@ module _ {M : Type 1} (𝓤 : URA M) (H : Heap 𝓤) (A : Atoms 𝓤) (W : Given
     walk : ent 𝓤 (onEntry 𝓤 H A f.signature κs qs a vals) (WpFn 𝓤 H C Λ code.function (flat (typesAt (f.signature .params) κs) vals) Post)
     walk =
         qed W (tokens 𝓤 1 κs qs ∷ ‵ (owns (typesAt (f.signature .params) κs) a vals) ∷ []) ∵ enter ! C Λ code.function (flat (typesAt (f.signature .params) κs) vals) _ $
-        alloc1 ! (λ l₀. alloc1 ! (λ l₁. alloc1 ! (λ l₂. alloc1 ! (λ l₃. alloc1 ! (λ l₄. alloc1 ! (λ l₅. alloc1 ! (λ l₆. alloc1 ! (λ l₇. alloc1 ! (λ l₈. alloc1 ! (λ l₉. alloc1 ! (λ l₁₀. alloc1 ! (λ l₁₁. alloc1 ! (λ l₁₂. alloc0 ! $ params1 ! $
-        pass1 ! (init ! (param 0 1) refl (tt, (tt, (record { fits = room .0 }, tt)))) $ pass1 ! (init ! (param 0 2) refl (tt, record { fits = k-fits })) $ pass0 ! $
-        move ! (27 ∷ []) $ fsplit ! $ move ! (1 ∷ []) $ drop ! $ move ! (27 ∷ []) $ no-token ! $ move ! (1 ∷ []) $
-        -- [the list; its token; _12 at 2; …; _i at 26 - 2 i; …; _0 at 26; …]
-        assigns ! (addr ! (from ! (fld ! refl (hop ! (look-in ! (param 2 1) (sub ! 0 refl (whole !))) (stop !))))) (from ! (stop !)) (init ! 14 refl (tt, tt)) $
-        assigns ! (agg ! (and-then ! (copied ! 14 refl) (and-then ! (load ! (from ! (fld ! refl (stop !))) (look-in ! (param 2 1) (sub ! 1 refl (whole !)))) (no-more !)))) (from ! (stop !)) (init ! 12 refl (tt, (tt, (record { fits = room .0 }, tt)))) $
-        counts ! fm at-mem run x known-count room (λ i j. (and-then ! (copied ! 12 refl) (no-more !))) $ land ! (from ! (stop !)) (init ! 20 refl (tt, record { fits = room .0 })) $
-        assigns ! (addr ! (from ! (fld ! refl (hop ! (look-in ! (param 2 1) (sub ! 0 refl (whole !))) (stop !))))) (from ! (stop !)) (init ! 10 refl (tt, tt)) $
-        assigns ! (agg ! (and-then ! (copied ! 10 refl) (and-then ! (load ! (from ! (fld ! refl (stop !))) (look-in ! (param 2 1) (sub ! 1 refl (whole !)))) (no-more !)))) (from ! (stop !)) (init ! 8 refl (tt, (tt, (record { fits = room .0 }, tt)))) $
-        finds-ipsec ! fm at-mem run x known-place room k k-fits (λ i j. (and-then ! (copied ! 8 refl) (and-then ! (copied ! (param 2 2) refl) (no-more !)))) (λ found-fits. land ! (from ! (stop !)) (init ! 18 refl (tt, record { fits = found-fits })) $
+        allocates ! (λ l. params1 ! $
+        passed ! refl (tt, (tt, (record { fits = room .0 }, tt))) $ passed ! refl (tt, record { fits = k-fits }) $
+        pass0 ! $ given-first ! $
+        move ! (1 ∷ []) $ fsplit ! $ move ! (1 ∷ []) $ drop ! $ move ! (1 ∷ []) $ no-token ! $ move ! (1 ∷ []) $
+        -- [the list; its token; the locals]
+        sets ! (addr ! (behind-part ! refl (sub ! 0 refl (whole !)) (stop !))) refl (tt, tt) $
+        sets ! (agg ! (and-then ! (value ! refl) (and-then ! (part ! refl (sub ! 1 refl (whole !))) (no-more !)))) refl
+        (tt, (tt, (record { fits = room .0 }, tt))) $
+        counts ! fm at-mem run x known-count room (λ i j. (and-then ! (value ! refl) (no-more !))) $
+        lands-in ! refl (tt, record { fits = room .0 }) $
+        sets ! (addr ! (behind-part ! refl (sub ! 0 refl (whole !)) (stop !))) refl (tt, tt) $
+        sets ! (agg ! (and-then ! (value ! refl) (and-then ! (part ! refl (sub ! 1 refl (whole !))) (no-more !)))) refl
+        (tt, (tt, (record { fits = room .0 }, tt))) $
+        finds-ipsec ! fm at-mem run x known-place room k k-fits (λ i j. (and-then ! (value ! refl) (and-then !
+        (value ! refl) (no-more !)))) (λ found-fits. lands-in ! refl (tt, record { fits = found-fits }) $
         plainly ! (usize ∷ u32 ∷ usize ∷ []) (uint-makes 𝓤 H A W w64 & uint-makes 𝓤 H A W w32 & uint-makes 𝓤 H A W w64 & tt) (length (x .now), (k, (found, tt))) (uint-vals w64 (length (x .now)), (uint-vals w32 k, (uint-vals w64 found, tt))) ((refl, room .0), ((refl, k-fits), ((refl, found-fits), tt))) $
         calls-for ! fm closing.ended (closing.clauses 𝓤 H A at-mem run) known-closing ((tt, tt, tt, (length (x .now), (k, (found, tt))), (uint-vals w64 (length (x .now)), (uint-vals w32 k, (uint-vals w64 found, tt)))), tt) (id⊢ 𝓤 _)
-        (and-then ! (copied ! 21 refl) (and-then ! (copied ! (param 3 2) refl) (and-then ! (copied ! 19 refl) (no-more !)))) (LL.vals D.the-type D′.the-laws) (LL.tells D.the-type D′.the-laws) c (λ r ws. id⊢ 𝓤 _) (λ is. drop ! $
-        land ! (from ! (stop !)) (init ! 16 refl (LL.lawful D.the-type D′.the-laws 𝓤 H A W .typed c _ is .0)) $
-        assigns ! (addr ! (from ! (fld ! refl (hop ! (look-in ! (param 2 1) (sub ! 0 refl (whole !))) (stop !))))) (from ! (stop !)) (init ! 4 refl (tt, tt)) $
-        assigns ! (agg ! (and-then ! (copied ! 4 refl) (and-then ! (load ! (from ! (fld ! refl (stop !))) (look-in ! (param 2 1) (sub ! 1 refl (whole !)))) (no-more !)))) (from ! (stop !)) (init ! 2 refl (tt, (tt, (record { fits = room .0 }, tt)))) $
-        stores-ipsec ! fm at-mem run x known-store (c .place) (c .entry) (LL.owed D.the-type D′.the-laws c _ is .1 .0) (LL.owed D.the-type D′.the-laws c _ is .1 .1 .0) (λ j. (and-then ! (copied ! 1 refl) (and-then ! (load ! (from ! (fld ! refl (stop !))) (look-in ! 15 (sub ! 1 refl (whole !)))) (and-then ! (load ! (from ! (fld ! refl (stop !))) (look-in ! 15 (sub ! 2 refl (whole !)))) (no-more !))))) (λ zs e l.
+        (and-then ! (value ! refl) (and-then ! (value ! refl) (and-then ! (value ! refl) (no-more !))))
+        (LL.vals D.the-type D′.the-laws) (LL.tells D.the-type D′.the-laws) c (λ r ws. id⊢ 𝓤 _) (λ is. drop ! $
+        lands-in ! refl (LL.lawful D.the-type D′.the-laws 𝓤 H A W .typed c _ is .0) $
+        sets ! (addr ! (behind-part ! refl (sub ! 0 refl (whole !)) (stop !))) refl (tt, tt) $
+        sets ! (agg ! (and-then ! (value ! refl) (and-then ! (part ! refl (sub ! 1 refl (whole !))) (no-more !)))) refl
+        (tt, (tt, (record { fits = room .0 }, tt))) $
+        stores-ipsec ! fm at-mem run x known-store (c .place) (c .entry) (LL.owed D.the-type D′.the-laws c _ is .1 .0)
+        (LL.owed D.the-type D′.the-laws c _ is .1 .1 .0) (λ j. (and-then ! (value ! refl) (and-then ! (part ! refl
+        (sub ! 1 refl (whole !))) (and-then ! (part ! refl (sub ! 2 refl (whole !))) (no-more !))))) (λ zs e l.
         -- [what says the last list; the token; the locals as before]
-        land ! (from ! (stop !)) (init ! 6 refl (tt, tt)) $
-        assigns ! (of-opd ! (load ! (from ! (fld ! refl (stop !))) (look-in ! 16 (sub ! 0 refl (whole !))))) (from ! (stop !)) (init ! 26 refl (tt, record { fits = LL.owed D.the-type D′.the-laws c _ is .0 .1 })) $ returns ! (look ! 26 refl) $
-        move ! (26 ∷ 27 ∷ []) $ ends-local ! $ move ! (24 ∷ 25 ∷ []) $ ends-local ! $ move ! (22 ∷ 23 ∷ []) $ ends-local ! $ move ! (20 ∷ 21 ∷ []) $ ends-local ! $ move ! (18 ∷ 19 ∷ []) $ ends-local ! $ move ! (16 ∷ 17 ∷ []) $ ends-local ! $ move ! (14 ∷ 15 ∷ []) $ ends-local ! $ move ! (12 ∷ 13 ∷ []) $ ends-local ! $ move ! (10 ∷ 11 ∷ []) $ ends-local ! $ move ! (8 ∷ 9 ∷ []) $ ends-local ! $ move ! (6 ∷ 7 ∷ []) $ ends-local ! $ move ! (4 ∷ 5 ∷ []) $ ends-local ! $ move ! (2 ∷ 3 ∷ []) $ ends-local ! $ free0 ! $
-        by ! (exits (LL.owed D.the-type D′.the-laws c _ is .0 .1) zs l e)))))))))))))))))
+        lands-in ! refl (tt, tt) $
+        sets ! (of-opd ! (part ! refl (sub ! 0 refl (whole !)))) refl
+        (tt, record { fits = LL.owed D.the-type D′.the-laws c _ is .0 .1 }) $ hands ! refl $ ends ! refl refl $
+        by ! (exits (LL.owed D.the-type D′.the-laws c _ is .0 .1) zs l e)))))
 
 pub unmavreth-close-ipsec-spec : {M : Type 1} → stated.statement M
 unfolding code.routine tablesOf

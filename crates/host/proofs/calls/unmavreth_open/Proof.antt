@@ -1,10 +1,14 @@
 -- `host::calls::unmavreth_open` meets its contract: a walk of its MIR, by hand. The list is lent to `ipsec_count`, the table twice to `ike_place` and the list twice to `ipsec_place`, the covered `both_opening` decides, and then the table is passed for good to `ike_store`, and the list to `ipsec_store`.
 -- Assumes nothing.
-use Rattle.walks.proofs.Kit.{_≡_, refl, ℕ, _<_, _^_, [], _∷_, List, lit<, length, set, URA, named, w8, w64, Val, vint, SProp, ent, emp, via, id⊢, fst∗, flft, fres, Memory, Routine, Heap, Calls, Loops, WpFn, Atoms, Lfts, Shares, Fun, givenOf, tables, tablesOf, Given, ‵, ⋆, _$_}
-use Rattle.walks.proofs.Kit.{_∵_, !, qed, by, move, drop, split, join, fsplit, fjoin, suffices, frame, done, look, init, stop, hop, fld, from, load, lit, of-opd, addr, assigns, and-then, no-more, land, returns, enter, alloc1, alloc0, params1, pass1, pass0, free0, whole, sub, look-in}
-use Rattle.walks.proofs.Kit.{agg, FmC, fmOf, RattleType, owns, flat, Is, Spells, valss, uint-makes, uint-vals, u8, usize, RefT, ptr-vals, mut-tells, slice-vals, mut-slice-tells, Room, finally, Slot, plain, typesAt, owned, nothing}
-use Rattle.walks.proofs.Kit.{Triple, Args, Vals, onEntry, cited, says, Stays, stay-dropped, gave-ref, gave-slice, walkOf, goes-dropped, goes-gave-ref, goes-gave-slice, ends-at, yes}
-use types.Run.{store as stores}
+use Rattle.walks.proofs.Kit.{_≡_, refl, ℕ, _<_, _^_, [], _∷_, List, lit<, length, set, URA, named, w8, w64, Val, vint}
+use Rattle.walks.proofs.Kit.{SProp, ent, emp, via, id⊢, fst∗, flft, fres, Memory, Routine, Heap, Calls, Loops, WpFn}
+use Rattle.walks.proofs.Kit.{Atoms, Lfts, Shares, Fun, givenOf, tables, tablesOf, Given, ‵, ⋆, _$_, _∵_, !, qed, by}
+use Rattle.walks.proofs.Kit.{move, drop, split, join, fsplit, fjoin, suffices, frame, done, stop, lit, of-opd, addr}
+use Rattle.walks.proofs.Kit.{and-then, no-more, enter, params1, pass0, whole, sub, agg, FmC, fmOf, RattleType, owns}
+use Rattle.walks.proofs.Kit.{flat, Is, Spells, valss, uint-makes, uint-vals, u8, usize, RefT, ptr-vals, mut-tells}
+use Rattle.walks.proofs.Kit.{slice-vals, mut-slice-tells, Room, finally, Slot, plain, typesAt, owned, nothing, Triple}
+use Rattle.walks.proofs.Kit.{Args, Vals, onEntry, cited, says, Stays, stay-dropped, gave-ref, gave-slice, walkOf}
+use Rattle.walks.proofs.Kit.{goes-dropped, goes-gave-ref, goes-gave-slice, ends-at, yes, T}
 use denote.Struct.Laws as LL
 use Rattle.octets.specs.Lists.{placeOf}
 use Rattle.records.specs.Records.{ikeSpi, ipsecSpi}
@@ -21,8 +25,10 @@ use Rattle.tables.proofs.calls.Opening.Laws as O′
 use Rattle.tables.proofs.calls.both_opening as opening
 use Rattle.tables.proofs.calls.both_opening.Symbol as opening-def
 use Rattle.tables.proofs.calls.both_opening.Met as opening-thm
-use Rattle.walks.proofs.Walk.{closes, local}
-use Rattle.walks.proofs.Calls.{_&_, tokens, Told, no-token, plainly, calls-for, copied, ends-local}
+use Rattle.walks.proofs.Walk.{closes}
+use Rattle.walks.proofs.Locals.{allocates, passed, given-first, value, part, behind, behind-part, sets, lands-in}
+use Rattle.walks.proofs.Locals.{lands-over, hands, ends}
+use Rattle.walks.proofs.Calls.{_&_, tokens, Told, no-token, plainly, calls-for}
 use Rattle.lent.proofs.Asked.{counts, finds-ike, finds-ipsec, stores-ike, stores-ipsec}
 use Rattle.lent_ike.proofs.IkeTable.{Q, table-slot}
 use Rattle.lent_ipsec.proofs.IpsecTable.{R}
@@ -45,10 +51,6 @@ use Rattle.host.proofs.calls.unmavreth_open.Key as key
 use Rattle.host.proofs.calls.unmavreth_open as f
 use Rattle.host.proofs.calls.unmavreth_open.Statement as stated
 use Rattle.host.proofs.calls.unmavreth_open.Code as code
-
--- where parameter i stands among what is had, behind so many entries that are no locals
-abbrev param : ℕ → ℕ → ℕ
-param = local 21
 
 abbrev val : RattleType → Slot 2
 val T = plain (λ _. T)
@@ -115,38 +117,59 @@ module _ {M : Type 1} (𝓤 : URA M) (H : Heap 𝓤) (A : Atoms 𝓤) (W : Given
     walk : ent 𝓤 (onEntry 𝓤 H A f.signature κs qs a vals) (WpFn 𝓤 H C Λ code.function (flat (typesAt (f.signature .params) κs) vals) Post)
     walk =
         qed W (tokens 𝓤 2 κs qs ∷ ‵ (owns (typesAt (f.signature .params) κs) a vals) ∷ []) ∵ enter ! C Λ code.function (flat (typesAt (f.signature .params) κs) vals) _ $
-        alloc1 ! (λ l₀. alloc1 ! (λ l₁. alloc1 ! (λ l₂. alloc1 ! (λ l₃. alloc1 ! (λ l₄. alloc1 ! (λ l₅. alloc1 ! (λ l₆. alloc1 ! (λ l₇. alloc1 ! (λ l₈. alloc1 ! (λ l₉. alloc1 ! (λ l₁₀. alloc1 ! (λ l₁₁. alloc1 ! (λ l₁₂. alloc1 ! (λ l₁₃. alloc1 ! (λ l₁₄. alloc1 ! (λ l₁₅. alloc1 ! (λ l₁₆. alloc1 ! (λ l₁₇. alloc1 ! (λ l₁₈. alloc1 ! (λ l₁₉. alloc1 ! (λ l₂₀. alloc1 ! (λ l₂₁. alloc0 ! $ params1 ! $
-        pass1 ! (init ! (param 0 1) refl (tt, tt)) $ pass1 ! (init ! (param 0 2) refl (tt, (tt, (record { fits = room .0 }, tt)))) $ pass1 ! (init ! (param 0 3) refl (LL.lawful O.the-type O′.the-laws 𝓤 H A W .typed h _ h-is .0)) $ pass0 ! $
-        move ! (45 ∷ []) $ fsplit ! $ move ! (1 ∷ []) $ fsplit ! $ move ! (1 ∷ []) $ drop ! $ move ! (46 ∷ []) $ split ! $ move ! (1 ∷ []) $ no-token ! $ move ! (2 ∷ 0 ∷ 3 ∷ 1 ∷ []) $
-        -- [the list; its token; the table; its token; _21 at 4; …; _i at 46 - 2 i; …; room for _0 at 46; …]
-        assigns ! (addr ! (from ! (fld ! refl (hop ! (look-in ! (param 4 2) (sub ! 0 refl (whole !))) (stop !))))) (from ! (stop !)) (init ! 26 refl (tt, tt)) $
-        assigns ! (agg ! (and-then ! (copied ! 26 refl) (and-then ! (load ! (from ! (fld ! refl (stop !))) (look-in ! (param 4 2) (sub ! 1 refl (whole !)))) (no-more !)))) (from ! (stop !)) (init ! 24 refl (tt, (tt, (record { fits = room .0 }, tt)))) $
-        counts ! fm at-mem run x known-count room (λ i j. (and-then ! (copied ! 24 refl) (no-more !))) $ land ! (from ! (stop !)) (init ! 38 refl (tt, record { fits = room .0 })) $ move ! (2 ∷ 3 ∷ []) $
+        allocates ! (λ l. params1 ! $
+        passed ! refl (tt, tt) $ passed ! refl (tt, (tt, (record { fits = room .0 }, tt))) $
+        passed ! refl (LL.lawful O.the-type O′.the-laws 𝓤 H A W .typed h _ h-is .0) $ pass0 ! $ given-first ! $
+        move ! (1 ∷ []) $ fsplit ! $ move ! (1 ∷ []) $ fsplit ! $ move ! (1 ∷ []) $ drop ! $ move ! (2 ∷ []) $ split ! $
+        move ! (1 ∷ []) $ no-token ! $ move ! (2 ∷ 0 ∷ 3 ∷ 1 ∷ []) $
+        -- [the list; its token; the table; its token; the locals]
+        sets ! (addr ! (behind-part ! refl (sub ! 0 refl (whole !)) (stop !))) refl (tt, tt) $
+        sets ! (agg ! (and-then ! (value ! refl) (and-then ! (part ! refl (sub ! 1 refl (whole !))) (no-more !)))) refl
+        (tt, (tt, (record { fits = room .0 }, tt))) $
+        counts ! fm at-mem run x known-count room (λ i j. (and-then ! (value ! refl) (no-more !))) $
+        lands-in ! refl (tt, record { fits = room .0 }) $ move ! (2 ∷ 3 ∷ []) $
         -- [the table; its token; the list; its token; the locals as before]
-        assigns ! (addr ! (from ! (hop ! (look ! (param 4 1) refl) (stop !)))) (from ! (stop !)) (init ! 22 refl (tt, tt)) $
-        finds-ike ! fm at-mem run y known-home (h .spi) spi-fits (λ i j. (and-then ! (copied ! 22 refl) (and-then ! (load ! (from ! (fld ! refl (stop !))) (look-in ! (param 4 3) (sub ! 0 refl (whole !)))) (no-more !)))) (λ long taken-fits. land ! (from ! (stop !)) (init ! 36 refl (tt, record { fits = taken-fits })) $
-        assigns ! (addr ! (from ! (hop ! (look ! (param 4 1) refl) (stop !)))) (from ! (stop !)) (init ! 20 refl (tt, tt)) $
-        finds-ike ! fm at-mem run y known-home 0 (lit< tt) (λ i j. (and-then ! (copied ! 20 refl) (and-then ! (lit ! tt) (no-more !)))) (λ _ free-fits. land ! (from ! (stop !)) (init ! 34 refl (tt, record { fits = free-fits })) $ move ! (2 ∷ 3 ∷ []) $
-        assigns ! (addr ! (from ! (fld ! refl (hop ! (look-in ! (param 4 2) (sub ! 0 refl (whole !))) (stop !))))) (from ! (stop !)) (init ! 18 refl (tt, tt)) $
-        assigns ! (agg ! (and-then ! (copied ! 18 refl) (and-then ! (load ! (from ! (fld ! refl (stop !))) (look-in ! (param 4 2) (sub ! 1 refl (whole !)))) (no-more !)))) (from ! (stop !)) (init ! 16 refl (tt, (tt, (record { fits = room .0 }, tt)))) $
-        finds-ipsec ! fm at-mem run x known-place room (h .child) child-fits (λ i j. (and-then ! (copied ! 16 refl) (and-then ! (load ! (from ! (fld ! refl (stop !))) (look-in ! (param 4 3) (sub ! 3 refl (whole !)))) (no-more !)))) (λ child-taken-fits. land ! (from ! (stop !)) (init ! 32 refl (tt, record { fits = child-taken-fits })) $
-        assigns ! (addr ! (from ! (fld ! refl (hop ! (look-in ! (param 4 2) (sub ! 0 refl (whole !))) (stop !))))) (from ! (stop !)) (init ! 14 refl (tt, tt)) $
-        assigns ! (agg ! (and-then ! (copied ! 14 refl) (and-then ! (load ! (from ! (fld ! refl (stop !))) (look-in ! (param 4 2) (sub ! 1 refl (whole !)))) (no-more !)))) (from ! (stop !)) (init ! 12 refl (tt, (tt, (record { fits = room .0 }, tt)))) $
-        finds-ipsec ! fm at-mem run x known-place room 0 (lit< tt) (λ i j. (and-then ! (copied ! 12 refl) (and-then ! (lit ! tt) (no-more !)))) (λ child-free-fits. land ! (from ! (stop !)) (init ! 30 refl (tt, record { fits = child-free-fits })) $
+        sets ! (addr ! (behind ! refl (stop !))) refl (tt, tt) $
+        finds-ike ! fm at-mem run y known-home (h .spi) spi-fits (λ i j. (and-then ! (value ! refl) (and-then !
+        (part ! refl (sub ! 0 refl (whole !))) (no-more !)))) (λ long taken-fits. lands-in ! refl
+        (tt, record { fits = taken-fits }) $
+        sets ! (addr ! (behind ! refl (stop !))) refl (tt, tt) $
+        finds-ike ! fm at-mem run y known-home 0 (lit< tt) (λ i j. (and-then ! (value ! refl) (and-then ! (lit ! tt)
+        (no-more !)))) (λ _ free-fits. lands-in ! refl (tt, record { fits = free-fits }) $ move ! (2 ∷ 3 ∷ []) $
+        sets ! (addr ! (behind-part ! refl (sub ! 0 refl (whole !)) (stop !))) refl (tt, tt) $
+        sets ! (agg ! (and-then ! (value ! refl) (and-then ! (part ! refl (sub ! 1 refl (whole !))) (no-more !)))) refl
+        (tt, (tt, (record { fits = room .0 }, tt))) $
+        finds-ipsec ! fm at-mem run x known-place room (h .child) child-fits (λ i j. (and-then ! (value ! refl)
+        (and-then ! (part ! refl (sub ! 3 refl (whole !))) (no-more !)))) (λ child-taken-fits. lands-in ! refl
+        (tt, record { fits = child-taken-fits }) $
+        sets ! (addr ! (behind-part ! refl (sub ! 0 refl (whole !)) (stop !))) refl (tt, tt) $
+        sets ! (agg ! (and-then ! (value ! refl) (and-then ! (part ! refl (sub ! 1 refl (whole !))) (no-more !)))) refl
+        (tt, (tt, (record { fits = room .0 }, tt))) $
+        finds-ipsec ! fm at-mem run x known-place room 0 (lit< tt) (λ i j. (and-then ! (value ! refl) (and-then !
+        (lit ! tt) (no-more !)))) (λ child-free-fits. lands-in ! refl (tt, record { fits = child-free-fits }) $
         plainly ! (usize ∷ O.the-row ∷ usize ∷ usize ∷ usize ∷ usize ∷ []) (uint-makes 𝓤 H A W w64 & LL.makes O.the-type O′.the-plain 𝓤 H A & uint-makes 𝓤 H A W w64 & uint-makes 𝓤 H A W w64 & uint-makes 𝓤 H A W w64 & uint-makes 𝓤 H A W w64 & tt) (length (x .now), (h, (taken, (free, (child-taken, (child-free, tt))))))
         (uint-vals w64 (length (x .now)), (opening-vals h, (uint-vals w64 taken, (uint-vals w64 free, (uint-vals w64 child-taken, (uint-vals w64 child-free, tt)))))) ((refl, room .0), (h-is, ((refl, taken-fits), ((refl, free-fits), ((refl, child-taken-fits), ((refl, child-free-fits), tt)))))) $
         calls-for ! fm opening.ended (opening.clauses 𝓤 H A at-mem run) known-opening ((tt, tt, tt, (length (x .now), (h, (taken, (free, (child-taken, (child-free, tt)))))), (uint-vals w64 (length (x .now)), (opening-vals h, (uint-vals w64 taken, (uint-vals w64 free, (uint-vals w64 child-taken, (uint-vals w64 child-free, tt))))))), tt) (id⊢ 𝓤 _)
-        (and-then ! (copied ! 39 refl) (and-then ! (copied ! (param 5 3) refl) (and-then ! (copied ! 37 refl) (and-then ! (copied ! 35 refl) (and-then ! (copied ! 33 refl) (and-then ! (copied ! 31 refl) (no-more !))))))) (LL.vals D.the-type D′.the-laws) (LL.tells D.the-type D′.the-laws) c (λ r ws. id⊢ 𝓤 _) (λ is. drop ! $
-        land ! (from ! (stop !)) (init ! 28 refl (LL.lawful D.the-type D′.the-laws 𝓤 H A W .typed c _ is .0)) $ move ! (2 ∷ 3 ∷ []) $
-        assigns ! (addr ! (from ! (hop ! (look ! (param 4 1) refl) (stop !)))) (from ! (stop !)) (init ! 8 refl (tt, tt)) $
-        stores-ike ! fm at-mem run y known-put (c .place) (c .entry) (LL.owed D.the-type D′.the-laws c _ is .1 .0) (LL.owed D.the-type D′.the-laws c _ is .1 .1 .0) (λ j. (and-then ! (copied ! 7 refl) (and-then ! (load ! (from ! (fld ! refl (stop !))) (look-in ! 27 (sub ! 1 refl (whole !)))) (and-then ! (load ! (from ! (fld ! refl (stop !))) (look-in ! 27 (sub ! 2 refl (whole !)))) (no-more !))))) (λ zs e₁. land ! (from ! (stop !)) (init ! 10 refl (tt, tt)) $ move ! (2 ∷ 3 ∷ []) $
+        (and-then ! (value ! refl) (and-then ! (value ! refl) (and-then ! (value ! refl) (and-then ! (value ! refl)
+        (and-then ! (value ! refl) (and-then ! (value ! refl) (no-more !))))))) (LL.vals D.the-type D′.the-laws)
+        (LL.tells D.the-type D′.the-laws) c (λ r ws. id⊢ 𝓤 _) (λ is. drop ! $
+        lands-in ! refl (LL.lawful D.the-type D′.the-laws 𝓤 H A W .typed c _ is .0) $ move ! (2 ∷ 3 ∷ []) $
+        sets ! (addr ! (behind ! refl (stop !))) refl (tt, tt) $
+        stores-ike ! fm at-mem run y known-put (c .place) (c .entry) (LL.owed D.the-type D′.the-laws c _ is .1 .0)
+        (LL.owed D.the-type D′.the-laws c _ is .1 .1 .0) (λ j. (and-then ! (value ! refl) (and-then ! (part ! refl
+        (sub ! 1 refl (whole !))) (and-then ! (part ! refl (sub ! 2 refl (whole !))) (no-more !)))))
+        (λ zs e₁. lands-in ! refl (tt, tt) $ move ! (2 ∷ 3 ∷ []) $
         -- [the list; its token; what says the last records; the table's token; the locals as before]
-        assigns ! (addr ! (from ! (fld ! refl (hop ! (look-in ! (param 4 2) (sub ! 0 refl (whole !))) (stop !))))) (from ! (stop !)) (init ! 6 refl (tt, tt)) $
-        assigns ! (agg ! (and-then ! (copied ! 6 refl) (and-then ! (load ! (from ! (fld ! refl (stop !))) (look-in ! (param 4 2) (sub ! 1 refl (whole !)))) (no-more !)))) (from ! (stop !)) (init ! 4 refl (tt, (tt, (record { fits = room .0 }, tt)))) $
-        stores-ipsec ! fm at-mem run x known-store (c .«child_place») (c .child) (LL.owed D.the-type D′.the-laws c _ is .1 .1 .1 .0) (LL.owed D.the-type D′.the-laws c _ is .1 .1 .1 .1 .0) (λ j. (and-then ! (copied ! 3 refl) (and-then ! (load ! (from ! (fld ! refl (stop !))) (look-in ! 27 (sub ! 3 refl (whole !)))) (and-then ! (load ! (from ! (fld ! refl (stop !))) (look-in ! 27 (sub ! 4 refl (whole !)))) (no-more !))))) (λ us e₂ l. land ! (from ! (stop !)) (stores ! 10 refl (tt, tt)) $
-        assigns ! (of-opd ! (load ! (from ! (fld ! refl (stop !))) (look-in ! 28 (sub ! 0 refl (whole !))))) (from ! (stop !)) (init ! 46 refl (tt, record { fits = LL.owed D.the-type D′.the-laws c _ is .0 .1 })) $ returns ! (look ! 46 refl) $
-        move ! (46 ∷ 47 ∷ []) $ ends-local ! $ move ! (44 ∷ 45 ∷ []) $ ends-local ! $ move ! (42 ∷ 43 ∷ []) $ ends-local ! $ move ! (40 ∷ 41 ∷ []) $ ends-local ! $ move ! (38 ∷ 39 ∷ []) $ ends-local ! $ move ! (36 ∷ 37 ∷ []) $ ends-local ! $ move ! (34 ∷ 35 ∷ []) $ ends-local ! $ move ! (32 ∷ 33 ∷ []) $ ends-local ! $ move ! (30 ∷ 31 ∷ []) $ ends-local ! $ move ! (28 ∷ 29 ∷ []) $ ends-local ! $ move ! (26 ∷ 27 ∷ []) $ ends-local ! $ move ! (24 ∷ 25 ∷ []) $ ends-local ! $ move ! (22 ∷ 23 ∷ []) $ ends-local ! $ move ! (20 ∷ 21 ∷ []) $ ends-local ! $ move ! (18 ∷ 19 ∷ []) $ ends-local ! $ move ! (16 ∷ 17 ∷ []) $ ends-local ! $ move ! (14 ∷ 15 ∷ []) $ ends-local ! $ move ! (12 ∷ 13 ∷ []) $ ends-local ! $ move ! (10 ∷ 11 ∷ []) $ ends-local ! $ move ! (8 ∷ 9 ∷ []) $ ends-local ! $ move ! (6 ∷ 7 ∷ []) $ ends-local ! $ move ! (4 ∷ 5 ∷ []) $ ends-local ! $ free0 ! $
-        by ! (exits long (LL.owed D.the-type D′.the-laws c _ is .0 .1) zs us l e₁ e₂))))))))))))))))))))))))))))))
+        sets ! (addr ! (behind-part ! refl (sub ! 0 refl (whole !)) (stop !))) refl (tt, tt) $
+        sets ! (agg ! (and-then ! (value ! refl) (and-then ! (part ! refl (sub ! 1 refl (whole !))) (no-more !)))) refl
+        (tt, (tt, (record { fits = room .0 }, tt))) $
+        stores-ipsec ! fm at-mem run x known-store (c .«child_place») (c .child)
+        (LL.owed D.the-type D′.the-laws c _ is .1 .1 .1 .0) (LL.owed D.the-type D′.the-laws c _ is .1 .1 .1 .1 .0) (λ j.
+        (and-then ! (value ! refl) (and-then ! (part ! refl (sub ! 3 refl (whole !))) (and-then ! (part ! refl
+        (sub ! 4 refl (whole !))) (no-more !))))) (λ us e₂ l. lands-over ! refl (tt, tt) $
+        sets ! (of-opd ! (part ! refl (sub ! 0 refl (whole !)))) refl
+        (tt, record { fits = LL.owed D.the-type D′.the-laws c _ is .0 .1 }) $ hands ! refl $ ends ! refl refl $
+        by ! (exits long (LL.owed D.the-type D′.the-laws c _ is .0 .1) zs us l e₁ e₂)))))))))
 
 pub unmavreth-open-spec : {M : Type 1} → stated.statement M
 unfolding code.routine tablesOf

@@ -1,9 +1,14 @@
 -- `host::calls::unmavreth_open_ipsec` meets its contract: a walk of its MIR, by hand. The list is lent to `ipsec_count` and `ipsec_place`, the table goes to `ike_place` and `ike_at`, the covered `ipsec_opening` decides, and the list is passed for good to `ipsec_store`.
 -- Assumes nothing.
-use Rattle.walks.proofs.Kit.{_≡_, refl, ℕ, _<_, _^_, [], _∷_, List, lit<, length, getD, set, URA, named, w8, w32, w64, Val, vint, SProp, ent, emp, via, id⊢, fst∗, flft, Memory, Routine, Heap, Calls, Loops, WpFn, Atoms, Lfts, Shares, Fun, givenOf, tables, tablesOf, Given, ‵, ⋆, _$_, _∵_, ! }
-use Rattle.walks.proofs.Kit.{qed, by, move, keep, drop, split, join, fsplit, fjoin, suffices, frame, done, look, init, stop, hop, fld, from, load, lit, of-opd, addr, assigns, and-then, no-more, land, returns, enter, alloc1, alloc0, params1, pass1, pass0, free0, whole, sub, look-in, agg}
-use Rattle.walks.proofs.Kit.{FmC, fmOf, owns, flat, Is, Spells, valss, uint-makes, uint-vals, uint-tells, u8, u32, u64, usize, ArrayOf, RefT, ptr-vals, shr-tells, slice-vals, mut-slice-tells, Room, finally, Slot, plain, shrRefTo, typesAt, owned, nothing, Triple, Args, Vals, onEntry, cited}
-use Rattle.walks.proofs.Kit.{says, Stays, stay-dropped, gave-slice, walkOf, goes-dropped, goes-gave-slice, ends-at, yes}
+use Rattle.walks.proofs.Kit.{_≡_, refl, ℕ, _<_, _^_, [], _∷_, List, lit<, length, getD, set, URA, named, w8, w32, w64}
+use Rattle.walks.proofs.Kit.{Val, vint, SProp, ent, emp, via, id⊢, fst∗, flft, Memory, Routine, Heap, Calls, Loops}
+use Rattle.walks.proofs.Kit.{WpFn, Atoms, Lfts, Shares, Fun, givenOf, tables, tablesOf, Given, ‵, ⋆, _$_, _∵_, !, qed}
+use Rattle.walks.proofs.Kit.{by, move, keep, drop, split, join, fsplit, fjoin, suffices, frame, done, stop, lit, of-opd}
+use Rattle.walks.proofs.Kit.{addr, and-then, no-more, enter, params1, pass0, whole, sub, agg, FmC, fmOf, owns, flat, Is}
+use Rattle.walks.proofs.Kit.{Spells, valss, uint-makes, uint-vals, uint-tells, u8, u32, u64, usize, ArrayOf, RefT}
+use Rattle.walks.proofs.Kit.{ptr-vals, shr-tells, slice-vals, mut-slice-tells, Room, finally, Slot, plain, shrRefTo}
+use Rattle.walks.proofs.Kit.{typesAt, owned, nothing, Triple, Args, Vals, onEntry, cited, says, Stays, stay-dropped}
+use Rattle.walks.proofs.Kit.{gave-slice, walkOf, goes-dropped, goes-gave-slice, ends-at, yes}
 use denote.Struct.Laws as LL
 use Rattle.octets.specs.Lists.{placeOf}
 use Rattle.records.specs.Records.{ikeSpi, ipsecSpi, noIke}
@@ -19,8 +24,9 @@ use Rattle.tables.proofs.calls.IpsecChange.Laws as D′
 use Rattle.tables.proofs.calls.ipsec_opening as opening
 use Rattle.tables.proofs.calls.ipsec_opening.Symbol as opening-def
 use Rattle.tables.proofs.calls.ipsec_opening.Met as opening-thm
-use Rattle.walks.proofs.Walk.{closes, local}
-use Rattle.walks.proofs.Calls.{_&_, tokens, Told, no-token, plainly, calls-for, copied, ends-local}
+use Rattle.walks.proofs.Walk.{closes}
+use Rattle.walks.proofs.Locals.{allocates, passed, given-first, value, part, behind-part, sets, lands-in, hands, ends}
+use Rattle.walks.proofs.Calls.{_&_, tokens, Told, no-token, plainly, calls-for}
 use Rattle.lent.proofs.Asked.{counts, finds-ipsec, stores-ipsec}
 use Rattle.walks.proofs.Loans.{array-long, copies-ref}
 use Rattle.lent_ike.proofs.IkeTable.{R as Rₖ, Q, rec-vals as ike-vals}
@@ -44,10 +50,6 @@ use Rattle.host.proofs.calls.unmavreth_open_ipsec.Key as key
 use Rattle.host.proofs.calls.unmavreth_open_ipsec as f
 use Rattle.host.proofs.calls.unmavreth_open_ipsec.Statement as stated
 use Rattle.host.proofs.calls.unmavreth_open_ipsec.Code as code
-
--- where parameter i stands among what is had, behind so many entries that are no locals
-abbrev param : ℕ → ℕ → ℕ
-param = local 19
 
 abbrev table : Slot 2
 table = ArrayOf (plain (λ _. Rₖ)) (λ κs. tt) 32
@@ -99,37 +101,55 @@ module _ {M : Type 1} (𝓤 : URA M) (H : Heap 𝓤) (A : Atoms 𝓤) (W : Given
     walk : ent 𝓤 (onEntry 𝓤 H A f.signature κs qs a vals) (WpFn 𝓤 H C Λ code.function (flat (typesAt (f.signature .params) κs) vals) Post)
     walk =
         qed W (tokens 𝓤 2 κs qs ∷ ‵ (owns (typesAt (f.signature .params) κs) a vals) ∷ []) ∵ enter ! C Λ code.function (flat (typesAt (f.signature .params) κs) vals) _ $
-        alloc1 ! (λ l₀. alloc1 ! (λ l₁. alloc1 ! (λ l₂. alloc1 ! (λ l₃. alloc1 ! (λ l₄. alloc1 ! (λ l₅. alloc1 ! (λ l₆. alloc1 ! (λ l₇. alloc1 ! (λ l₈. alloc1 ! (λ l₉. alloc1 ! (λ l₁₀. alloc1 ! (λ l₁₁. alloc1 ! (λ l₁₂. alloc1 ! (λ l₁₃. alloc1 ! (λ l₁₄. alloc1 ! (λ l₁₅. alloc1 ! (λ l₁₆. alloc1 ! (λ l₁₇. alloc1 ! (λ l₁₈. alloc1 ! (λ l₁₉. alloc0 ! $ params1 ! $
-        pass1 ! (init ! (param 0 1) refl (tt, tt)) $ pass1 ! (init ! (param 0 2) refl (tt, (tt, (record { fits = room .0 }, tt)))) $ pass1 ! (init ! (param 0 3) refl (tt, record { fits = k-fits })) $ pass1 ! (init ! (param 0 4) refl (tt, record { fits = n-fits })) $ pass0 ! $
-        move ! (41 ∷ []) $ fsplit ! $ move ! (1 ∷ []) $ fsplit ! $ move ! (1 ∷ []) $ drop ! $ move ! (42 ∷ []) $ split ! $ move ! (1 ∷ []) $ no-token ! $ move ! (3 ∷ 1 ∷ 2 ∷ 0 ∷ []) $
+        allocates ! (λ l. params1 ! $
+        passed ! refl (tt, tt) $ passed ! refl (tt, (tt, (record { fits = room .0 }, tt))) $
+        passed ! refl (tt, record { fits = k-fits }) $ passed ! refl (tt, record { fits = n-fits }) $ pass0 ! $
+        given-first ! $
+        move ! (1 ∷ []) $ fsplit ! $ move ! (1 ∷ []) $ fsplit ! $ move ! (1 ∷ []) $ drop ! $ move ! (2 ∷ []) $ split ! $
+        move ! (1 ∷ []) $ no-token ! $ move ! (3 ∷ 1 ∷ 2 ∷ 0 ∷ []) $
         array-long ! tt Rₖ y 32 tt ike-vals (LL.tells I.the-type I′.the-laws) (LL.copy I.the-type I′.the-copy 𝓤 H A W) (λ long. move ! (2 ∷ 3 ∷ []) $
-        -- [the list; its token; the table; its token; _19 at 4; …; _i at 42 - 2 i; …; _0 at 42; …]
-        assigns ! (addr ! (from ! (fld ! refl (hop ! (look-in ! (param 4 2) (sub ! 0 refl (whole !))) (stop !))))) (from ! (stop !)) (init ! 20 refl (tt, tt)) $
-        assigns ! (agg ! (and-then ! (copied ! 20 refl) (and-then ! (load ! (from ! (fld ! refl (stop !))) (look-in ! (param 4 2) (sub ! 1 refl (whole !)))) (no-more !)))) (from ! (stop !)) (init ! 18 refl (tt, (tt, (record { fits = room .0 }, tt)))) $
-        counts ! fm at-mem run x known-count room (λ i j. (and-then ! (copied ! 18 refl) (no-more !))) $ land ! (from ! (stop !)) (init ! 32 refl (tt, record { fits = room .0 })) $
+        -- [the list; its token; the table; its token; the locals]
+        sets ! (addr ! (behind-part ! refl (sub ! 0 refl (whole !)) (stop !))) refl (tt, tt) $
+        sets ! (agg ! (and-then ! (value ! refl) (and-then ! (part ! refl (sub ! 1 refl (whole !))) (no-more !)))) refl
+        (tt, (tt, (record { fits = room .0 }, tt))) $
+        counts ! fm at-mem run x known-count room (λ i j. (and-then ! (value ! refl) (no-more !))) $
+        lands-in ! refl (tt, record { fits = room .0 }) $
         move ! (2 ∷ 3 ∷ []) $ copies-ref ! tt Q y (u64 ∷ []) (uint-makes 𝓤 H A W w64, tt) (n, tt) (uint-vals w64 n, tt) ((refl, n-fits), tt) $ calls-for ! fm home-of.ended (home-of.clauses 𝓤 H A at-mem run) known-home-of (((κs .0, tt), (qs .0, tt), tt, (y, (n, tt)), (ptr-vals y, (uint-vals w64 n, tt))), tt) (id⊢ 𝓤 _)
-        (and-then ! (copied ! (param 4 1) refl) (and-then ! (copied ! (param 4 4) refl) (no-more !))) (uint-vals w64) (uint-tells w64) home (λ r ws. id⊢ 𝓤 _) (λ home-is. no-token ! $ move ! (1 ∷ []) $ land ! (from ! (stop !)) (init ! 30 refl (tt, record { fits = home-is .1 })) $
+        (and-then ! (value ! refl) (and-then ! (value ! refl) (no-more !))) (uint-vals w64) (uint-tells w64) home
+        (λ r ws. id⊢ 𝓤 _) (λ home-is. no-token ! $ move ! (1 ∷ []) $
+        lands-in ! refl (tt, record { fits = home-is .1 }) $
         copies-ref ! tt Q y (u64 ∷ []) (uint-makes 𝓤 H A W w64, tt) (home, tt) (uint-vals w64 home, tt) (home-is, tt) $ calls-for ! fm record-at.ended (record-at.clauses 𝓤 H A at-mem run) known-record-at (((κs .0, tt), (qs .0, tt), tt, (y, (home, tt)), (ptr-vals y, (uint-vals w64 home, tt))), tt) (id⊢ 𝓤 _)
-        (and-then ! (copied ! (param 4 1) refl) (and-then ! (copied ! 30 refl) (no-more !))) ike-vals (LL.tells I.the-type I′.the-laws) owner (λ r ws. id⊢ 𝓤 _) (λ owner-is. no-token ! $ move ! (1 ∷ []) $ land ! (from ! (stop !)) (init ! 28 refl (LL.lawful I.the-type I′.the-laws 𝓤 H A W .typed owner _ owner-is .0)) $ move ! (2 ∷ 3 ∷ []) $
-        assigns ! (addr ! (from ! (fld ! refl (hop ! (look-in ! (param 4 2) (sub ! 0 refl (whole !))) (stop !))))) (from ! (stop !)) (init ! 16 refl (tt, tt)) $
-        assigns ! (agg ! (and-then ! (copied ! 16 refl) (and-then ! (load ! (from ! (fld ! refl (stop !))) (look-in ! (param 4 2) (sub ! 1 refl (whole !)))) (no-more !)))) (from ! (stop !)) (init ! 14 refl (tt, (tt, (record { fits = room .0 }, tt)))) $
-        finds-ipsec ! fm at-mem run x known-place room k k-fits (λ i j. (and-then ! (copied ! 14 refl) (and-then ! (copied ! (param 4 3) refl) (no-more !)))) (λ taken-fits. land ! (from ! (stop !)) (init ! 26 refl (tt, record { fits = taken-fits })) $
-        assigns ! (addr ! (from ! (fld ! refl (hop ! (look-in ! (param 4 2) (sub ! 0 refl (whole !))) (stop !))))) (from ! (stop !)) (init ! 12 refl (tt, tt)) $
-        assigns ! (agg ! (and-then ! (copied ! 12 refl) (and-then ! (load ! (from ! (fld ! refl (stop !))) (look-in ! (param 4 2) (sub ! 1 refl (whole !)))) (no-more !)))) (from ! (stop !)) (init ! 10 refl (tt, (tt, (record { fits = room .0 }, tt)))) $
-        finds-ipsec ! fm at-mem run x known-place room 0 (lit< tt) (λ i j. (and-then ! (copied ! 10 refl) (and-then ! (lit ! tt) (no-more !)))) (λ free-fits. land ! (from ! (stop !)) (init ! 24 refl (tt, record { fits = free-fits })) $
+        (and-then ! (value ! refl) (and-then ! (value ! refl) (no-more !))) ike-vals
+        (LL.tells I.the-type I′.the-laws) owner (λ r ws. id⊢ 𝓤 _) (λ owner-is. no-token ! $ move ! (1 ∷ []) $
+        lands-in ! refl (LL.lawful I.the-type I′.the-laws 𝓤 H A W .typed owner _ owner-is .0) $ move ! (2 ∷ 3 ∷ []) $
+        sets ! (addr ! (behind-part ! refl (sub ! 0 refl (whole !)) (stop !))) refl (tt, tt) $
+        sets ! (agg ! (and-then ! (value ! refl) (and-then ! (part ! refl (sub ! 1 refl (whole !))) (no-more !)))) refl
+        (tt, (tt, (record { fits = room .0 }, tt))) $
+        finds-ipsec ! fm at-mem run x known-place room k k-fits (λ i j. (and-then ! (value ! refl) (and-then !
+        (value ! refl) (no-more !)))) (λ taken-fits. lands-in ! refl (tt, record { fits = taken-fits }) $
+        sets ! (addr ! (behind-part ! refl (sub ! 0 refl (whole !)) (stop !))) refl (tt, tt) $
+        sets ! (agg ! (and-then ! (value ! refl) (and-then ! (part ! refl (sub ! 1 refl (whole !))) (no-more !)))) refl
+        (tt, (tt, (record { fits = room .0 }, tt))) $
+        finds-ipsec ! fm at-mem run x known-place room 0 (lit< tt) (λ i j. (and-then ! (value ! refl) (and-then !
+        (lit ! tt) (no-more !)))) (λ free-fits. lands-in ! refl (tt, record { fits = free-fits }) $
         plainly ! (usize ∷ u32 ∷ u64 ∷ usize ∷ Rₖ ∷ usize ∷ usize ∷ []) (uint-makes 𝓤 H A W w64 & uint-makes 𝓤 H A W w32 & uint-makes 𝓤 H A W w64 & uint-makes 𝓤 H A W w64 & LL.makes I.the-type I′.the-plain 𝓤 H A & uint-makes 𝓤 H A W w64 & uint-makes 𝓤 H A W w64 & tt) (length (x .now), (k, (n, (home, (owner, (taken, (free, tt)))))))
         (uint-vals w64 (length (x .now)), (uint-vals w32 k, (uint-vals w64 n, (uint-vals w64 home, (ike-vals owner, (uint-vals w64 taken, (uint-vals w64 free, tt))))))) ((refl, room .0), ((refl, k-fits), ((refl, n-fits), (home-is, (owner-is, ((refl, taken-fits), ((refl, free-fits), tt))))))) $
         calls-for ! fm opening.ended (opening.clauses 𝓤 H A at-mem run) known-opening ((tt, tt, tt, (length (x .now), (k, (n, (home, (owner, (taken, (free, tt))))))), (uint-vals w64 (length (x .now)), (uint-vals w32 k, (uint-vals w64 n, (uint-vals w64 home, (ike-vals owner, (uint-vals w64 taken, (uint-vals w64 free, tt)))))))), tt) (id⊢ 𝓤 _)
-        (and-then ! (copied ! 33 refl) (and-then ! (copied ! (param 5 3) refl) (and-then ! (copied ! (param 5 4) refl) (and-then ! (copied ! 31 refl) (and-then ! (copied ! 29 refl) (and-then ! (copied ! 27 refl) (and-then ! (copied ! 25 refl) (no-more !)))))))) (LL.vals D.the-type D′.the-laws) (LL.tells D.the-type D′.the-laws) c (λ r ws. id⊢ 𝓤 _) (λ is. drop ! $
-        land ! (from ! (stop !)) (init ! 22 refl (LL.lawful D.the-type D′.the-laws 𝓤 H A W .typed c _ is .0)) $
-        assigns ! (addr ! (from ! (fld ! refl (hop ! (look-in ! (param 4 2) (sub ! 0 refl (whole !))) (stop !))))) (from ! (stop !)) (init ! 6 refl (tt, tt)) $
-        assigns ! (agg ! (and-then ! (copied ! 6 refl) (and-then ! (load ! (from ! (fld ! refl (stop !))) (look-in ! (param 4 2) (sub ! 1 refl (whole !)))) (no-more !)))) (from ! (stop !)) (init ! 4 refl (tt, (tt, (record { fits = room .0 }, tt)))) $
-        stores-ipsec ! fm at-mem run x known-store (c .place) (c .entry) (LL.owed D.the-type D′.the-laws c _ is .1 .0) (LL.owed D.the-type D′.the-laws c _ is .1 .1 .0) (λ j. (and-then ! (copied ! 3 refl) (and-then ! (load ! (from ! (fld ! refl (stop !))) (look-in ! 21 (sub ! 1 refl (whole !)))) (and-then ! (load ! (from ! (fld ! refl (stop !))) (look-in ! 21 (sub ! 2 refl (whole !)))) (no-more !))))) (λ zs e l.
+        (and-then ! (value ! refl) (and-then ! (value ! refl) (and-then ! (value ! refl) (and-then ! (value ! refl)
+        (and-then ! (value ! refl) (and-then ! (value ! refl) (and-then ! (value ! refl) (no-more !))))))))
+        (LL.vals D.the-type D′.the-laws) (LL.tells D.the-type D′.the-laws) c (λ r ws. id⊢ 𝓤 _) (λ is. drop ! $
+        lands-in ! refl (LL.lawful D.the-type D′.the-laws 𝓤 H A W .typed c _ is .0) $
+        sets ! (addr ! (behind-part ! refl (sub ! 0 refl (whole !)) (stop !))) refl (tt, tt) $
+        sets ! (agg ! (and-then ! (value ! refl) (and-then ! (part ! refl (sub ! 1 refl (whole !))) (no-more !)))) refl
+        (tt, (tt, (record { fits = room .0 }, tt))) $
+        stores-ipsec ! fm at-mem run x known-store (c .place) (c .entry) (LL.owed D.the-type D′.the-laws c _ is .1 .0)
+        (LL.owed D.the-type D′.the-laws c _ is .1 .1 .0) (λ j. (and-then ! (value ! refl) (and-then ! (part ! refl
+        (sub ! 1 refl (whole !))) (and-then ! (part ! refl (sub ! 2 refl (whole !))) (no-more !))))) (λ zs e l.
         -- [what says the last list; its token; the table; its token; the locals as before]
-        land ! (from ! (stop !)) (init ! 8 refl (tt, tt)) $
-        assigns ! (of-opd ! (load ! (from ! (fld ! refl (stop !))) (look-in ! 22 (sub ! 0 refl (whole !))))) (from ! (stop !)) (init ! 42 refl (tt, record { fits = LL.owed D.the-type D′.the-laws c _ is .0 .1 })) $ returns ! (look ! 42 refl) $
-        move ! (42 ∷ 43 ∷ []) $ ends-local ! $ move ! (40 ∷ 41 ∷ []) $ ends-local ! $ move ! (38 ∷ 39 ∷ []) $ ends-local ! $ move ! (36 ∷ 37 ∷ []) $ ends-local ! $ move ! (34 ∷ 35 ∷ []) $ ends-local ! $ move ! (32 ∷ 33 ∷ []) $ ends-local ! $ move ! (30 ∷ 31 ∷ []) $ ends-local ! $ move ! (28 ∷ 29 ∷ []) $ ends-local ! $ move ! (26 ∷ 27 ∷ []) $ ends-local ! $ move ! (24 ∷ 25 ∷ []) $ ends-local ! $ move ! (22 ∷ 23 ∷ []) $ ends-local ! $ move ! (20 ∷ 21 ∷ []) $ ends-local ! $ move ! (18 ∷ 19 ∷ []) $ ends-local ! $ move ! (16 ∷ 17 ∷ []) $ ends-local ! $ move ! (14 ∷ 15 ∷ []) $ ends-local ! $ move ! (12 ∷ 13 ∷ []) $ ends-local ! $ move ! (10 ∷ 11 ∷ []) $ ends-local ! $ move ! (8 ∷ 9 ∷ []) $ ends-local ! $ move ! (6 ∷ 7 ∷ []) $ ends-local ! $ move ! (4 ∷ 5 ∷ []) $ ends-local ! $ free0 ! $
-        keep ! (0 ∷ 1 ∷ 3 ∷ []) $ by ! (exits long (LL.owed D.the-type D′.the-laws c _ is .0 .1) zs l e))))))))))))))))))))))))))))
+        lands-in ! refl (tt, tt) $
+        sets ! (of-opd ! (part ! refl (sub ! 0 refl (whole !)))) refl
+        (tt, record { fits = LL.owed D.the-type D′.the-laws c _ is .0 .1 }) $ hands ! refl $ ends ! refl refl $
+        keep ! (0 ∷ 1 ∷ 3 ∷ []) $ by ! (exits long (LL.owed D.the-type D′.the-laws c _ is .0 .1) zs l e)))))))))
 
 pub unmavreth-open-ipsec-spec : {M : Type 1} → stated.statement M
 unfolding code.routine tablesOf

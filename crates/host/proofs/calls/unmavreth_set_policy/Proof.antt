@@ -1,8 +1,13 @@
 -- `host::calls::unmavreth_set_policy` meets its contract: a walk of its MIR, by hand. The policy is lent to `policy_of` and the rules read by `rules_of`, the covered `set_policy` decides, and the policy is passed for good to `policy_store`.
 -- Assumes nothing.
-use Rattle.walks.proofs.Kit.{_≡_, refl, ℕ, _<_, _^_, [], _∷_, List, URA, named, w8, Val, vint, SProp, ent, emp, via, id⊢, fst∗, flft, fres, Memory, Routine, Heap, Calls, Loops, WpFn, Atoms, Lfts, Shares, Fun, givenOf, tables, tablesOf, Given, ‵, ⋆, _$_, _∵_, !, qed, by, move, drop, join, split, keep}
-use Rattle.walks.proofs.Kit.{fsplit, fjoin, suffices, frame, done, look, init, stop, hop, fld, from, load, of-opd, addr, assigns, and-then, no-more, land, returns, enter, alloc1, alloc0, params1, pass1, pass0, free0, whole, sub, look-in, FmC, fmOf, owns, flat, Is, Spells, valss, uint-makes, uint-vals, uint-tells, u8, RefT, ptr-vals}
-use Rattle.walks.proofs.Kit.{ArrayOf, mut-tells, shr-tells, Slot, plain, shrRefTo, typesAt, owned, nothing, Triple, Args, Vals, onEntry, cited, says, Stays, stay-dropped, gave-ref, walkOf, goes-dropped, goes-gave-ref, ends-at, yes}
+use Rattle.walks.proofs.Kit.{_≡_, refl, ℕ, _<_, _^_, [], _∷_, List, URA, named, w8, Val, vint, SProp, ent, emp, via}
+use Rattle.walks.proofs.Kit.{id⊢, fst∗, flft, fres, Memory, Routine, Heap, Calls, Loops, WpFn, Atoms, Lfts, Shares, Fun}
+use Rattle.walks.proofs.Kit.{givenOf, tables, tablesOf, Given, ‵, ⋆, _$_, _∵_, !, qed, by, move, drop, join, split}
+use Rattle.walks.proofs.Kit.{keep, fsplit, fjoin, suffices, frame, done, stop, of-opd, addr, and-then, no-more, enter}
+use Rattle.walks.proofs.Kit.{params1, pass0, whole, sub, FmC, fmOf, owns, flat, Is, Spells, valss, uint-makes}
+use Rattle.walks.proofs.Kit.{uint-vals, uint-tells, u8, RefT, ptr-vals, ArrayOf, mut-tells, shr-tells, Slot, plain}
+use Rattle.walks.proofs.Kit.{shrRefTo, typesAt, owned, nothing, Triple, Args, Vals, onEntry, cited, says, Stays}
+use Rattle.walks.proofs.Kit.{stay-dropped, gave-ref, walkOf, goes-dropped, goes-gave-ref, ends-at, yes}
 use mir.Syntax.{w16}
 use denote.Array.{array-makes, array-lawful}
 use denote.Builtin.{u16}
@@ -20,8 +25,9 @@ use Rattle.policy.proofs.rules.PolicyAnswer.Laws as D′
 use Rattle.policy.proofs.rules.set_policy as decide
 use Rattle.policy.proofs.rules.set_policy.Symbol as decide-def
 use Rattle.policy.proofs.rules.set_policy.Met as decide-thm
-use Rattle.walks.proofs.Walk.{closes, local}
-use Rattle.walks.proofs.Calls.{_&_, tokens, Told, no-token, plainly, calls-for, copied, ends-local}
+use Rattle.walks.proofs.Walk.{closes}
+use Rattle.walks.proofs.Locals.{allocates, passed, given-first, value, part, behind, sets, lands-in, hands, ends}
+use Rattle.walks.proofs.Calls.{_&_, tokens, Told, no-token, plainly, calls-for}
 use Rattle.lent.proofs.Asked.{reads-lent, reads-rules, stores-policy}
 use Rattle.lent_policy.proofs.PolicyTypes.{R, Q, policy-vals, rules-vals}
 use Rattle.lent_policy.proofs.rules.policy_of as read
@@ -37,10 +43,6 @@ use Rattle.host.proofs.calls.unmavreth_set_policy.Key as key
 use Rattle.host.proofs.calls.unmavreth_set_policy as f
 use Rattle.host.proofs.calls.unmavreth_set_policy.Statement as stated
 use Rattle.host.proofs.calls.unmavreth_set_policy.Code as code
-
--- where parameter i stands among what is had, behind so many entries that are no locals
-abbrev param : ℕ → ℕ → ℕ
-param = local 9
 
 abbrev kept : Slot 2
 kept = plain (λ _. R)
@@ -82,24 +84,32 @@ module _ {M : Type 1} (𝓤 : URA M) (H : Heap 𝓤) (A : Atoms 𝓤) (W : Given
     walk : ent 𝓤 (onEntry 𝓤 H A f.signature κs qs a vals) (WpFn 𝓤 H C Λ code.function (flat (typesAt (f.signature .params) κs) vals) Post)
     walk =
         qed W (tokens 𝓤 2 κs qs ∷ ‵ (owns (typesAt (f.signature .params) κs) a vals) ∷ []) ∵ enter ! C Λ code.function (flat (typesAt (f.signature .params) κs) vals) _ $
-        alloc1 ! (λ l₀. alloc1 ! (λ l₁. alloc1 ! (λ l₂. alloc1 ! (λ l₃. alloc1 ! (λ l₄. alloc1 ! (λ l₅. alloc1 ! (λ l₆. alloc1 ! (λ l₇. alloc1 ! (λ l₈. alloc1 ! (λ l₉. alloc0 ! $ params1 ! $
-        pass1 ! (init ! (param 0 1) refl (tt, tt)) $ pass1 ! (init ! (param 0 2) refl (tt, record { fits = n-fits })) $ pass1 ! (init ! (param 0 3) refl (tt, tt)) $ pass0 ! $
-        move ! (21 ∷ []) $ fsplit ! $ move ! (1 ∷ []) $ fsplit ! $ drop ! $ fsplit ! $ move ! (1 ∷ []) $ drop ! $ move ! (22 ∷ []) $ split ! $ move ! (1 ∷ []) $ no-token ! $ move ! (3 ∷ 1 ∷ 2 ∷ 0 ∷ []) $
-        -- [the policy; its token; the rules; their token; _9 at 4; …; _i at 22 - 2 i; …; room for _0 at 22; …]
-        assigns ! (addr ! (from ! (hop ! (look ! (param 4 1) refl) (stop !)))) (from ! (stop !)) (init ! 8 refl (tt, tt)) $
-        reads-lent ! fm at-mem run x known-read (λ i j. and-then ! (copied ! 8 refl) (no-more !)) (λ old-is. land ! (from ! (stop !)) (init ! 14 refl (LL.lawful Y.the-type Y′.the-laws 𝓤 H A W .typed (x .now) _ old-is .0)) $ move ! (2 ∷ 3 ∷ []) $
-        reads-rules ! fm at-mem run y known-list (λ i j. and-then ! (copied ! (param 4 3) refl) (no-more !)) (λ list-is. land ! (from ! (stop !)) (init ! 12 refl (array-lawful 𝓤 H A W X.the-row (LL.lawful X.the-type X′.the-laws 𝓤 H A W) 16 .typed (y .now) _ list-is .0)) $
+        allocates ! (λ l. params1 ! $
+        passed ! refl (tt, tt) $ passed ! refl (tt, record { fits = n-fits }) $ passed ! refl (tt, tt) $ pass0 ! $
+        given-first ! $
+        move ! (1 ∷ []) $ fsplit ! $ move ! (1 ∷ []) $ fsplit ! $ drop ! $ fsplit ! $ move ! (1 ∷ []) $ drop ! $
+        move ! (2 ∷ []) $ split ! $ move ! (1 ∷ []) $ no-token ! $ move ! (3 ∷ 1 ∷ 2 ∷ 0 ∷ []) $
+        -- [the policy; its token; the rules; their token; the locals]
+        sets ! (addr ! (behind ! refl (stop !))) refl (tt, tt) $
+        reads-lent ! fm at-mem run x known-read (λ i j. and-then ! (value ! refl) (no-more !))
+        (λ old-is. lands-in ! refl (LL.lawful Y.the-type Y′.the-laws 𝓤 H A W .typed (x .now) _ old-is .0) $
+        move ! (2 ∷ 3 ∷ []) $
+        reads-rules ! fm at-mem run y known-list (λ i j. and-then ! (value ! refl) (no-more !))
+        (λ list-is. lands-in ! refl (array-lawful 𝓤 H A W X.the-row (LL.lawful X.the-type X′.the-laws 𝓤 H A W) 16 .typed
+        (y .now) _ list-is .0) $
         plainly ! (R ∷ u16 ∷ Q ∷ []) (LL.makes Y.the-type Y′.the-plain 𝓤 H A & uint-makes 𝓤 H A W w16 & array-makes 𝓤 H A W X.the-row (LL.makes X.the-type X′.the-plain 𝓤 H A) 16 & tt) (x .now, (n, (y .now, tt))) (policy-vals (x .now), (uint-vals w16 n, (rules-vals (y .now), tt))) (old-is, ((refl, n-fits), (list-is, tt))) $
         calls-for ! fm decide.ended (decide.clauses 𝓤 H A at-mem run) known-decide ((tt, tt, tt, (x .now, (n, (y .now, tt))), (policy-vals (x .now), (uint-vals w16 n, (rules-vals (y .now), tt)))), tt) (id⊢ 𝓤 _)
-        (and-then ! (copied ! 15 refl) (and-then ! (copied ! (param 5 2) refl) (and-then ! (copied ! 13 refl) (no-more !)))) (LL.vals D.the-type D′.the-laws) (LL.tells D.the-type D′.the-laws) c (λ r ws. id⊢ 𝓤 _) (λ is. drop ! $
-        land ! (from ! (stop !)) (init ! 10 refl (LL.lawful D.the-type D′.the-laws 𝓤 H A W .typed c _ is .0)) $ move ! (2 ∷ 3 ∷ []) $
-        assigns ! (addr ! (from ! (hop ! (look ! (param 4 1) refl) (stop !)))) (from ! (stop !)) (init ! 4 refl (tt, tt)) $
-        stores-policy ! fm at-mem run x known-store (c .policy) (LL.owed D.the-type D′.the-laws c _ is .1 .0) (λ j. and-then ! (copied ! 3 refl) (and-then ! (load ! (from ! (fld ! refl (stop !))) (look-in ! 9 (sub ! 1 refl (whole !)))) (no-more !))) (λ z e.
+        (and-then ! (value ! refl) (and-then ! (value ! refl) (and-then ! (value ! refl) (no-more !))))
+        (LL.vals D.the-type D′.the-laws) (LL.tells D.the-type D′.the-laws) c (λ r ws. id⊢ 𝓤 _) (λ is. drop ! $
+        lands-in ! refl (LL.lawful D.the-type D′.the-laws 𝓤 H A W .typed c _ is .0) $ move ! (2 ∷ 3 ∷ []) $
+        sets ! (addr ! (behind ! refl (stop !))) refl (tt, tt) $
+        stores-policy ! fm at-mem run x known-store (c .policy) (LL.owed D.the-type D′.the-laws c _ is .1 .0)
+        (λ j. and-then ! (value ! refl) (and-then ! (part ! refl (sub ! 1 refl (whole !))) (no-more !))) (λ z e.
         -- [what says the last policy; its token; the rules; their token; the locals as before]
-        land ! (from ! (stop !)) (init ! 6 refl (tt, tt)) $
-        assigns ! (of-opd ! (load ! (from ! (fld ! refl (stop !))) (look-in ! 10 (sub ! 0 refl (whole !))))) (from ! (stop !)) (init ! 22 refl (tt, record { fits = LL.owed D.the-type D′.the-laws c _ is .0 .1 })) $ returns ! (look ! 22 refl) $
-        move ! (22 ∷ 23 ∷ []) $ ends-local ! $ move ! (20 ∷ 21 ∷ []) $ ends-local ! $ move ! (18 ∷ 19 ∷ []) $ ends-local ! $ move ! (16 ∷ 17 ∷ []) $ ends-local ! $ move ! (14 ∷ 15 ∷ []) $ ends-local ! $ move ! (12 ∷ 13 ∷ []) $ ends-local ! $ move ! (10 ∷ 11 ∷ []) $ ends-local ! $ move ! (8 ∷ 9 ∷ []) $ ends-local ! $ move ! (6 ∷ 7 ∷ []) $ ends-local ! $ move ! (4 ∷ 5 ∷ []) $ ends-local ! $ free0 ! $
-        keep ! (0 ∷ 1 ∷ 3 ∷ []) $ by ! (exits (LL.owed D.the-type D′.the-laws c _ is .0 .1) z e)))))))))))))))
+        lands-in ! refl (tt, tt) $
+        sets ! (of-opd ! (part ! refl (sub ! 0 refl (whole !)))) refl
+        (tt, record { fits = LL.owed D.the-type D′.the-laws c _ is .0 .1 }) $ hands ! refl $ ends ! refl refl $
+        keep ! (0 ∷ 1 ∷ 3 ∷ []) $ by ! (exits (LL.owed D.the-type D′.the-laws c _ is .0 .1) z e))))))
 
 pub unmavreth-set-policy-spec : {M : Type 1} → stated.statement M
 unfolding code.routine tablesOf

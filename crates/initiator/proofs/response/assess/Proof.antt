@@ -20,21 +20,33 @@ assess-spec =
     let r = c .before .before .before .before .before .before .before .read in
     errors-counted (a .sent .now) (a .first) (a .body .now) (r .result) (r .ensures .is))
     (λ c.
-    let a = c .before .before .before .before .before .before .before .before .before .before .before .before .before .args in
-    let f = sym (c .before .before .before .before .before .before .before .before .before .before .cookie-fits .ensures) ∙ c .before .before .before .before .before .before .before .before .before .if1 .taken in
+    let a = c .before .before .before .before .before .before .before .before .before .before .before .before .before
+    .args in
+    let f = sym (c .before .before .before .before .before .before .before .before .before .before .cookie-fits
+    .ensures) ∙ c .before .before .before .before .before .before .before .before .before .if1 .taken in
     let r = c .before .before .before .before .before .before .before .before .read in
-    let w = whole (a .sent .now) (a .first) (a .body .now) (r .result) (r .ensures .is) f (c .before .before .before .before .before .before .if2 .taken) in
+    let w = whole (a .sent .now) (a .first) (a .body .now) (r .result) (r .ensures .is) f
+    (c .before .before .before .before .before .before .if2 .taken) in
     assessed (a .sent .now) (a .first) (a .body .now) _
-    (rw (c .before .outcome-number .ensures, c .before .before .outcome-of .ensures, c .tally-of .ensures, c .before .before .before .cookie .ensures) w))
+    (rw (
+      c .before .outcome-number .ensures,
+      c .before .before .outcome-of .ensures,
+      c .tally-of .ensures,
+      c .before .before .before .cookie .ensures,
+    ) w))
     (λ c κs. search needs)
     (λ c.
     let a = c .before .before .before .before .before .before .before .before .args in
-    let f = sym (c .before .before .before .before .before .cookie-fits .ensures) ∙ c .before .before .before .before .if1 .taken in
+    let f = sym (c .before .before .before .before .before .cookie-fits .ensures)
+    ∙ c .before .before .before .before .if1 .taken in
     let r = c .before .before .before .read in
     assessed (a .sent .now) (a .first) (a .body .now) _
-    (c .refuse .ensures ∙ broken (a .sent .now) (a .first) (a .body .now) (r .result) (r .ensures .is) f (c .before .if2 .left)))
+    (c .refuse .ensures ∙ broken (a .sent .now) (a .first) (a .body .now) (r .result) (r .ensures .is) f
+    (c .before .if2 .left)))
+    (λ c κs. search needs)
     (λ c κs. search needs)
     (λ c.
-    let a = c .before .before .before .before .before .args in
-    assessed (a .sent .now) (a .first) (a .body .now) _
-    (c .refuse2 .ensures ∙ unfit (a .sent .now) (a .first) (a .body .now) (sym (c .before .before .cookie-fits .ensures) ∙ c .before .if1 .left))))
+    let a = c .before .before .before .before .before .before .args in
+    let u = unfit (a .sent .now) (a .first) (a .body .now) (sym (c .before .before .before .cookie-fits .ensures)
+    ∙ c .before .before .if1 .left) in
+    assessed (a .sent .now) (a .first) (a .body .now) _ (c .refuse2 .ensures ∙ rw (c .before .number-of .ensures) u)))

@@ -5,16 +5,21 @@ use mathlib.Core.Path.{_≡_, refl, sym, _∙_}
 use mathlib.Core.List.{[], _∷_}
 use denote.Enum.Declared.{tagOf}
 use types.Run.{OneOf, miss}
-use Rattle.payload.specs.declared.notify.NotifyKind.{NotifyKind}
-use Rattle.payload.specs.declared.notify.NotifyKind.the-variants.{NatDetectionSource, NatDetectionDestination, MobikeSupported, AdditionalIp4, AdditionalIp6, NoAdditionalAddresses, UpdateSaAddresses, Cookie2, NoNatsAllowed, UnacceptableAddresses, UnexpectedNatDetected, OtherError, OtherStatus}
-use Rattle.payload.proofs.notify.NotifyKind as kind
+use Rattle.notify.specs.declared.notify.NotifyKind.{NotifyKind}
+use Rattle.notify.specs.declared.notify.NotifyKind.the-variants.{NatDetectionSource, NatDetectionDestination}
+use Rattle.notify.specs.declared.notify.NotifyKind.the-variants.{MobikeSupported, AdditionalIp4, AdditionalIp6}
+use Rattle.notify.specs.declared.notify.NotifyKind.the-variants.{NoAdditionalAddresses, UpdateSaAddresses, Cookie2}
+use Rattle.notify.specs.declared.notify.NotifyKind.the-variants.{NoNatsAllowed, UnacceptableAddresses}
+use Rattle.notify.specs.declared.notify.NotifyKind.the-variants.{UnexpectedNatDetected, OtherError, OtherStatus}
+use Rattle.notify.proofs.notify.NotifyKind as kind
 use Rattle.initiator.specs.Response.{toldAs, errorOutcome}
 use Rattle.initiator.specs.declared.response.Outcome.the-variants.{Failed}
 use Rattle.initiator.proofs.response.error_outcome.Statement.{statement}
 use Rattle.initiator.proofs.response.error_outcome.Tie as tie
 
 -- a kind with another tag than the two of errors told by name
-others : (k : NotifyKind) → OneOf (0 ∷ 1 ∷ 2 ∷ 3 ∷ 4 ∷ 5 ∷ 6 ∷ 7 ∷ 8 ∷ 11 ∷ 12 ∷ []) (tagOf kind.the-type k) → Failed ≡ toldAs k
+others : (k : NotifyKind) → OneOf (0 ∷ 1 ∷ 2 ∷ 3 ∷ 4 ∷ 5 ∷ 6 ∷ 7 ∷ 8 ∷ 11 ∷ 12 ∷ []) (tagOf kind.the-type k) → Failed
+    ≡ toldAs k
 others NatDetectionSource h = refl
 others NatDetectionDestination h = refl
 others MobikeSupported h = refl

@@ -14,6 +14,12 @@ outcome-of-spec =
     (tie.spec
     (λ c κs. search needs)
     (λ c. rw (sym (c .before .must-close .ensures) ∙ c .if1 .taken))
-    (λ c. rw (sym (c .before .before .before .must-close .ensures) ∙ c .before .before .if1 .left, eq-eqb _ _ (c .if2 .taken)))
+    (λ c. rw (
+      sym (c .before .before .before .must-close .ensures) ∙ c .before .before .if1 .left,
+      eq-eqb _ _ (c .if2 .taken),
+    ))
     (λ c κs. search needs)
-    (λ c. rw (sym (c .before .before .before .before .must-close .ensures) ∙ c .before .before .before .if1 .left, ne-eqb _ _ (c .before .if2 .left)) (c .error-outcome .ensures)))
+    (λ c. rw (
+      sym (c .before .before .before .before .must-close .ensures) ∙ c .before .before .before .if1 .left,
+      ne-eqb _ _ (c .before .if2 .left),
+    ) (c .error-outcome .ensures)))

@@ -29,7 +29,8 @@ same-octets-spec =
     (λ c. search needs)
     (λ c.
     let a = c .before .before .before .before .before .args in
-    sym (one-fails (sameAt (a .a .now) (a .b .now)) (c .before .before .before .before .loop .i) (length (a .a .now)) (c .before .before .before .loop-test .taken) (ne-eqb _ _ (c .if1 .taken))))
+    sym (one-fails (sameAt (a .a .now) (a .b .now)) (c .before .before .before .before .loop .i) (length (a .a .now))
+    (c .before .before .before .loop-test .taken) (ne-eqb _ _ (c .if1 .taken))))
     (λ c. search needs)
     (λ c. search needs)
     (λ c.

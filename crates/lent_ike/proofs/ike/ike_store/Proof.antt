@@ -1,20 +1,30 @@
--- `lent_ike::ike::ike_store` meets its contract: a walk of its MIR, by hand. The borrow is opened before the branch, which learns that there are 32 records; where the place is within them, its record is replaced.
+-- `lent_ike::ike::ike_store` meets its contract: a walk of its MIR, by hand. The borrow is opened before the branch,
+-- which learns that the table has all its records; where the place is within them, its record is replaced.
 -- Assumes nothing.
-use Rattle.walks.proofs.Kit.{_≡_, refl, sym, _∙_, ℕ, _<_, _^_, [], _∷_, List, ltb, length, set, length-set, URA, fullShare, named, mut, w64, tyPtr, tyBool, tyUnit, Val, vunit, vbool, vint, vptr, SProp, ent, emp, via, fst∗, Lft, Share, GName, ftrue, fat, froom, fdies}
-use Rattle.walks.proofs.Kit.{flft, fobs, fauth, fbor, fobor, Memory, Routine, Heap, Env, Calls, Loops, WpFn, Atoms, Fun, givenOf, tables, tablesOf, Given, Item, ‵, _⊛_, ⋆, runs, atRet, Sq, _$_, _∵_, !, qed, by, move, drop, split, join, rewrite, fsplit, fsplit3, fjoin, feqI, suffices}
-use Rattle.walks.proofs.Kit.{frame, done, look, init, store-raw, forget, stop, hop, from, load, lit, unit-lit, of-opd, addr, bin, assigns, assigns-last, first, branches, skips, returns, enter, alloc1, alloc0, params1, pass1, pass0, free1, free0, exec, owns, Is, shows, mem}
-use Rattle.walks.proofs.Kit.{uint-vals, uint-tells, usize, RefT, MutRef, ptr-vals, mut-tells, row, place-is, elem-out, elem-put, plain, owned, nothing, onEntry, says, Stays, stay-dropped, walkOf, goes-dropped, ends-at, yes, set-out}
+use Rattle.walks.proofs.Kit.{_≡_, refl, sym, _∙_, ℕ, _<_, _^_, [], _∷_, List, length, set, length-set, URA, fullShare}
+use Rattle.walks.proofs.Kit.{named, w64, Val, vunit, vint, vptr, SProp, ent, emp, via, fst∗, Lft, Share, GName, flft}
+use Rattle.walks.proofs.Kit.{fobs, fauth, fbor, fobor, Memory, Routine, Heap, Env, Calls, Loops, WpFn, Atoms, Fun}
+use Rattle.walks.proofs.Kit.{givenOf, tables, tablesOf, Given, ‵, ⋆, runs, atRet, Sq, _$_, _∵_, !, qed, by, move, drop}
+use Rattle.walks.proofs.Kit.{join, fjoin, feqI, suffices, frame, done, store-raw, stop, lit, unit-lit, of-opd, addr}
+use Rattle.walks.proofs.Kit.{bin, assigns-last, first, branches, skips, enter, params1, pass0, exec, owns, Is, mem}
+use Rattle.walks.proofs.Kit.{uint-vals, uint-tells, usize, RefT, MutRef, ptr-vals, mut-tells, row, elem-put, plain}
+use Rattle.walks.proofs.Kit.{owned, nothing, onEntry, says, Stays, stay-dropped, walkOf, goes-dropped, ends-at, yes}
+use Rattle.walks.proofs.Kit.{set-out}
 use types.Kit.{fjoin3}
 use types.SemTy.{Body}
 use denote.Struct.Laws as LL
+use Rattle.octets.specs.Limits.{ikePlaces}
 use denote.Triple.Walked.{stay-ref, goes-ref}
-use Rattle.records.specs.Records.{noIke}
 use Rattle.records.specs.declared.ike.IkeRecord.{IkeRecord}
 use Rattle.records.proofs.ike.IkeRecord as S
 use Rattle.records.proofs.ike.IkeRecord.Laws as S′
 use Rattle.walks.proofs.Arrays.{opens-array, closes-array}
-use Rattle.walks.proofs.Walk.{closes}
-use Rattle.lent_ike.proofs.IkeTable.{R, Q, word, table, table-slot, rec-vals, rec-val, at-fits, within, past}
+use Rattle.walks.proofs.Walk.{closes, lies-at}
+use Rattle.walks.proofs.Calls.{Token, given-mut}
+use Rattle.walks.proofs.Locals.{Lie, env, rooms, allocates, passed, given-first, value, behind, so, sets, hands, rests}
+use Rattle.walks.proofs.Locals.{ends}
+use Rattle.lent_ike.proofs.IkeTable.{R, Q, table-slot, rec-vals, rec-val, typed, record-out, at-fits, within}
+use Rattle.lent_ike.proofs.IkeTable.{past}
 use Rattle.lent_ike.proofs.ike.ike_store.Key.{name as #lent·ike-store}
 use Rattle.lent_ike.proofs.ike.ike_store as f
 use Rattle.lent_ike.proofs.ike.ike_store.Statement as stated
@@ -41,48 +51,44 @@ module _ {M : Type 1} (𝓤 : URA M) (H : Heap 𝓤) (A : Atoms 𝓤) (W : Given
       frame ! $ feqI ! (List Val) (vptr b o ∷ []) (vptr b o ∷ []) refl $ fjoin3 ! $ nothing ! $ nothing ! $ fjoin ! $ nothing ! $ fjoin ! $ move ! (1 ∷ 0 ∷ []) $ fjoin ! $
       feqI ! (List Val) (vunit ∷ []) (vunit ∷ []) refl $ move ! (1 ∷ 0 ∷ []) $ done !
 
-  module _ (C : Calls 𝓤 H) (Λ : Loops 𝓤 H) (long : length xs ≡ 32) (l₀ l₁ l₂ l₃ l₄ l₅ l₆ l₇ : ℕ) where
-    abbrev En : Env 𝓤 H
-    En = (tyUnit, l₀) ∷ (table mut, l₁) ∷ (word, l₂) ∷ (S′.mir, l₃) ∷ (tyBool, l₄) ∷ (word, l₅) ∷ (tyPtr, l₆) ∷ (tyPtr, l₇) ∷ []
+  module _ (C : Calls 𝓤 H) (Λ : Loops 𝓤 H) where
+    module _ (l : Lie (code.function .locals)) where
+      abbrev En : Env 𝓤 H
+      En = env 𝓤 H (code.function .locals) l
 
-    -- the open borrow at the records zs, and the locals once the test is made
-    abbrev At : List IkeRecord → List (Item 𝓤)
-    At zs = ‵ (row R fullShare zs b o) ∷ ‵ (fobor κ q (Body (mem Q) b o γ)) ∷ ‵ (fobs γ (Q .coded .code xs)) ∷ ‵ (fauth γ (Q .coded .code xs))
-        ∷ ‵ (froom tyPtr l₇ 0) ∷ ‵ (fdies tyPtr l₇) ∷ ‵ (froom tyPtr l₆ 0) ∷ ‵ (fdies tyPtr l₆) ∷ ‵ (froom word l₅ 0) ∷ ‵ (fdies word l₅) ∷ ‵ (fat fullShare tyBool l₄ 0 (vbool (ltb i 32))) ∷ ‵ (fdies tyBool l₄)
-        ∷ ‵ (fat fullShare S′.mir l₃ 0 (rec-val new)) ∷ ‵ (fdies S′.mir l₃) ∷ ‵ (fat fullShare word l₂ 0 (vint w64 i)) ∷ ‵ (fdies word l₂) ∷ ‵ (fat fullShare (table mut) l₁ 0 (vptr b o)) ∷ ‵ (fdies (table mut) l₁) ∷ ‵ (froom tyUnit l₀ 0) ∷ ‵ (fdies tyUnit l₀) ∷ []
+      -- the borrow, open at the records zs, is closed, and the locals are freed
+      leaves : (zs : List IkeRecord) → length zs ≡ ikePlaces → zs ≡ set xs i new
+          → Sq W (‵ (row R fullShare zs b o) ∷ ‵ (fobor κ q (Body (mem Q) b o γ)) ∷ ‵ (fobs γ (Q .coded .code xs))
+          ∷ ‵ (fauth γ (Q .coded .code xs)) ∷ rooms 𝓤 H En []) (runs C Λ En mir′.t-3 (atRet En Post))
+      leaves zs long e =
+          closes-array ! tt R ikePlaces zs long b o $ sets ! (of-opd ! (unit-lit !)) refl (tt, tt) $ hands ! refl $
+          ends ! refl refl $
+          by ! (exits zs e)
 
-    -- the borrow is closed, and the locals are freed
-    leaves : (zs : List IkeRecord) → length zs ≡ 32 → zs ≡ set xs i new → Sq W (At zs) (runs C Λ En mir′.t-3 (atRet En Post))
-    leaves zs l e =
-        closes-array ! tt R 32 zs l b o $
-        -- [obs; the borrow; the token; _7 at 3; …; room for _0 at 17; …]
-        assigns ! (of-opd ! (unit-lit !)) (from ! (stop !)) (init ! 17 refl (tt, tt)) $ returns ! (look ! 17 refl) $ forget ! 9 refl $ forget ! 11 refl $ forget ! 13 refl $ forget ! 15 refl $ forget ! 17 refl $
-        move ! (17 ∷ 18 ∷ []) $ free1 ! $ move ! (15 ∷ 16 ∷ []) $ free1 ! $ move ! (13 ∷ 14 ∷ []) $ free1 ! $ move ! (11 ∷ 12 ∷ []) $ free1 ! $ move ! (9 ∷ 10 ∷ []) $ free1 ! $ move ! (7 ∷ 8 ∷ []) $ free1 ! $ move ! (5 ∷ 6 ∷ []) $ free1 ! $ move ! (3 ∷ 4 ∷ []) $ free1 ! $ free0 ! $
-        by ! (exits zs e)
-
-    branch : Sq W (At xs) (runs C Λ En mir′.t-2 (atRet En Post))
-    branch =
-        first ! $ branches ! (load ! (from ! (stop !)) (look ! 10 refl))
-        (λ less. elem-out ! R (Is R) (shows 𝓤 H A R) rec-vals (LL.tells S.the-type S′.the-laws) fullShare xs i noIke b o (within i xs long less) (λ was. move ! (1 ∷ []) $ drop ! $
-        -- [records[i]; the others; the open borrow; obs; auth; _7 at 5; …; _6 at 7; …; _5 at 9; …; _4 at 11; …; _3 at 13; …; _2 at 15; …; _1 at 17; …]
-        assigns ! (bin ! (load ! (from ! (stop !)) (look ! 15 refl)) (lit ! tt) (record { fits = at-fits i less })) (from ! (stop !)) (init ! 9 refl (tt, record { fits = at-fits i less })) $
-        assigns ! (addr ! (from ! (hop ! (look ! 17 refl) (stop !)))) (from ! (stop !)) (init ! 7 refl (tt, tt)) $
-        assigns ! (bin ! (load ! (from ! (stop !)) (look ! 7 refl)) (load ! (from ! (stop !)) (look ! 9 refl)) tt) (from ! (stop !)) (init ! 5 refl (tt, tt)) $
-        rewrite ! 5 (λ (j : ℕ). ‵ (fat fullShare tyPtr l₇ 0 (vptr b j))) (sym (place-is (mem R .size) o i)) refl $
-        assigns-last ! (of-opd ! (load ! (from ! (stop !)) (look ! 13 refl))) (from ! (hop ! (look ! 5 refl) (stop !))) (store-raw ! 0 refl (LL.lawful S.the-type S′.the-laws 𝓤 H A W .typed new _ new-is .0)) $ exec ! C Λ En mir′.t-3 (atRet En Post) $
-        owned ! R (Is R) (LL.makes S.the-type S′.the-plain 𝓤 H A) new _ new-is $ move ! (1 ∷ 0 ∷ []) $ elem-put ! R fullShare xs i new (rec-val new ∷ []) b o (within i xs long less) $ forget ! 4 refl $ forget ! 6 refl $ forget ! 8 refl $
-        leaves (set xs i new) (length-set xs i new ∙ long) refl))
-        (λ over. skips ! $ exec ! C Λ En mir′.t-3 (atRet En Post) $ leaves xs long (sym (set-out xs i new (past i xs long over))))
-
-  walk : (C : Calls 𝓤 H) (Λ : Loops 𝓤 H) → ent 𝓤 (onEntry 𝓤 H A f.signature (κ, tt) (q, tt) a vals) (WpFn 𝓤 H C Λ code.function (vptr b o ∷ vint w64 i ∷ rec-val new ∷ []) Post)
-  walk C Λ =
-      qed W ((‵ (flft κ q) ⊛ ‵ ftrue) ∷ ‵ (owns (MutRef (named 0) κ Q ∷ usize ∷ R ∷ []) a vals) ∷ []) ∵ enter ! C Λ code.function (vptr b o ∷ vint w64 i ∷ rec-val new ∷ []) _ $
-      alloc1 ! (λ l₀. alloc1 ! (λ l₁. alloc1 ! (λ l₂. alloc1 ! (λ l₃. alloc1 ! (λ l₄. alloc1 ! (λ l₅. alloc1 ! (λ l₆. alloc1 ! (λ l₇. alloc0 ! $ params1 ! $
-      pass1 ! (init ! 12 refl (tt, tt)) $ pass1 ! (init ! 10 refl (tt, record { fits = i-fits })) $ pass1 ! (init ! 8 refl (LL.lawful S.the-type S′.the-laws 𝓤 H A W .typed new _ new-is .0)) $ pass0 ! $
-      assigns ! (bin ! (load ! (from ! (stop !)) (look ! 10 refl)) (lit ! tt) tt) (from ! (stop !)) (init ! 6 refl (tt, tt)) $
-      -- the borrow is opened
-      move ! (17 ∷ []) $ fsplit ! $ fsplit3 ! $ drop ! $ move ! (2 ∷ []) $ drop ! $ move ! (18 ∷ []) $ split ! $ move ! (1 ∷ []) $ drop ! $ move ! (1 ∷ 2 ∷ 0 ∷ []) $
-      opens-array ! tt R tt 32 xs b o (λ long. branch C Λ long l₀ l₁ l₂ l₃ l₄ l₅ l₆ l₇)))))))))
+    walk : ent 𝓤 (onEntry 𝓤 H A f.signature (κ, tt) (q, tt) a vals)
+        (WpFn 𝓤 H C Λ code.function (vptr b o ∷ vint w64 i ∷ rec-val new ∷ []) Post)
+    walk =
+        qed W (Token 𝓤 κ q ∷ ‵ (owns (MutRef (named 0) κ Q ∷ usize ∷ R ∷ []) a vals) ∷ []) ∵
+        enter ! C Λ code.function (vptr b o ∷ vint w64 i ∷ rec-val new ∷ []) _ $ allocates ! (λ l. params1 ! $
+        passed ! refl (tt, tt) $ passed ! refl (tt, record { fits = i-fits }) $ passed ! refl (typed W new new-is) $
+        pass0 ! $
+        given-first ! $ sets ! (bin ! (value ! refl) (lit ! tt) tt) refl (tt, tt) $
+        -- the borrow is opened
+        given-mut ! $ opens-array ! tt R tt ikePlaces xs b o (λ long.
+        first ! $ branches ! (value ! refl)
+        (λ less. record-out ! fullShare xs i b o (within i xs long less) (λ was. move ! (1 ∷ []) $ drop ! $
+        -- [records[i]; the others; the open borrow; obs; auth; the locals]
+        sets ! (bin ! (value ! refl) (lit ! tt) (record { fits = at-fits i less })) refl
+        (tt, record { fits = at-fits i less }) $
+        sets ! (addr ! (behind ! refl (stop !))) refl (tt, tt) $
+        sets ! (so ! (lies-at R b o i) (bin ! (value ! refl) (value ! refl) tt)) refl (tt, tt) $
+        assigns-last ! (of-opd ! (value ! refl)) (behind ! refl (stop !)) (store-raw ! 0 refl (typed W new new-is)) $
+        exec ! C Λ (En l) mir′.t-3 (atRet (En l) Post) $
+        owned ! R (Is R) (LL.makes S.the-type S′.the-plain 𝓤 H A) new _ new-is $ move ! (1 ∷ 0 ∷ []) $
+        elem-put ! R fullShare xs i new (rec-vals new) b o (within i xs long less) $ rests ! (En l) 0 refl $
+        leaves l (set xs i new) (length-set xs i new ∙ long) refl))
+        (λ over. skips ! $ exec ! C Λ (En l) mir′.t-3 (atRet (En l) Post) $ rests ! (En l) 0 refl $
+        leaves l xs long (sym (set-out xs i new (past i xs long over))))))
 
 pub ike-store-spec : {M : Type 1} → stated.statement M
 unfolding code.routine tablesOf

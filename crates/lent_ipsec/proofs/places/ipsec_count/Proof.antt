@@ -1,12 +1,15 @@
 -- `lent_ipsec::places::ipsec_count` meets its contract: the count is read off the slice's machine value, and the borrow is never opened.
 -- Assumes nothing.
-use Rattle.walks.proofs.Kit.{refl, [], _∷_, List, length, URA, named, w64, Val, vint, SProp, ent, emp, via, fst∗, Lft, Share, Fml, ftrue, flft, Memory, Routine, Heap, WpFn, Tables, Atoms, Fun, givenOf, tables, tablesOf, Given, ‵, _⊛_, ⋆, _$_, _∵_, !, qed, by, move, suffices, frame, done}
-use Rattle.walks.proofs.Kit.{look, init, forget, stop, fld, from, load, of-opd, assigns, returns, enter, alloc1, alloc0, params1, pass1, pass0, free1, free0, whole, sub, look-in, owns, Is, uint-makes, usize, RefT, sliceVal, slice-vals, shr-slice-tells, ShrSlice, Room, plain, owned}
-use Rattle.walks.proofs.Kit.{onEntry, says, Stays, walkOf, ends-at, yes}
+use Rattle.walks.proofs.Kit.{refl, [], _∷_, List, length, URA, named, w64, Val, vint, SProp, ent, emp, via, fst∗, Lft}
+use Rattle.walks.proofs.Kit.{Share, Fml, ftrue, flft, Memory, Routine, Heap, WpFn, Tables, Atoms, Fun, givenOf, tables}
+use Rattle.walks.proofs.Kit.{tablesOf, Given, ‵, _⊛_, ⋆, _$_, _∵_, !, qed, by, suffices, frame, done, of-opd, enter}
+use Rattle.walks.proofs.Kit.{params1, pass0, whole, sub, owns, Is, uint-makes, usize, RefT, sliceVal, slice-vals}
+use Rattle.walks.proofs.Kit.{shr-slice-tells, ShrSlice, Room, plain, owned, onEntry, says, Stays, walkOf, ends-at, yes}
 use denote.Triple.Walked.{stay-none-slice, goes-none-slice}
 use Rattle.records.specs.declared.ipsec.IpsecRecord.{IpsecRecord}
 use Rattle.lent_ipsec.proofs.IpsecTable.{R}
 use Rattle.walks.proofs.Walk.{closes}
+use Rattle.walks.proofs.Locals.{allocates, passed, given-first, part, sets, hands, ends}
 use Rattle.lent_ipsec.proofs.places.ipsec_count.Key.{name as #lent·ipsec-count}
 use Rattle.lent_ipsec.proofs.places.ipsec_count as f
 use Rattle.lent_ipsec.proofs.places.ipsec_count.Statement as stated
@@ -40,9 +43,10 @@ module _ {M : Type 1} (𝓤 : URA M) (H : Heap 𝓤) (A : Atoms 𝓤) (W : Given
   walk : (𝓣 : Tables 𝓤 H) → ent 𝓤 (onEntry 𝓤 H A f.signature (κ, tt) (q, tt) a vals) (WpFn 𝓤 H (𝓣 .C) (𝓣 .Λ) code.function (s ∷ []) Post)
   walk 𝓣 =
       qed W ((‵ (flft κ q) ⊛ ‵ ftrue) ∷ ‵ Own ∷ []) ∵ enter ! (𝓣 .C) (𝓣 .Λ) code.function (s ∷ []) _ $
-      alloc1 ! (λ l₀. alloc1 ! (λ l₁. alloc0 ! $ params1 ! $ pass1 ! (init ! 0 refl (tt, (tt, (record { fits = room .0 }, tt)))) $ pass0 ! $
-      assigns ! (of-opd ! (load ! (from ! (fld ! refl (stop !))) (look-in ! 0 (sub ! 1 refl (whole !))))) (from ! (stop !)) (init ! 2 refl (tt, record { fits = room .0 })) $
-      returns ! (look ! 2 refl) $ forget ! 0 refl $ forget ! 2 refl $ move ! (2 ∷ 3 ∷ []) $ free1 ! $ free1 ! $ free0 ! $ by ! exits))
+      allocates ! (λ l. params1 ! $ passed ! refl (tt, (tt, (record { fits = room .0 }, tt))) $ pass0 ! $
+      given-first ! $
+      sets ! (of-opd ! (part ! refl (sub ! 1 refl (whole !)))) refl (tt, record { fits = room .0 }) $
+      hands ! refl $ ends ! refl refl $ by ! exits)
 
 pub ipsec-count-spec : {M : Type 1} → stated.statement M
 unfolding code.routine tablesOf

@@ -1,18 +1,24 @@
 -- `lent_ipsec::places::ipsec_store` meets its contract: a walk of its MIR, by hand. Where the place is within the list its record is replaced; then the slice is given up, at the list that it holds.
 -- Assumes nothing.
-use Rattle.walks.proofs.Kit.{_≡_, refl, sym, ap, _∙_, ℕ, _<_, _^_, [], _∷_, List, ltb, ltb→lt, nltb→le, length, set, length-set, set-out, URA, fullShare, named, w64, tyPtr, tyInt, tyBool, tyUnit, Val, vunit, vbool, vint, vptr, SProp, ent, emp, via, fst∗, Lft, Share, GName, ftrue, fat}
-use Rattle.walks.proofs.Kit.{flft, fbor, Memory, Routine, Heap, Env, Calls, Loops, WpFn, Atoms, Fun, givenOf, tables, tablesOf, Given, ‵, _⊛_, ⋆, runs, atRet, Sq, _$_, _∵_, !, qed, by, move, keep, drop, use1, split, join, rewrite, fsplit, fjoin, feqI, suffices, frame, done, look, init}
-use Rattle.walks.proofs.Kit.{store-raw, forget, stop, hop, fld, from, load, lit, unit-lit, of-opd, bin, assigns, assigns-last, first, branches, skips, returns, enter, alloc1, alloc0, params1, pass1, pass0, free1, free0, exec, whole, sub, look-in, owns, Is, shows, mem, uint-vals}
-use Rattle.walks.proofs.Kit.{uint-tells, usize, RefT, sliceVal, slice-vals, mut-slice-tells, MutSlice, Room, finally, Held, place-is, elem-out, elem-put, opens-slice, closes-slice, plain, owned, nothing, onEntry, says, Stays, stay-dropped, gave-slice, walkOf, goes-dropped, goes-gave-slice}
-use Rattle.walks.proofs.Kit.{ends-at, yes}
+use Rattle.walks.proofs.Kit.{_≡_, refl, sym, ap, _∙_, ℕ, _<_, _^_, [], _∷_, List, ltb→lt, nltb→le, length, set}
+use Rattle.walks.proofs.Kit.{length-set, set-out, URA, fullShare, named, w64, Val, vunit, vint, SProp, ent, emp, via}
+use Rattle.walks.proofs.Kit.{fst∗, Lft, Share, GName, flft, fbor, Memory, Routine, Heap, Env, Calls, Loops, WpFn, Atoms}
+use Rattle.walks.proofs.Kit.{Fun, givenOf, tables, tablesOf, Given, ‵, ⋆, runs, atRet, Sq, _$_, _∵_, !, qed, by, move}
+use Rattle.walks.proofs.Kit.{keep, drop, use1, join, fjoin, feqI, suffices, frame, done, store-raw, stop, lit, unit-lit}
+use Rattle.walks.proofs.Kit.{of-opd, bin, assigns-last, first, branches, skips, enter, params1, pass0, exec, whole, sub}
+use Rattle.walks.proofs.Kit.{owns, Is, mem, uint-vals, uint-tells, usize, RefT, sliceVal, slice-vals, mut-slice-tells}
+use Rattle.walks.proofs.Kit.{MutSlice, Room, finally, Held, elem-put, opens-slice, closes-slice, plain, owned, nothing}
+use Rattle.walks.proofs.Kit.{onEntry, says, Stays, stay-dropped, gave-slice, walkOf, goes-dropped, goes-gave-slice}
+use Rattle.walks.proofs.Kit.{ends-at, yes, _*_, ltb, T}
 use denote.Struct.Laws as LL
-use Rattle.records.specs.Records.{noIpsec}
 use Rattle.records.specs.declared.ipsec.IpsecRecord.{IpsecRecord}
 use Rattle.records.proofs.ipsec.IpsecRecord as S
 use Rattle.records.proofs.ipsec.IpsecRecord.Laws as S′
-use Rattle.walks.proofs.Walk.{closes, offset-fits}
-use Rattle.lent_ipsec.proofs.IpsecTable.{R, rec-vals, rec-val, slice-of, Obs, given-up}
-use Rattle.walks.proofs.Locals.{holds, empty}
+use Rattle.walks.proofs.Walk.{closes, offset-fits, lies-at}
+use Rattle.walks.proofs.Calls.{Token, given-mut}
+use Rattle.walks.proofs.Locals.{Lie, env, rooms, allocates, passed, given-first, value, part, behind, so, sets, hands}
+use Rattle.walks.proofs.Locals.{rests, ends}
+use Rattle.lent_ipsec.proofs.IpsecTable.{R, rec-vals, rec-val, typed, record-out, Obs, given-up}
 use Rattle.lent_ipsec.proofs.places.ipsec_store.Key.{name as #ipsec-store}
 use Rattle.lent_ipsec.proofs.places.ipsec_store as f
 use Rattle.lent_ipsec.proofs.places.ipsec_store.Statement as stated
@@ -43,37 +49,46 @@ module _ {M : Type 1} (𝓤 : URA M) (H : Heap 𝓤) (A : Atoms 𝓤) (W : Given
       suffices ! _ (ends-at 𝓤 H A f.ended stayed (f.clauses 𝓤 H A at-mem run) W (((κ, tt), (q, tt), tt, a, vals), tt) vunit tt (zs, (tt, (tt, tt))) (ap length e ∙ length-set xs i new, (tt, (tt, tt)))) $ says ! e $
       nothing ! $ move ! (1 ∷ 0 ∷ []) $ join ! $ frame ! $ nothing ! $ nothing ! $ fjoin ! $ nothing ! $ fjoin ! $ move ! (1 ∷ 0 ∷ []) $ fjoin ! $ frame ! $ feqI ! (List Val) (vunit ∷ []) (vunit ∷ []) refl $ done !
 
-  module _ (C : Calls 𝓤 H) (Λ : Loops 𝓤 H) (l₀ l₁ l₂ l₃ l₄ l₅ l₆ l₇ : ℕ) where
-    abbrev En : Env 𝓤 H
-    En = (tyUnit, l₀) ∷ (slice-of (named 0), l₁) ∷ (tyInt w64, l₂) ∷ (S′.mir, l₃) ∷ (tyInt w64, l₄) ∷ (tyBool, l₅) ∷ (tyInt w64, l₆) ∷ (tyPtr, l₇) ∷ []
+  offset : T (ltb i (length xs)) → i * mem R .size < 2 ^ 64
+  offset less = offset-fits R (length xs) i room (ltb→lt i (length xs) less)
 
-    leaves : (zs : List IpsecRecord) → zs ≡ set xs i new
-        → Sq W (‵ (Obs γ zs) ∷ ‵ (fbor κ (Held R (length zs) b o γ)) ∷ ‵ (flft κ q) ∷ empty 𝓤 tyPtr l₇ (empty 𝓤 (tyInt w64) l₆ (holds 𝓤 tyBool l₅ (vbool (ltb i (length xs))) (holds 𝓤 (tyInt w64) l₄ (vint w64 (length xs))
-        (holds 𝓤 S′.mir l₃ (rec-val new) (holds 𝓤 (tyInt w64) l₂ (vint w64 i) (holds 𝓤 (slice-of (named 0)) l₁ s (empty 𝓤 tyUnit l₀ [])))))))) (runs C Λ En mir′.t-4 (atRet En Post))
-    leaves zs e =
-        assigns ! (of-opd ! (unit-lit !)) (from ! (stop !)) (init ! 17 refl (tt, tt)) $ returns ! (look ! 17 refl) $ forget ! 7 refl $ forget ! 9 refl $ forget ! 11 refl $ forget ! 13 refl $ forget ! 15 refl $ forget ! 17 refl $
-        move ! (17 ∷ 18 ∷ []) $ free1 ! $ move ! (15 ∷ 16 ∷ []) $ free1 ! $ move ! (13 ∷ 14 ∷ []) $ free1 ! $ move ! (11 ∷ 12 ∷ []) $ free1 ! $ move ! (9 ∷ 10 ∷ []) $ free1 ! $ move ! (7 ∷ 8 ∷ []) $ free1 ! $ move ! (5 ∷ 6 ∷ []) $ free1 ! $ move ! (3 ∷ 4 ∷ []) $ free1 ! $ free0 ! $
-        keep ! (0 ∷ 2 ∷ []) $ by ! (exits zs e)
+  module _ (C : Calls 𝓤 H) (Λ : Loops 𝓤 H) where
+    module _ (l : Lie (code.function .locals)) where
+      abbrev En : Env 𝓤 H
+      En = env 𝓤 H (code.function .locals) l
 
-  walk : (C : Calls 𝓤 H) (Λ : Loops 𝓤 H) → ent 𝓤 (onEntry 𝓤 H A f.signature (κ, tt) (q, tt) a vals) (WpFn 𝓤 H C Λ code.function (s ∷ vint w64 i ∷ rec-val new ∷ []) Post)
-  walk C Λ =
-      qed W ((‵ (flft κ q) ⊛ ‵ ftrue) ∷ ‵ (owns (MutSlice (named 0) κ R ∷ usize ∷ R ∷ []) a vals) ∷ []) ∵ enter ! C Λ code.function (s ∷ vint w64 i ∷ rec-val new ∷ []) _ $
-      alloc1 ! (λ l₀. alloc1 ! (λ l₁. alloc1 ! (λ l₂. alloc1 ! (λ l₃. alloc1 ! (λ l₄. alloc1 ! (λ l₅. alloc1 ! (λ l₆. alloc1 ! (λ l₇. alloc0 ! $ params1 ! $
-      pass1 ! (init ! 12 refl (tt, (tt, (record { fits = room .0 }, tt)))) $ pass1 ! (init ! 10 refl (tt, record { fits = i-fits })) $ pass1 ! (init ! 8 refl (LL.lawful S.the-type S′.the-laws 𝓤 H A W .typed new _ new-is .0)) $ pass0 ! $
-      -- [obs; the borrow; the token; _7 at 3; …; _6 at 5; …; _5 at 7; …; _4 at 9; …; _3 at 11; …; _2 at 13; …; _1 at 15; …]
-      move ! (17 ∷ []) $ fsplit ! $ fsplit ! $ drop ! $ fsplit ! $ move ! (2 ∷ []) $ drop ! $ move ! (18 ∷ []) $ split ! $ move ! (1 ∷ []) $ drop ! $ move ! (1 ∷ 2 ∷ 0 ∷ []) $
-      assigns ! (of-opd ! (load ! (from ! (fld ! refl (stop !))) (look-in ! 15 (sub ! 1 refl (whole !))))) (from ! (stop !)) (init ! 9 refl (tt, record { fits = room .0 })) $
-      assigns ! (bin ! (load ! (from ! (stop !)) (look ! 13 refl)) (load ! (from ! (stop !)) (look ! 9 refl)) tt) (from ! (stop !)) (init ! 7 refl (tt, tt)) $
-      first ! $ branches ! (load ! (from ! (stop !)) (look ! 7 refl))
-      (λ less. opens-slice ! tt R xs b o $ elem-out ! R (Is R) (shows 𝓤 H A R) rec-vals (LL.tells S.the-type S′.the-laws) fullShare xs i noIpsec b o (ltb→lt i (length xs) less) (λ was. move ! (1 ∷ []) $ drop ! $
-      -- [s[i]; the others; the open borrow; obs; auth; _7 at 5; …]
-      assigns ! (bin ! (load ! (from ! (stop !)) (look ! 15 refl)) (lit ! tt) (record { fits = offset-fits R (length xs) i room (ltb→lt i (length xs) less) })) (from ! (stop !)) (init ! 7 refl (tt, record { fits = offset-fits R (length xs) i room (ltb→lt i (length xs) less) })) $
-      assigns ! (bin ! (load ! (from ! (fld ! refl (stop !))) (look-in ! 17 (sub ! 0 refl (whole !)))) (load ! (from ! (stop !)) (look ! 7 refl)) tt) (from ! (stop !)) (init ! 5 refl (tt, tt)) $
-      rewrite ! 5 (λ (j : ℕ). ‵ (fat fullShare tyPtr l₇ 0 (vptr b j))) (sym (place-is (mem R .size) o i)) refl $
-      assigns-last ! (of-opd ! (load ! (from ! (stop !)) (look ! 13 refl))) (from ! (hop ! (look ! 5 refl) (stop !))) (store-raw ! 0 refl (LL.lawful S.the-type S′.the-laws 𝓤 H A W .typed new _ new-is .0)) $ exec ! C Λ (En C Λ l₀ l₁ l₂ l₃ l₄ l₅ l₆ l₇) mir′.t-4 (atRet (En C Λ l₀ l₁ l₂ l₃ l₄ l₅ l₆ l₇) Post) $
-      owned ! R (Is R) (LL.makes S.the-type S′.the-plain 𝓤 H A) new _ new-is $ move ! (1 ∷ 0 ∷ []) $ elem-put ! R fullShare xs i new (rec-val new ∷ []) b o (ltb→lt i (length xs) less) $
-      closes-slice ! tt R xs (set xs i new) (length-set xs i new) b o $ forget ! 3 refl $ forget ! 5 refl $ leaves C Λ l₀ l₁ l₂ l₃ l₄ l₅ l₆ l₇ (set xs i new) refl))
-      (λ over. skips ! $ exec ! C Λ (En C Λ l₀ l₁ l₂ l₃ l₄ l₅ l₆ l₇) mir′.t-4 (atRet (En C Λ l₀ l₁ l₂ l₃ l₄ l₅ l₆ l₇) Post) $ leaves C Λ l₀ l₁ l₂ l₃ l₄ l₅ l₆ l₇ xs (sym (set-out xs i new (nltb→le i (length xs) over))))))))))))
+      leaves : (zs : List IpsecRecord) → zs ≡ set xs i new → Sq W (‵ (Obs γ zs) ∷ ‵ (fbor κ (Held R (length zs) b o γ))
+          ∷ ‵ (flft κ q)
+          ∷ rooms 𝓤 H En []) (runs C Λ En mir′.t-4 (atRet En Post))
+      leaves zs e =
+          sets ! (of-opd ! (unit-lit !)) refl (tt, tt) $ hands ! refl $ ends ! refl refl $ keep ! (0 ∷ 2 ∷ []) $
+          by ! (exits zs e)
+
+    walk : ent 𝓤 (onEntry 𝓤 H A f.signature (κ, tt) (q, tt) a vals)
+        (WpFn 𝓤 H C Λ code.function (s ∷ vint w64 i ∷ rec-val new ∷ []) Post)
+    walk =
+        qed W (Token 𝓤 κ q ∷ ‵ (owns (MutSlice (named 0) κ R ∷ usize ∷ R ∷ []) a vals) ∷ []) ∵
+        enter ! C Λ code.function (s ∷ vint w64 i ∷ rec-val new ∷ []) _ $ allocates ! (λ l. params1 ! $
+        passed ! refl (tt, (tt, (record { fits = room .0 }, tt))) $ passed ! refl (tt, record { fits = i-fits }) $
+        passed ! refl (typed W new new-is) $ pass0 ! $ given-first ! $
+        -- [obs; the borrow; the token; the locals]
+        given-mut ! $
+        sets ! (of-opd ! (part ! refl (sub ! 1 refl (whole !)))) refl (tt, record { fits = room .0 }) $
+        sets ! (bin ! (value ! refl) (value ! refl) tt) refl (tt, tt) $ first ! $ branches ! (value ! refl)
+        (λ less. opens-slice ! tt R xs b o $ record-out ! fullShare xs i b o (ltb→lt i (length xs) less) (λ was. move !
+        (1 ∷ []) $ drop ! $
+        -- [records[i]; the others; the open borrow; obs; auth; the locals]
+        sets ! (bin ! (value ! refl) (lit ! tt) (record { fits = offset less })) refl
+        (tt, record { fits = offset less }) $
+        sets ! (so ! (lies-at R b o i) (bin ! (part ! refl (sub ! 0 refl (whole !))) (value ! refl) tt)) refl (tt, tt) $
+        assigns-last ! (of-opd ! (value ! refl)) (behind ! refl (stop !)) (store-raw ! 0 refl (typed W new new-is)) $
+        exec ! C Λ (En l) mir′.t-4 (atRet (En l) Post) $
+        owned ! R (Is R) (LL.makes S.the-type S′.the-plain 𝓤 H A) new _ new-is $ move ! (1 ∷ 0 ∷ []) $
+        elem-put ! R fullShare xs i new (rec-vals new) b o (ltb→lt i (length xs) less) $
+        closes-slice ! tt R xs (set xs i new) (length-set xs i new) b o $ rests ! (En l) 0 refl $
+        leaves l (set xs i new) refl))
+        (λ over. skips ! $ exec ! C Λ (En l) mir′.t-4 (atRet (En l) Post) $ rests ! (En l) 0 refl $
+        leaves l xs (sym (set-out xs i new (nltb→le i (length xs) over)))))
 
 pub ipsec-store-spec : {M : Type 1} → stated.statement M
 unfolding code.routine tablesOf

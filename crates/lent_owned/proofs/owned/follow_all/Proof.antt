@@ -1,9 +1,15 @@
 -- `lent_owned::owned::follow_all` meets its contract: the loop is `Each`'s, over the covered `follow`, and this walk is what stands before and after it.
 -- Assumes nothing.
-use Rattle.walks.proofs.Kit.{refl, ℕ, _<_, _^_, zero-le, [], _∷_, List, map, eqb, lit<, length, length-map, URA, named, w64, tyPtr, tyBool, tyUnit, copy, place, Val, vunit, vint, SProp, ent, emp, via, id⊢, fst∗, Lft, Share, GName, ftrue, fdies, flft, Memory, Routine, Heap, Env, WpFn, Tables}
-use Rattle.walks.proofs.Kit.{Atoms, Fun, givenOf, tables, tablesOf, Given, Item, ‵, _⊛_, ⋆, runs, atRet, Sq, _$_, _∵_, !, qed, by, move, drop, split, join, fsplit, fjoin, feqI, suffices, frame, done, look, init, forget, stop, from, load, lit, unit-lit, of-opd, assigns, and-then, no-more}
-use Rattle.walks.proofs.Kit.{returns, enter, alloc1, alloc0, params1, pass1, pass0, free1, free0, owns, Is, uint-makes, uint-vals, uint-tells, u64, RefT, sliceVal, slice-vals, mut-slice-tells, MutSlice, Room, finally, opens-slice, plain, owned, nothing, Contract, Triple, onEntry, tripleOf}
-use Rattle.walks.proofs.Kit.{cited, says, Stays, stay-dropped, gave-slice, walkOf, goes-dropped, goes-gave-slice, ends-at, yes}
+use Rattle.walks.proofs.Kit.{refl, ℕ, _<_, _^_, zero-le, [], _∷_, List, map, eqb, lit<, length, length-map, URA, named}
+use Rattle.walks.proofs.Kit.{w64, Val, vunit, vint, SProp, ent, emp, via, id⊢, fst∗, Lft, Share, GName, flft, Memory}
+use Rattle.walks.proofs.Kit.{Routine, Heap, Env, WpFn, Tables, Atoms, Fun, givenOf, tables, tablesOf, Given, ‵, ⋆, runs}
+use Rattle.walks.proofs.Kit.{atRet, Sq, _$_, _∵_, !, qed, by, move, join, fjoin, feqI, suffices, frame, done, lit}
+use Rattle.walks.proofs.Kit.{unit-lit, of-opd, and-then, no-more, enter, params1, pass0, owns, Is, uint-makes}
+use Rattle.walks.proofs.Kit.{uint-vals, uint-tells, u64, RefT, sliceVal, slice-vals, mut-slice-tells, MutSlice, Room}
+use Rattle.walks.proofs.Kit.{finally, opens-slice, plain, owned, nothing, Contract, Triple, onEntry, tripleOf, cited}
+use Rattle.walks.proofs.Kit.{says, Stays, stay-dropped, gave-slice, walkOf, goes-dropped, goes-gave-slice, ends-at, yes}
+use Rattle.walks.proofs.Kit.{mem}
+use mathlib.Core.Option.{Option, some as just}
 use denote.Struct.Laws as LL
 use Rattle.records.specs.Records.{follows, newIpsec}
 use Rattle.records.specs.declared.ipsec.IpsecRecord.{IpsecRecord}
@@ -17,10 +23,10 @@ use Rattle.records.proofs.ipsec.follow.Symbol as follow-def
 use Rattle.records.proofs.ipsec.follow.Symbol.{name as #tables·follow}
 use Rattle.records.proofs.ipsec.follow.Met as follow-thm
 use Rattle.lent_owned.proofs.Each as Each
-use Rattle.lent_owned.proofs.Each.{slice, word}
 use Rattle.lent_ipsec.proofs.IpsecTable.{R, rec-val}
-use Rattle.walks.proofs.Locals.{holds, empty, unchanged}
-use Rattle.walks.proofs.Walk.{answered, closes}
+use Rattle.walks.proofs.Calls.{Token, given-mut, copied}
+use Rattle.walks.proofs.Locals.{Lie, env, allocates, passed, given-first, brings, sends, sets, hands, ends}
+use Rattle.walks.proofs.Walk.{answered, closes, unchanged}
 use Rattle.lent_owned.proofs.owned.follow_all.Key.{name as #lent·follow-all}
 use Rattle.lent_owned.proofs.owned.follow_all as f
 use Rattle.lent_owned.proofs.owned.follow_all.Statement as stated
@@ -67,37 +73,50 @@ module _ {M : Type 1} (𝓤 : URA M) (H : Heap 𝓤) (A : Atoms 𝓤) (W : Given
       qed W [] ∵ nothing ! $ nothing ! $ owned ! P.the-row (Is P.the-row) (LL.makes P.the-type P′.the-plain 𝓤 H A) p _ p-is $ fjoin ! $ owned ! u64 (Is u64) (uint-makes 𝓤 H A W w64) n _ (refl, n-fits) $ fjoin ! $ owned ! R (Is R) (LL.makes T.the-type T′.the-plain 𝓤 H A) r _ is $ fjoin ! $
       move ! (1 ∷ 0 ∷ []) $ join ! $ nothing ! $ move ! (1 ∷ 0 ∷ []) $ done !
 
-  module _ (𝓣 : Tables 𝓤 H) (known : Triple 𝓤 (𝓣 .C #tables·follow) (Follow 𝓤 H A at-mem run)) (l₀ l₁ l₂ l₃ l₄ l₅ l₆ l₇ l₈ l₉ l₁₀ l₁₁ l₁₂ l₁₃ : ℕ) where
-    abbrev En : Env 𝓤 H
-    En = (tyUnit, l₀) ∷ (slice, l₁) ∷ (word, l₂) ∷ (P′.mir, l₃) ∷ (word, l₄) ∷ (T′.mir, l₅) ∷ (word, l₆) ∷ (tyBool, l₇) ∷ (tyPtr, l₈) ∷ (word, l₉) ∷ (word, l₁₀) ∷ (tyPtr, l₁₁) ∷ (T′.mir, l₁₂) ∷ (tyPtr, l₁₃) ∷ []
+  module _ (𝓣 : Tables 𝓤 H) (known : Triple 𝓤 (𝓣 .C #tables·follow) (Follow 𝓤 H A at-mem run)) where
+    module _ (l : Lie (code.function .locals)) where
+      abbrev En : Env 𝓤 H
+      En = env 𝓤 H (code.function .locals) l
 
-    -- the locals that the loop leaves alone, but for the slice's and the owner's
-    abbrev Rest : List (Item 𝓤)
-    Rest = holds 𝓤 P′.mir l₃ (pair-val p) (‵ (fdies word l₂) ∷ ‵ (fdies slice l₁) ∷ empty 𝓤 tyUnit l₀ [])
+      -- the parameters behind the slice and the owner, and what they hold; and where the loop's locals lie
+      abbrev Qs : Env 𝓤 H
+      Qs = (P′.mir, l .1 .1 .1 .0) ∷ []
 
-    leaves : Sq W (Each.Done 𝓤 H A κ q b o γ xs n (follows n p) l₁ l₂ l₄ l₅ l₆ l₇ l₈ l₉ l₁₀ l₁₁ l₁₂ l₁₃ Rest) (runs (𝓣 .C) (𝓣 .Λ) En mir′.t-3 (atRet En Post))
-    leaves =
-        -- [the last list; the token; room for _1, _2; _13 at 4; …; _4 at 22; _3 at 24; _2 dies at 26, _1 at 27; _0 at 28]
-        assigns ! (of-opd ! (unit-lit !)) (from ! (stop !)) (init ! 28 refl (tt, tt)) $ returns ! (look ! 28 refl) $ forget ! 24 refl $ forget ! 28 refl $ move ! (28 ∷ 29 ∷ []) $ free1 ! $ move ! (2 ∷ 27 ∷ []) $ free1 ! $ move ! (2 ∷ 25 ∷ []) $ free1 ! $
-        move ! (22 ∷ 23 ∷ []) $ free1 ! $ move ! (20 ∷ 21 ∷ []) $ free1 ! $ move ! (18 ∷ 19 ∷ []) $ free1 ! $ move ! (16 ∷ 17 ∷ []) $ free1 ! $ move ! (14 ∷ 15 ∷ []) $ free1 ! $ move ! (12 ∷ 13 ∷ []) $ free1 ! $ move ! (10 ∷ 11 ∷ []) $ free1 ! $ move ! (8 ∷ 9 ∷ []) $ free1 ! $ move ! (6 ∷ 7 ∷ []) $ free1 ! $ move ! (4 ∷ 5 ∷ []) $ free1 ! $ move ! (2 ∷ 3 ∷ []) $ free1 ! $ free0 ! $ by ! exits
+      abbrev hs : List (Option Val)
+      hs = just (pair-val p) ∷ []
 
-    looped : Sq W (Each.At 𝓤 H A κ q b o γ xs n (follows n p) l₁ l₂ l₄ l₅ l₆ l₇ l₈ l₉ l₁₀ l₁₁ l₁₂ l₁₃ Rest (0, zero-le)) (runs (𝓣 .C) (𝓣 .Λ) En mir′.t-2 (atRet En Post))
-    looped =
-        Each.looped 𝓤 H A κ q b o γ xs n (follows n p) l₁ l₂ l₄ l₅ l₆ l₇ l₈ l₉ l₁₀ l₁₁ l₁₂ l₁₃ Rest W room En 4 (refl, refl, refl, refl, refl, refl, refl, refl, refl, refl, refl, refl)
-        (λ r. unchanged (eqb (r .spi) 0) (eqb (r .owner) n) r (newIpsec (r .spi) (r .owner) p)) 𝓣 #tables·follow (Follow 𝓤 H A at-mem run) known to goes
-        (λ r v. answered 𝓤 H A W follow.ended (follow.clauses 𝓤 H A at-mem run) (to r) v (follows n p r) (λ r′ ws. id⊢ 𝓤 _)) (copy (place 5 []) ∷ copy (place 2 []) ∷ copy (place 3 []) ∷ [])
-        -- [what `follow` asks; s[i]; …; _2 at 4; …; _5 at 24; …; _3 at 28; …]
-        (λ i. and-then ! (load ! (from ! (stop !)) (look ! 24 refl)) (and-then ! (load ! (from ! (stop !)) (look ! 4 refl)) (and-then ! (load ! (from ! (stop !)) (look ! 28 refl)) (no-more !)))) mir′.t-3 Post leaves
+      abbrev ls : Lie Each.kinds
+      ls = l .1 .1 .1 .1
 
-  walk : (𝓣 : Tables 𝓤 H) → Triple 𝓤 (𝓣 .C #tables·follow) (Follow 𝓤 H A at-mem run) → ent 𝓤 (onEntry 𝓤 H A f.signature (κ, tt) (q, tt) a vals) (WpFn 𝓤 H (𝓣 .C) (𝓣 .Λ) code.function (s ∷ vint w64 n ∷ pair-val p ∷ []) Post)
-  walk 𝓣 known =
-      qed W ((‵ (flft κ q) ⊛ ‵ ftrue) ∷ ‵ (owns (MutSlice (named 0) κ R ∷ u64 ∷ P.the-row ∷ []) a vals) ∷ []) ∵ enter ! (𝓣 .C) (𝓣 .Λ) code.function (s ∷ vint w64 n ∷ pair-val p ∷ []) _ $
-      alloc1 ! (λ l₀. alloc1 ! (λ l₁. alloc1 ! (λ l₂. alloc1 ! (λ l₃. alloc1 ! (λ l₄. alloc1 ! (λ l₅. alloc1 ! (λ l₆. alloc1 ! (λ l₇. alloc1 ! (λ l₈. alloc1 ! (λ l₉. alloc1 ! (λ l₁₀. alloc1 ! (λ l₁₁. alloc1 ! (λ l₁₂. alloc1 ! (λ l₁₃. alloc0 ! $ params1 ! $
-      pass1 ! (init ! 24 refl (tt, (tt, (record { fits = room .0 }, tt)))) $ pass1 ! (init ! 22 refl (tt, record { fits = n-fits })) $ pass1 ! (init ! 20 refl (LL.lawful P.the-type P′.the-laws 𝓤 H A W .typed p _ p-is .0)) $ pass0 ! $
-      assigns ! (of-opd ! (lit ! tt)) (from ! (stop !)) (init ! 18 refl (tt, record { fits = lit< tt })) $
-      -- the borrow is opened
-      move ! (29 ∷ []) $ fsplit ! $ fsplit ! $ drop ! $ fsplit ! $ move ! (2 ∷ []) $ drop ! $ move ! (30 ∷ []) $ split ! $ move ! (1 ∷ []) $ drop ! $ move ! (1 ∷ 2 ∷ 0 ∷ []) $ opens-slice ! tt R xs b o $
-      move ! (0 ∷ 28 ∷ 26 ∷ []) $ looped 𝓣 known l₀ l₁ l₂ l₃ l₄ l₅ l₆ l₇ l₈ l₉ l₁₀ l₁₁ l₁₂ l₁₃))))))))))))))
+      leaves : Sq W (Each.Done 𝓤 H A κ q b o γ xs n (follows n p) (l .0) (l .1 .0) (l .1 .1 .0) Qs hs ls)
+          (runs (𝓣 .C) (𝓣 .Λ) En mir′.t-3 (atRet En Post))
+      leaves =
+          -- [the last list; the token; the slice's room; the owner's; the other locals]
+          move ! (2 ∷ []) $ sends ! 1 $ move ! (2 ∷ []) $ sends ! 2 $
+          sets ! (of-opd ! (unit-lit !)) refl (tt, tt) $ hands ! refl $ ends ! refl refl $ by ! exits
+
+      looped : Sq W (Each.At 𝓤 H A κ q b o γ xs n (follows n p) (l .0) (l .1 .0) (l .1 .1 .0) Qs hs ls (0, zero-le))
+          (runs (𝓣 .C) (𝓣 .Λ) En mir′.t-2 (atRet En Post))
+      looped =
+          Each.looped 𝓤 H A κ q b o γ xs n (follows n p) (l .0) (l .1 .0) (l .1 .1 .0) Qs hs ls W room
+          (λ r. unchanged (eqb (r .spi) 0) (eqb (r .owner) n) r (newIpsec (r .spi) (r .owner) p)) 𝓣 #tables·follow
+          (Follow 𝓤 H A at-mem run) known to goes
+          (λ r v. answered 𝓤 H A W follow.ended (follow.clauses 𝓤 H A at-mem run) (to r) v (follows n p r)
+          (λ r′ ws. id⊢ 𝓤 _))
+          _
+          (λ i. and-then ! (copied ! Each.record-at refl) (and-then ! (copied ! Each.owner-at refl)
+          (and-then ! (copied ! (Each.other-at 1) refl) (no-more !)))) mir′.t-3 Post leaves
+
+    walk : ent 𝓤 (onEntry 𝓤 H A f.signature (κ, tt) (q, tt) a vals)
+        (WpFn 𝓤 H (𝓣 .C) (𝓣 .Λ) code.function (s ∷ vint w64 n ∷ pair-val p ∷ []) Post)
+    walk =
+        qed W (Token 𝓤 κ q ∷ ‵ (owns (MutSlice (named 0) κ R ∷ u64 ∷ P.the-row ∷ []) a vals) ∷ []) ∵
+        enter ! (𝓣 .C) (𝓣 .Λ) code.function (s ∷ vint w64 n ∷ pair-val p ∷ []) _ $ allocates ! (λ l. params1 ! $
+        passed ! refl (tt, (tt, (record { fits = room .0 }, tt))) $ passed ! refl (tt, record { fits = n-fits }) $
+        passed ! refl (LL.lawful P.the-type P′.the-laws 𝓤 H A W .typed p _ p-is .0) $ pass0 ! $
+        given-first ! $ sets ! (of-opd ! (lit ! tt)) refl (tt, record { fits = lit< tt }) $
+        -- the borrow is opened
+        given-mut ! $ opens-slice ! tt R xs b o $ brings ! 2 $ brings ! 1 $ move ! (2 ∷ []) $ looped l)
 
 pub follow-all-spec : {M : Type 1} → stated.statement M
 unfolding code.routine tablesOf

@@ -1,8 +1,11 @@
 -- `lent_policy::rules::policy_of` meets its contract: a walk of its MIR, by hand. The reference is looked into, its policy copied, and it is shut.
 -- Assumes nothing.
-use Rattle.walks.proofs.Kit.{refl, ℕ, [], _∷_, List, URA, named, Val, vptr, SProp, ent, emp, via, fst∗, Lft, Share, GName, ftrue, flft, Memory, Routine, Heap, Calls, Loops, WpFn, Atoms, Fun, givenOf, tables, tablesOf, Given, ‵, _⊛_, ⋆, _$_, _∵_, !, qed, by, move, drop, split, join}
-use Rattle.walks.proofs.Kit.{fsplit, fsplit3, fjoin, suffices, frame, done, look, look-raw, init, stop, hop, from, load, of-opd, assigns, returns, enter, alloc1, alloc0, params1, pass1, pass0, free0, owns, Is, RefT, ShrRef, ptr-vals, shr-tells, plain, shrRefTo, owned, nothing, onEntry}
-use Rattle.walks.proofs.Kit.{says, Stays, stay-dropped, walkOf, goes-dropped, ends-at, yes, only}
+use Rattle.walks.proofs.Kit.{refl, ℕ, [], _∷_, List, URA, named, Val, vptr, SProp, ent, emp, via, fst∗, Lft, Share}
+use Rattle.walks.proofs.Kit.{GName, flft, Memory, Routine, Heap, Calls, Loops, WpFn, Atoms, Fun, givenOf, tables}
+use Rattle.walks.proofs.Kit.{tablesOf, Given, ‵, ⋆, _$_, _∵_, !, qed, by, move, join, fjoin, suffices, frame, done}
+use Rattle.walks.proofs.Kit.{look-raw, stop, load, of-opd, enter, params1, pass0, owns, Is, RefT, ShrRef, ptr-vals}
+use Rattle.walks.proofs.Kit.{shr-tells, plain, shrRefTo, owned, nothing, onEntry, says, Stays, stay-dropped, walkOf}
+use Rattle.walks.proofs.Kit.{goes-dropped, ends-at, yes, only}
 use denote.Steps.{shuts}
 use denote.Struct.Laws as LL
 use Rattle.policy.specs.declared.rules.Policy.{Policy}
@@ -10,8 +13,9 @@ use Rattle.policy.proofs.rules.Policy as Y
 use Rattle.policy.proofs.rules.Policy.Laws as Y′
 use Rattle.walks.proofs.Whole.{looks-whole}
 use Rattle.walks.proofs.Walk.{closes}
-use Rattle.walks.proofs.Calls.{ends-local}
-use Rattle.lent_policy.proofs.PolicyTypes.{R, policy-vals}
+use Rattle.walks.proofs.Calls.{Token, given-shr}
+use Rattle.walks.proofs.Locals.{allocates, passed, given-first, behind, sets, hands, ends}
+use Rattle.lent_policy.proofs.PolicyTypes.{R, policy-vals, typed}
 use Rattle.lent_policy.proofs.rules.policy_of.Key as key
 use Rattle.lent_policy.proofs.rules.policy_of as f
 use Rattle.lent_policy.proofs.rules.policy_of.Statement as stated
@@ -37,13 +41,13 @@ module _ {M : Type 1} (𝓤 : URA M) (H : Heap 𝓤) (A : Atoms 𝓤) (W : Given
 
   walk : (C : Calls 𝓤 H) (Λ : Loops 𝓤 H) → ent 𝓤 (onEntry 𝓤 H A f.signature (κ, tt) (q, tt) a vals) (WpFn 𝓤 H C Λ code.function (vptr b o ∷ []) Post)
   walk C Λ =
-      qed W ((‵ (flft κ q) ⊛ ‵ ftrue) ∷ ‵ (owns (ShrRef (named 0) κ R ∷ []) a vals) ∷ []) ∵ enter ! C Λ code.function (vptr b o ∷ []) _ $
-      alloc1 ! (λ l₀. alloc1 ! (λ l₁. alloc0 ! $ params1 ! $ pass1 ! (init ! 0 refl (tt, tt)) $ pass0 ! $
-      move ! (5 ∷ []) $ fsplit ! $ fsplit3 ! $ drop ! $ drop ! $ move ! (1 ∷ []) $ drop ! $ move ! (5 ∷ []) $ split ! $ move ! (1 ∷ []) $ drop ! $ move ! (1 ∷ 0 ∷ []) $
+      qed W (Token 𝓤 κ q ∷ ‵ (owns (ShrRef (named 0) κ R ∷ []) a vals) ∷ []) ∵
+      enter ! C Λ code.function (vptr b o ∷ []) _ $ allocates ! (λ l. params1 ! $ passed ! refl (tt, tt) $ pass0 ! $
+      given-first ! $ given-shr ! $
       looks-whole ! tt R policy-vals (LL.tells Y.the-type Y′.the-laws) (LL.copy Y.the-type Y′.the-copy 𝓤 H A W) p b o (λ q′ is.
-      -- [the policy; what it owns; the open borrow; _1 at 3; …; room for _0 at 5; …]
-      assigns ! (of-opd ! (load ! (from ! (hop ! (look ! 3 refl) (stop !))) (look-raw ! 0 refl))) (from ! (stop !)) (init ! 5 refl (LL.lawful Y.the-type Y′.the-laws 𝓤 H A W .typed p _ is .0)) $
-      shuts ! tt R q′ p (policy-vals p) b o $ returns ! (look ! 3 refl) $ move ! (3 ∷ 4 ∷ []) $ ends-local ! $ move ! (1 ∷ 2 ∷ []) $ ends-local ! $ free0 ! $ by ! (exits is))))
+      -- [the policy; what it owns; the open borrow; the locals]
+      sets ! (of-opd ! (load ! (behind ! refl (stop !)) (look-raw ! 0 refl))) refl (typed W p is) $
+      shuts ! tt R q′ p (policy-vals p) b o $ hands ! refl $ ends ! refl refl $ by ! (exits is)))
 
 pub policy-of-spec : {M : Type 1} → stated.statement M
 unfolding code.routine tablesOf

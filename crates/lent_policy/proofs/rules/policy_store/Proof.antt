@@ -1,8 +1,11 @@
 -- `lent_policy::rules::policy_store` meets its contract: a walk of its MIR, by hand. The borrow is opened, the policy stored whole, and it is closed at the new one.
 -- Assumes nothing.
-use Rattle.walks.proofs.Kit.{refl, ℕ, [], _∷_, List, URA, named, Val, vunit, vptr, SProp, ent, emp, via, fst∗, Lft, Share, GName, ftrue, flft, fobs, fbor, Memory, Routine, Heap, Calls, Loops, WpFn, Atoms, Fun, givenOf, tables, tablesOf, Given, ‵, _⊛_, ⋆, _$_, _∵_, !, qed, by, move, drop, split, join}
-use Rattle.walks.proofs.Kit.{fsplit, fsplit3, fjoin, feqI, suffices, frame, done, look, init, store-raw, stop, hop, from, of-opd, unit-lit, assigns, returns, enter, alloc1, alloc0, params1, pass1, pass0, free0, owns, mem, Is, RefT, MutRef, ptr-vals, mut-tells, plain, owned, nothing, onEntry}
-use Rattle.walks.proofs.Kit.{says, Stays, stay-dropped, walkOf, goes-dropped, ends-at, yes, only}
+use Rattle.walks.proofs.Kit.{refl, ℕ, [], _∷_, List, URA, named, Val, vunit, vptr, SProp, ent, emp, via, fst∗, Lft}
+use Rattle.walks.proofs.Kit.{Share, GName, flft, fobs, fbor, Memory, Routine, Heap, Calls, Loops, WpFn, Atoms, Fun}
+use Rattle.walks.proofs.Kit.{givenOf, tables, tablesOf, Given, ‵, ⋆, _$_, _∵_, !, qed, by, move, join, fjoin, feqI}
+use Rattle.walks.proofs.Kit.{suffices, frame, done, store-raw, stop, of-opd, unit-lit, assigns, enter, params1, pass0}
+use Rattle.walks.proofs.Kit.{owns, mem, Is, RefT, MutRef, ptr-vals, mut-tells, plain, owned, nothing, onEntry, says}
+use Rattle.walks.proofs.Kit.{Stays, stay-dropped, walkOf, goes-dropped, ends-at, yes, only}
 use types.Kit.{fjoin3}
 use types.SemTy.{Body}
 use denote.Steps.{closes as closes-whole}
@@ -13,8 +16,9 @@ use Rattle.policy.proofs.rules.Policy as Y
 use Rattle.policy.proofs.rules.Policy.Laws as Y′
 use Rattle.walks.proofs.Whole.{opens-whole}
 use Rattle.walks.proofs.Walk.{closes}
-use Rattle.walks.proofs.Calls.{copied, ends-local}
-use Rattle.lent_policy.proofs.PolicyTypes.{R, policy-vals}
+use Rattle.walks.proofs.Calls.{Token, given-mut}
+use Rattle.walks.proofs.Locals.{allocates, passed, given-first, value, behind, sets, hands, ends}
+use Rattle.lent_policy.proofs.PolicyTypes.{R, policy-vals, typed}
 use Rattle.lent_policy.proofs.rules.policy_store.Key as key
 use Rattle.lent_policy.proofs.rules.policy_store as f
 use Rattle.lent_policy.proofs.rules.policy_store.Statement as stated
@@ -42,14 +46,15 @@ module _ {M : Type 1} (𝓤 : URA M) (H : Heap 𝓤) (A : Atoms 𝓤) (W : Given
 
   walk : (C : Calls 𝓤 H) (Λ : Loops 𝓤 H) → ent 𝓤 (onEntry 𝓤 H A f.signature (κ, tt) (q, tt) a vals) (WpFn 𝓤 H C Λ code.function (vptr b o ∷ only (policy-vals new) ∷ []) Post)
   walk C Λ =
-      qed W ((‵ (flft κ q) ⊛ ‵ ftrue) ∷ ‵ (owns (MutRef (named 0) κ R ∷ R ∷ []) a vals) ∷ []) ∵ enter ! C Λ code.function (vptr b o ∷ only (policy-vals new) ∷ []) _ $
-      alloc1 ! (λ l₀. alloc1 ! (λ l₁. alloc1 ! (λ l₂. alloc0 ! $ params1 ! $ pass1 ! (init ! 2 refl (tt, tt)) $ pass1 ! (init ! 0 refl (LL.lawful Y.the-type Y′.the-laws 𝓤 H A W .typed new _ new-is .0)) $ pass0 ! $
-      move ! (7 ∷ []) $ fsplit ! $ fsplit3 ! $ drop ! $ move ! (2 ∷ []) $ drop ! $ move ! (8 ∷ []) $ split ! $ move ! (1 ∷ []) $ drop ! $ move ! (1 ∷ 2 ∷ 0 ∷ []) $
+      qed W (Token 𝓤 κ q ∷ ‵ (owns (MutRef (named 0) κ R ∷ R ∷ []) a vals) ∷ []) ∵
+      enter ! C Λ code.function (vptr b o ∷ only (policy-vals new) ∷ []) _ $ allocates ! (λ l. params1 ! $
+      passed ! refl (tt, tt) $ passed ! refl (typed W new new-is) $ pass0 ! $ given-first ! $ given-mut ! $
       opens-whole ! tt R policy-vals (LL.tells Y.the-type Y′.the-laws) p b o $
-      -- [the policy; the open borrow; obs; auth; _2 at 4; …; _1 at 6; …; room for _0 at 8; …]
-      assigns ! (of-opd ! (copied ! 4 refl)) (from ! (hop ! (look ! 6 refl) (stop !))) (store-raw ! 0 refl (LL.lawful Y.the-type Y′.the-laws 𝓤 H A W .typed new _ new-is .0)) $
-      owned ! R (Is R) (LL.makes Y.the-type Y′.the-plain 𝓤 H A) new _ new-is $ move ! (1 ∷ 0 ∷ []) $ closes-whole ! tt R new (policy-vals new) b o $
-      assigns ! (of-opd ! (unit-lit !)) (from ! (stop !)) (init ! 7 refl (tt, tt)) $ returns ! (look ! 7 refl) $ move ! (7 ∷ 8 ∷ []) $ ends-local ! $ move ! (5 ∷ 6 ∷ []) $ ends-local ! $ move ! (3 ∷ 4 ∷ []) $ ends-local ! $ free0 ! $ by ! exits)))
+      -- [the policy; the open borrow; obs; auth; the locals]
+      assigns ! (of-opd ! (value ! refl)) (behind ! refl (stop !)) (store-raw ! 0 refl (typed W new new-is)) $
+      owned ! R (Is R) (LL.makes Y.the-type Y′.the-plain 𝓤 H A) new _ new-is $ move ! (1 ∷ 0 ∷ []) $
+      closes-whole ! tt R new (policy-vals new) b o $
+      sets ! (of-opd ! (unit-lit !)) refl (tt, tt) $ hands ! refl $ ends ! refl refl $ by ! exits)
 
 pub policy-store-spec : {M : Type 1} → stated.statement M
 unfolding code.routine tablesOf

@@ -1,5 +1,5 @@
--- `payload::payload::notify_at` meets its contract: at each return the tests on the way say which case of `notifyAt` holds.
--- Assumes nothing.
+-- `payload::payload::notify_at` meets its contract: at each return the tests on the way say which case of `notifyAt`
+-- holds. Assumes nothing.
 use borrow.Author.Needs.{needs}
 use borrow.Author.Tests.{lt-ltb, le-ltb, ltb-false, not-true}
 use native.Mathlib.Omega.{arith}
@@ -9,11 +9,13 @@ use mathlib.Core.List.{List}
 use mathlib.Core.Bool.{Bool, true, false, cond, _&&_, not, false≢true}
 use lib.Dec.{ltb}
 use lib.ListN.{length, take, drop, getD, length-take, length-drop}
+use Rattle.octets.specs.Limits.{notifyHeader}
 use Rattle.octets.specs.Octets.{be16}
-use Rattle.payload.specs.Notify.{kindOf, dataFits}
+use Rattle.notify.specs.Notify.{kindOf, dataFits}
 use Rattle.octets.proofs.Small.{both}
-use Rattle.payload.specs.Payload.{notifyAt, spiFits, spiInside}
-use Rattle.payload.specs.declared.notify.NotifyKind.{NotifyKind}
+use Rattle.payload.specs.Payload.{spiSizeAt, notifyTypeAt, notifyAt, spiFits}
+use Rattle.payload.specs.Spi.{spiInside}
+use Rattle.notify.specs.declared.notify.NotifyKind.{NotifyKind}
 use Rattle.payload.specs.declared.payload.Found.{Found}
 use Rattle.payload.specs.declared.payload.Found.the-variants.{Payload, Faulty}
 use Rattle.payload.specs.declared.payload.Fault.the-variants.{DataSize, NotifyShape}
@@ -22,16 +24,22 @@ use Rattle.payload.proofs.payload.notify_at.Statement.{statement}
 use Rattle.payload.proofs.payload.notify_at.Tie as tie
 
 -- an SPI that fits does not run past the payload, and its type may have it
-inside : (kind : NotifyKind) (spi size : ℕ) → spiInside kind spi size ≡ true
-    → (ltb (size - 8) spi ≡ false) × (spiFits kind spi ≡ true)
-inside kind spi size f = let t = both (not (ltb (size - 8) spi)) (spiFits kind spi) f in (not-true (ltb (size - 8) spi) (t .0), t .1)
+inside : (kind : NotifyKind) (spiSize size : ℕ) → spiInside kind spiSize size ≡ true
+    → (ltb (size - notifyHeader) spiSize ≡ false) × (spiFits kind spiSize ≡ true)
+inside kind spiSize size f =
+    let past = ltb (size - notifyHeader) spiSize in
+    let t = both (not past) (spiFits kind spiSize) f in
+    (not-true past (t .0), t .1)
 
 -- Past the test of the length `notifyAt` goes by the SPI and by the data.
-module _ (body : List ℕ) (at size number : ℕ) (kind : NotifyKind) (e : number ≡ be16 body (at + 6)) (k : kind ≡ kindOf number)
-    (h : 8 ≤ size) where
-  misshaped : spiInside kind (getD body (at + 5) 0) size ≡ false → Faulty NotifyShape ≡ notifyAt body at size
+module _ (body : List ℕ) (at size notifyType : ℕ) (kind : NotifyKind)
+    (e : notifyType ≡ be16 body (at + notifyTypeAt)) (k : kind ≡ kindOf notifyType) (h : notifyHeader ≤ size) where
+  abbrev spiSize : ℕ
+  spiSize = getD body (at + spiSizeAt) 0
+
+  misshaped : spiInside kind spiSize size ≡ false → Faulty NotifyShape ≡ notifyAt body at size
   unfolding notifyAt
-  misshaped f = rw (← e, ← k, le-ltb _ _ h) (either (ltb (size - 8) (getD body (at + 5) 0)) (spiFits kind (getD body (at + 5) 0)) _ f)
+  misshaped f = rw (← e, ← k, le-ltb _ _ h) (either (ltb (size - notifyHeader) spiSize) (spiFits kind spiSize) _ f)
     where
       either : (past held : Bool) (x : Found) → not past && held ≡ false
           → Faulty NotifyShape ≡ cond past (Faulty NotifyShape) (cond held x (Faulty NotifyShape))
@@ -39,49 +47,56 @@ module _ (body : List ℕ) (at size number : ℕ) (kind : NotifyKind) (e : numbe
       either false true x f = absurd (false≢true (sym f))
       either false false x f = refl
 
-  shaped : (n : ℕ) (sized : Bool) → spiInside kind (getD body (at + 5) 0) size ≡ true → n ≡ size - 8 - getD body (at + 5) 0
+  shaped : (n : ℕ) (sized : Bool) → spiInside kind spiSize size ≡ true → n ≡ size - notifyHeader - spiSize
       → dataFits kind n ≡ sized
-      → cond sized (Payload size (Notify kind number (size - 8 - getD body (at + 5) 0))) (Faulty DataSize) ≡ notifyAt body at size
+      → cond sized (Payload size (Notify kind notifyType (size - notifyHeader - spiSize))) (Faulty DataSize)
+      ≡ notifyAt body at size
   unfolding notifyAt
-  shaped n sized f l s = let t = inside kind (getD body (at + 5) 0) size f in rw (← e, ← k, le-ltb _ _ h, t .0, t .1, ← l, s)
+  shaped n sized f l s =
+      let t = inside kind spiSize size f in rw (← e, ← k, le-ltb _ _ h, t .0, t .1, ← l, s)
 
 -- the data is what is left of the payload after its header and its SPI
-part-length : (s : List ℕ) (at size spi : ℕ) → at + size ≤ length s
-    → length (take (at + size - (at + 8 + spi)) (drop (at + 8 + spi) s)) ≡ size - 8 - spi
-part-length s at size spi h = simp (length-take, length-drop) (omega arith)
+part-length : (s : List ℕ) (at size spiSize : ℕ) → at + size ≤ length s
+    → let start = at + notifyHeader + spiSize in
+    length (take (at + size - start) (drop start s)) ≡ size - notifyHeader - spiSize
+part-length s at size spiSize h = simp (length-take, length-drop) (omega arith)
 
 returns : tie.Need-returns
 unfolding notifyAt
 returns c = rw (lt-ltb _ _ (c .if1 .taken))
 
-octet : (c : tie.After-shared-slice-known2) → let a = c .before .before .before .args in getD (a .body .now) (a .at + 5) 0 < 256
-octet c = omega (arith, c .shared-slice-known2 .given (c .before .before .before .args .at + 5))
+octet : (c : tie.After-shared-slice-known2)
+    → let a = c .before .before .before .args in
+    getD (a .body .now) (a .at + spiSizeAt) 0 < 256
+octet c = omega (arith, c .shared-slice-known2 .given (c .before .before .before .args .at + spiSizeAt))
 
 -- where the SPI fits
-fits : (c : tie.After-kind) → let a = c .before .before .before .before .before .before .before .args in
-    spiInside (kindOf (c .before .before .before .be16-at .result)) (getD (a .body .now) (a .at + 5) 0) (a .size) ≡ true
+fits : (c : tie.After-kind)
+    → let a = c .before .before .before .before .before .before .before .args in
+    let kind = kindOf (c .before .before .before .be16-at .result) in
+    spiInside kind (getD (a .body .now) (a .at + spiSizeAt) 0) (a .size) ≡ true
 fits c = sym (c .before .before .spi-fits .ensures) ∙ c .before .if2 .taken
 
-room : (c : tie.After-kind) → let a = c .before .before .before .before .before .before .before .args in
-    8 + getD (a .body .now) (a .at + 5) 0 ≤ a .size
+room : (c : tie.After-kind)
+    → let a = c .before .before .before .before .before .before .before .args in
+    notifyHeader + getD (a .body .now) (a .at + spiSizeAt) 0 ≤ a .size
 room c =
     let a = c .before .before .before .before .before .before .before .args in
-    let spi = getD (a .body .now) (a .at + 5) 0 in
+    let spi = getD (a .body .now) (a .at + spiSizeAt) 0 in
+    let held = inside (kindOf (c .before .before .before .be16-at .result)) spi (a .size) (fits c) in
     omega (
       arith,
       c .before .before .before .before .before .if1 .left,
-      ltb-false (a .size - 8) spi (inside (kindOf (c .before .before .before .be16-at .result)) spi (a .size) (fits c) .0),
+      ltb-false (a .size - notifyHeader) spi (held .0),
     )
 
 -- the two answers that look at the data, by whether its size fits
 looked : (c : tie.After-data-fits) (sized : Bool) → c .data-fits .result ≡ sized
     → let d = c .before .before in
     let a = d .before .before .before .before .before .before .before .args in
-    let spi = getD (a .body .now) (a .at + 5) 0 in
-    cond sized
-    (Payload (a .size) (Notify (d .kind .result) (d .before .before .before .be16-at .result) (a .size - 8 - spi)))
-    (Faulty DataSize)
-    ≡ notifyAt (a .body .now) (a .at) (a .size)
+    let n = a .size - notifyHeader - getD (a .body .now) (a .at + spiSizeAt) 0 in
+    let notify = Notify (d .kind .result) (d .before .before .before .be16-at .result) n in
+    cond sized (Payload (a .size) notify) (Faulty DataSize) ≡ notifyAt (a .body .now) (a .at) (a .size)
 looked c sized t =
     let d = c .before .before in
     let a = d .before .before .before .before .before .before .before .args in
@@ -89,7 +104,7 @@ looked c sized t =
     (d .before .before .before .before .before .if1 .left)
     _ sized
     (rw (d .kind .ensures) (fits d))
-    (part-length (a .body .now) (a .at) (a .size) (getD (a .body .now) (a .at + 5) 0) (omega (arith, c)))
+    (part-length (a .body .now) (a .at) (a .size) (getD (a .body .now) (a .at + spiSizeAt) 0) (omega (arith, c)))
     (sym (c .data-fits .ensures) ∙ t)
 
 pub notify-at-spec : {M : Type 1} → statement M
@@ -117,5 +132,6 @@ notify-at-spec =
     (λ c. looked (c .before) false (c .if3 .left))
     (λ c.
     let a = c .before .before .before .before .before .before .args in
-    misshaped (a .body .now) (a .at) (a .size) _ _ (c .before .before .be16-at .ensures) refl (c .before .before .before .before .if1 .left)
+    misshaped (a .body .now) (a .at) (a .size) _ _ (c .before .before .be16-at .ensures) refl
+    (c .before .before .before .before .if1 .left)
     (sym (c .before .spi-fits .ensures) ∙ c .if2 .left)))

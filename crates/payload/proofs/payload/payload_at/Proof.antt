@@ -1,5 +1,5 @@
--- `payload::payload::payload_at` meets its contract: at each return the tests on the way say which case of `payloadAt` holds.
--- Assumes nothing.
+-- `payload::payload::payload_at` meets its contract: at each return the tests on the way say which case of
+-- `payloadAt` holds. Assumes nothing.
 use borrow.Author.Needs.{needs}
 use borrow.Author.Tests.{lt-ltb, le-ltb, le-leb, lt-leb, eq-eqb, ne-eqb}
 use Prim.Native.Nat.{ℕ, _+_, _-_, _≤_}
@@ -10,19 +10,26 @@ use mathlib.Core.Bool.{false, _&&_}
 use lib.Dec.{leb}
 use lib.ListN.{length}
 use Rattle.octets.specs.Octets.{be16}
-use Rattle.payload.specs.Payload.{payloadAt, sized}
+use Rattle.octets.specs.Limits.{payloadHeader}
+use Rattle.octets.specs.Wire.{firstKnownPayload, lastKnownPayload}
+use Rattle.payload.specs.Payload.{lengthAt, payloadAt, sized}
 use Rattle.payload.proofs.payload.payload_at.Statement.{statement}
 use Rattle.payload.proofs.payload.payload_at.Tie as tie
 
 -- a payload whose length holds is read by its type
-whole : (first : ℕ) (body : List ℕ) (at size : ℕ) → size ≡ be16 body (at + 2) → 4 ≤ length body - at → 4 ≤ size → size ≤ length body - at
-    → payloadAt first body at ≡ sized first body at size
+whole : (payloadType : ℕ) (body : List ℕ) (at size : ℕ) → size ≡ be16 body (at + lengthAt)
+    → payloadHeader ≤ length body - at → payloadHeader ≤ size → size ≤ length body - at
+    → payloadAt payloadType body at ≡ sized payloadType body at size
 unfolding payloadAt
-whole first body at size e h i j = rw (← e, le-ltb _ _ h, le-ltb _ _ i, le-ltb _ _ j)
+whole payloadType body at size e h i j = rw (← e, le-ltb _ _ h, le-ltb _ _ i, le-ltb _ _ j)
 
-read-whole : (c : tie.Else3) → let a = c .before .before .before .before .before .args in
-    payloadAt (a .first) (a .body .now) (a .at) ≡ sized (a .first) (a .body .now) (a .at) (c .before .before .be16-at .result)
-read-whole c = whole _ _ _ _ (c .before .before .be16-at .ensures) (c .before .before .before .if1 .left) (c .before .if2 .left) (c .if3 .left)
+read-whole : (c : tie.Else3)
+    → let a = c .before .before .before .before .before .args in
+    payloadAt (a .payload-type) (a .body .now) (a .at)
+    ≡ sized (a .payload-type) (a .body .now) (a .at) (c .before .before .be16-at .result)
+read-whole c =
+    let d = c .before .before in
+    whole _ _ _ _ (d .be16-at .ensures) (d .before .if1 .left) (c .before .if2 .left) (c .if3 .left)
 
 returns : tie.Need-returns
 unfolding payloadAt
@@ -35,7 +42,9 @@ returns-2 c = rw (← c .before .be16-at .ensures, le-ltb _ _ (c .before .before
 returns-3 : tie.Need-returns-3
 unfolding payloadAt
 returns-3 c =
-    rw (← c .before .before .be16-at .ensures, le-ltb _ _ (c .before .before .before .if1 .left), le-ltb _ _ (c .before .if2 .left), lt-ltb _ _ (c .if3 .taken))
+    let d = c .before .before in
+    let read = le-ltb _ _ (c .before .if2 .left) in
+    rw (← d .be16-at .ensures, le-ltb _ _ (d .before .if1 .left), read, lt-ltb _ _ (c .if3 .taken))
 
 returns-4 : tie.Need-returns-4
 unfolding sized
@@ -43,10 +52,15 @@ returns-4 c = c .notify-at .ensures ∙ sym (read-whole (c .before .before) ∙ 
 
 returns-5 : tie.Need-returns-5
 unfolding sized
-returns-5 c = sym (read-whole (c .before .before .before) ∙ rw (ne-eqb _ _ (c .before .before .if4 .left), le-leb _ _ (c .before .if5 .taken), le-leb _ _ (c .if6 .taken)))
+returns-5 c =
+    let d = c .before .before in
+    sym (read-whole (d .before)
+    ∙ rw (ne-eqb _ _ (d .if4 .left), le-leb _ _ (c .before .if5 .taken), le-leb _ _ (c .if6 .taken)))
 
--- where the tests on 33 and 48 do not both hold
-outside : (c : tie.Joined5) → let f = c .before .before .before .before .before .before .before .args .first in leb 33 f && leb f 48 ≡ false
+-- where the tests for a known type do not both hold
+outside : (c : tie.Joined5)
+    → let payloadType = c .before .before .before .before .before .before .before .args .payload-type in
+    leb firstKnownPayload payloadType && leb payloadType lastKnownPayload ≡ false
 outside c =
     ⊎-elim
     (λ w. rw (le-leb _ _ (w .0 .taken), lt-leb _ _ (w .1 .left)))
@@ -55,11 +69,17 @@ outside c =
 
 returns-6 : tie.Need-returns-6
 unfolding sized
-returns-6 c = sym (read-whole (c .before .before .before .before) ∙ rw (ne-eqb _ _ (c .before .before .before .if4 .left), outside (c .before .before), le-leb _ _ (c .if7 .taken)))
+returns-6 c =
+    let d = c .before .before in
+    sym (read-whole (d .before .before)
+    ∙ rw (ne-eqb _ _ (d .before .if4 .left), outside d, le-leb _ _ (c .if7 .taken)))
 
 returns-7 : tie.Need-returns-7
 unfolding sized
-returns-7 c = sym (read-whole (c .before .before .before .before) ∙ rw (ne-eqb _ _ (c .before .before .before .if4 .left), outside (c .before .before), lt-leb _ _ (c .if7 .left)))
+returns-7 c =
+    let d = c .before .before in
+    sym (read-whole (d .before .before)
+    ∙ rw (ne-eqb _ _ (d .before .if4 .left), outside d, lt-leb _ _ (c .if7 .left)))
 
 pub payload-at-spec : {M : Type 1} → statement M
 payload-at-spec =

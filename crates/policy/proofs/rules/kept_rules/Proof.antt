@@ -5,6 +5,7 @@ use mathlib.Core.Path.{_≡_, refl}
 use borrow.Author.Needs.{needs}
 use native.Mathlib.Omega.{arith}
 use lib.ListN.{length}
+use Rattle.octets.specs.Limits.{rulesMost}
 use Rattle.octets.proofs.Pad.{copied, stored}
 use Rattle.octets.proofs.Mapped.{unmapped}
 use Rattle.policy.specs.Policy.{noRule}
@@ -12,7 +13,7 @@ use Rattle.policy.proofs.rules.kept_rules.Statement.{statement}
 use Rattle.policy.proofs.rules.kept_rules.Tie as tie
 
 abbrev Inv-loop : tie.InvT-loop
-Inv-loop n rules out₀ i₀ out i = (i ≤ n) × (out ≡ copied noRule rules 16 i)
+Inv-loop n rules out₀ i₀ out i = (i ≤ n) × (out ≡ copied noRule rules rulesMost i)
 
 abbrev μ-loop : tie.MeasureT-loop
 μ-loop n rules out₀ i₀ out i = n - i
@@ -33,8 +34,8 @@ kept-rules-spec =
     (λ c.
     let a = c .before .before .before .args in
     let l = c .before .before .loop in
-    let long : length (a .t1) ≡ 16 = search (needs, unmapped) in
-    (omega arith, rw (l .inv .1) (stored noRule (a .t1) 16 (l .i) (omega arith) (omega arith) _)))
+    let long : length (a .t1) ≡ rulesMost = search (needs, unmapped) in
+    (omega arith, rw (l .inv .1) (stored noRule (a .t1) rulesMost (l .i) (omega arith) (omega arith) _)))
     (λ c.
     let same : c .before .loop .i ≡ c .before .before .args .n = omega arith in
     rw (← same) (c .before .loop .inv .1)))

@@ -17,8 +17,38 @@ rule-matches-spec =
     (λ c κs. search needs)
     (λ c. rw (eq-eqb _ _ (c .before .before .if1 .left), ← c .before .width-of .ensures, eq-eqb _ _ (c .if2 .taken)))
     (λ c κs. search needs)
-    (λ c κs. lengths-small (c .before .before .before .before .before .before .before .before .before .before .before .args .rule) (sym (c .before .before .before .before .before .lengths-fit .ensures) ∙ c .before .before .before .before .if3 .taken) .0)
-    (λ c κs. lengths-small (c .before .before .before .before .before .before .before .before .before .before .before .before .before .args .rule) (sym (c .before .before .before .before .before .before .before .lengths-fit .ensures) ∙ c .before .before .before .before .before .before .if3 .taken) .1)
-    (λ c. rw (eq-eqb _ _ (c .before .before .before .before .before .before .before .before .before .before .before .if1 .left), (sym (c .before .before .before .before .before .before .before .before .lengths-fit .ensures) ∙ c .before .before .before .before .before .before .before .if3 .taken), ← c .before .before .before .before .before .before .before .before .before .before .width-of .ensures, ne-eqb _ _ (c .before .before .before .before .before .before .before .before .before .if2 .left), sym (c .before .before .prefix-matches .ensures) ∙ c .before .if4 .taken) (c .prefix-matches2 .ensures))
-    (λ c. rw (eq-eqb _ _ (c .before .before .before .before .before .before .before .before .before .before .if1 .left), (sym (c .before .before .before .before .before .before .before .lengths-fit .ensures) ∙ c .before .before .before .before .before .before .if3 .taken), ← c .before .before .before .before .before .before .before .before .before .width-of .ensures, ne-eqb _ _ (c .before .before .before .before .before .before .before .before .if2 .left), sym (c .before .prefix-matches .ensures) ∙ c .if4 .left))
-    (λ c. rw (eq-eqb _ _ (c .before .before .before .before .if1 .left), sym (c .before .lengths-fit .ensures) ∙ c .if3 .left, ← c .before .before .before .width-of .ensures, ne-eqb _ _ (c .before .before .if2 .left))))
+    (λ c κs.
+    let fit = c .before .before .before .before .before in
+    lengths-small
+    (c .before .before .before .before .before .before .before .before .before .before .before .args .rule)
+    (sym (fit .lengths-fit .ensures) ∙ c .before .before .before .before .if3 .taken) .0)
+    (λ c κs.
+    let fit = c .before .before .before .before .before .before .before in
+    lengths-small (fit .before .before .before .before .before .before .args .rule)
+    (sym (fit .lengths-fit .ensures) ∙ c .before .before .before .before .before .before .if3 .taken) .1)
+    (λ c.
+    let fit = c .before .before .before .before .before .before .before .before in
+    rw (
+      eq-eqb _ _ (fit .before .before .before .if1 .left),
+      sym (fit .lengths-fit .ensures) ∙ c .before .before .before .before .before .before .before .if3 .taken,
+      ← fit .before .before .width-of .ensures,
+      ne-eqb _ _ (fit .before .if2 .left),
+      sym (c .before .before .prefix-matches .ensures) ∙ c .before .if4 .taken,
+    )
+    (c .prefix-matches2 .ensures))
+    (λ c.
+    let fit = c .before .before .before .before .before .before .before in
+    rw (
+      eq-eqb _ _ (fit .before .before .before .if1 .left),
+      sym (fit .lengths-fit .ensures) ∙ c .before .before .before .before .before .before .if3 .taken,
+      ← fit .before .before .width-of .ensures,
+      ne-eqb _ _ (fit .before .if2 .left),
+      sym (c .before .prefix-matches .ensures) ∙ c .if4 .left,
+    ))
+    (λ c.
+    rw (
+      eq-eqb _ _ (c .before .before .before .before .if1 .left),
+      sym (c .before .lengths-fit .ensures) ∙ c .if3 .left,
+      ← c .before .before .before .width-of .ensures,
+      ne-eqb _ _ (c .before .before .if2 .left),
+    )))

@@ -1,9 +1,10 @@
 -- `policy::rules::set_policy` meets its contract.
 -- Assumes nothing.
+use mathlib.Core.Path.{refl, sym, _∙_}
 use borrow.Author.Needs.{needs}
-use borrow.Author.Tests.{lt-ltb, le-ltb}
-use mathlib.Core.Path.{sym, _∙_}
-use Rattle.policy.specs.Policy.{setPolicy}
+use borrow.Author.Tests.{ltb-false, eq-eqb, ne-eqb}
+use Rattle.octets.proofs.Checks.{all-passed}
+use Rattle.policy.specs.Policy.{policyChecks, setPolicy}
 use Rattle.policy.proofs.rules.set_policy.Statement.{statement}
 use Rattle.policy.proofs.rules.set_policy.Tie as tie
 
@@ -12,25 +13,23 @@ unfolding setPolicy
 set-policy-spec =
     tie.close
     (tie.spec
-    (λ c. rw (lt-ltb _ _ (c .if1 .taken)))
     (λ c κs. search needs)
     (λ c κs. search needs)
-    (λ c κs. search needs)
+    (λ c κs.
+    let e = sym (c .before .before .policy-number .ensures) ∙ sym (c .before .number-of .ensures) ∙ c .if1 .taken in
+    let a = c .before .before .before .args in
+    ltb-false _ _ (all-passed (policyChecks (a .count) (a .rules)) refl e .0))
     (λ c.
     rw (
-      le-ltb _ _ (c .before .before .before .before .before .if1 .left),
-      sym (c .before .before .before .before .all-pass .ensures) ∙ c .before .before .before .if2 .taken,
-      sym (c .before .before .all-pass2 .ensures) ∙ c .before .if3 .taken,
+      ← c .before .before .before .policy-number .ensures,
+      ← c .before .before .number-of .ensures,
+      eq-eqb _ _ (c .before .if1 .taken),
+      c .before .if1 .taken,
       c .kept-rules .ensures,
     ))
     (λ c.
     rw (
-      le-ltb _ _ (c .before .before .before .before .if1 .left),
-      sym (c .before .before .before .all-pass .ensures) ∙ c .before .before .if2 .taken,
-      sym (c .before .all-pass2 .ensures) ∙ c .if3 .left,
-    ))
-    (λ c.
-    rw (
-      le-ltb _ _ (c .before .before .if1 .left),
-      sym (c .before .all-pass .ensures) ∙ c .if2 .left,
+      ← c .before .before .policy-number .ensures,
+      ← c .before .number-of .ensures,
+      ne-eqb _ _ (c .if1 .left),
     )))

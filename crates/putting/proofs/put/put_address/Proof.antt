@@ -2,14 +2,13 @@
 -- Assumes nothing.
 use borrow.Author.Needs.{needs}
 use Prim.Native.Nat.{_≤_}
-use mathlib.Core.Path.{_≡_, sym, _∙_}
+use mathlib.Core.Path.{_≡_, sym}
 use native.Mathlib.Omega.{arith}
 use lib.ListN.{length, take}
-use Rattle.address.specs.Address.{widthOf}
+use Rattle.octets.specs.Limits.{addressOctets}
 use Rattle.address.proofs.Width.{width-small}
-use Rattle.writing.proofs.Placed.{length-notify}
-use Rattle.writing.proofs.Chained.{chained-one}
-use Rattle.asking.specs.Request.{addressNotify, addressNumber}
+use Rattle.writing.proofs.Chained.{wrote-one}
+use Rattle.asking.specs.Draft.{addressNotify}
 use Rattle.asking.proofs.NoNats.{taken}
 use Rattle.putting.proofs.put.put_address.Statement.{statement}
 use Rattle.putting.proofs.put.put_address.Tie as tie
@@ -19,10 +18,10 @@ module _ (c : tie.After-width-of) where
   abbrev start : tie.Start
   start = c .before .before .before
 
-  small : c .width-of .result ≤ 16
+  small : c .width-of .result ≤ addressOctets
   small = omega (arith, width-small (start .args .family), c .width-of .ensures)
 
-  long : length (start .args .t5) ≡ 16
+  long : length (start .args .t5) ≡ addressOctets
   long = omega (arith, start .good .1 .1 .1 .1)
 
   sized : length (take (c .width-of .result) (start .args .t5)) ≡ c .width-of .result
@@ -44,7 +43,7 @@ put-address-spec =
     (λ c.
     let a = c .before .before .before .before .before .before .before .before .args in
     let n = c .before .before .put-notify .ensures in
-    let k = c .before .before .before .before .before .before .address-number .ensures in
+    let k = c .before .before .before .before .before .before .address-notify-type .ensures in
     let w = c .before .before .before .before .before .width-of .ensures in
-    let l = length-notify (a .next) (addressNumber (a .family)) (take (widthOf (a .family)) (a .t5)) in
-    rw (chained-one (addressNotify (a .family) (a .t5)) (a .next)) (n .0 ∙ rw w (omega (arith, l)), rw (← k, ← w) (n .1))))
+    wrote-one (a .out .now) (a .at) (addressNotify (a .family) (a .t5)) (a .next) _ _ (rw (← w) (n .0))
+    (rw (← k, ← w) (n .1))))

@@ -19,8 +19,9 @@ put-if-spec =
     (λ c.
     let a = c .before .before .before .before .before .before .before .args in
     let n = c .before .before .put-notify in
-    let one = wrote-one (a .out .now) (a .at) (notification (a .number) (a .octets .now)) (a .next) (n .last .0) (n .result) (n .ensures .0) (n .ensures .1) in
-    rw (c .before .before .before .before .if1 .taken) (one .place, one .octets))
+    let one = notification (a .notify-type) (a .octets .now) in
+    rw (c .before .before .before .before .if1 .taken)
+    (wrote-one (a .out .now) (a .at) one (a .next) (n .last .0) (n .result) (n .ensures .0) (n .ensures .1)))
     (λ c.
     let a = c .before .before .before .args in
-    rw (c .if1 .left) (omega arith, sym (placed-none (a .out .now) (a .at)))))
+    rw (c .if1 .left) (record { offset = omega arith; octets = sym (placed-none (a .out .now) (a .at)) })))

@@ -4,6 +4,7 @@ use borrow.Author.Needs.{needs}
 use mathlib.Core.Path.{refl, sym}
 use mathlib.Core.List.{[], _∷_}
 use native.Mathlib.Omega.{arith}
+use Rattle.octets.specs.Wire.{notifyPayload, natDetectionSourceIp, natDetectionDestinationIp}
 use Rattle.writing.specs.Notify.{notification, notifyOctets, chained}
 use Rattle.writing.proofs.Placed.{placed-none, length-placed, length-notify}
 use Rattle.writing.proofs.Chained.{length-one, wrote-one, wrote-both}
@@ -16,28 +17,34 @@ put-nats-spec =
     tie.close
     (tie.spec
     (λ c κs.
-    let n = c .before .before .before .before .before .pre .1 (c .before .if1 .taken) in
-    (omega (arith, c .before .before .before .before .before .pre .0, n .0, n .1), omega (arith, n .0, n .1)))
+    let s = c .before .before .before .before .before in
+    let n = s .pre .1 (c .before .if1 .taken) in
+    (omega (arith, s .pre .0, n .0, n .1), omega (arith, n .0, n .1)))
     (λ c κs.
-    let a = c .before .before .before .before .before .before .before .before .before .args in
-    let n = c .before .before .before .before .before .before .before .before .before .pre .1 (c .before .before .before .before .before .if1 .taken) in
+    let s = c .before .before .before .before .before .before .before .before .before in
+    let a = s .args in
+    let n = s .pre .1 (c .before .before .before .before .before .if1 .taken) in
     let k = c .before .before .before .put-notify .ensures in
-    let s = length-placed (a .out .now) (a .at) (notifyOctets 41 16388 (a .source .now)) (omega (arith, c .before .before .before .before .before .before .before .before .before .pre .0, n .0, length-notify 41 16388 (a .source .now))) in
-    (rw (k .1, s) (omega (arith, c .before .before .before .before .before .before .before .before .before .pre .0, n .0, n .1, k .0)), omega (arith, n .1)))
+    let size = length-notify notifyPayload natDetectionSourceIp (a .nat-source .now) in
+    let one = notifyOctets notifyPayload natDetectionSourceIp (a .nat-source .now) in
+    let same = length-placed (a .out .now) (a .at) one (omega (arith, s .pre .0, n .0, size)) in
+    (rw (k .1, same) (omega (arith, s .pre .0, n .0, n .1, k .0)), omega (arith, n .1)))
     (λ c. search needs)
     (λ c.
-    let a = c .before .before .before .before .before .before .before .before .before .before .before .before .args in
-    let n = c .before .before .before .before .before .before .before .before .before .before .before .before .pre .1 (c .before .before .before .before .before .before .before .before .if1 .taken) in
+    let s = c .before .before .before .before .before .before .before .before .before .before .before .before in
+    let a = s .args in
+    let asked = c .before .before .before .before .before .before .before .before .if1 .taken in
+    let n = s .pre .1 asked in
     let k = c .before .before .before .before .before .before .put-notify in
     let r = c .before .before .put-notify2 in
-    let x = notification 16388 (a .source .now) in
-    let y = notification 16389 (a .destination .now) in
-    let both =
-    wrote-both (a .out .now) (a .at) (x ∷ []) (y ∷ []) (a .next) 41 (k .last .0) (r .last .0) (k .result) (r .result) refl
-    (omega (arith, c .before .before .before .before .before .before .before .before .before .before .before .before .pre .0, n .0, n .1, length-one x 41, length-one y (a .next)))
-    (wrote-one (a .out .now) (a .at) x 41 (k .last .0) (k .result) (k .ensures .0) (k .ensures .1))
-    (wrote-one (k .last .0) (k .result) y (a .next) (r .last .0) (r .result) (r .ensures .0) (r .ensures .1)) in
-    rw (c .before .before .before .before .before .before .before .before .if1 .taken) (both .place, both .octets))
+    let x = notification natDetectionSourceIp (a .nat-source .now) in
+    let y = notification natDetectionDestinationIp (a .nat-destination .now) in
+    rw asked
+    (wrote-both (a .out .now) (a .at) (x ∷ []) (y ∷ []) (a .next) notifyPayload (k .last .0) (r .last .0) (k .result)
+    (r .result) refl
+    (omega (arith, s .pre .0, n .0, n .1, length-one x notifyPayload, length-one y (a .next)))
+    (wrote-one (a .out .now) (a .at) x notifyPayload (k .last .0) (k .result) (k .ensures .0) (k .ensures .1))
+    (wrote-one (k .last .0) (k .result) y (a .next) (r .last .0) (r .result) (r .ensures .0) (r .ensures .1))))
     (λ c.
     let a = c .before .before .before .before .args in
-    rw (c .if1 .left) (omega arith, sym (placed-none (a .out .now) (a .at)))))
+    rw (c .if1 .left) (record { offset = omega arith; octets = sym (placed-none (a .out .now) (a .at)) })))

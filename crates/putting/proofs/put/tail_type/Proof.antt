@@ -1,6 +1,7 @@
 -- `putting::put::tail_type` meets its contract.
 -- Assumes nothing.
 use borrow.Author.Needs.{needs}
+use Rattle.putting.proofs.Tail.{tail-typed}
 use Rattle.putting.proofs.put.tail_type.Statement.{statement}
 use Rattle.putting.proofs.put.tail_type.Tie as tie
 
@@ -11,4 +12,10 @@ tail-type-spec =
     (λ c κs. search needs)
     (λ c κs. search needs)
     (λ c κs. search needs)
-    (λ c. rw (c .type-if3 .ensures, c .before .type-if2 .ensures, c .before .before .type-if .ensures)))
+    (λ c.
+    let to-cookie = c .before .before .type-if in
+    let to-list = c .before .type-if2 in
+    let a = c .before .before .before .args in
+    tail-typed (a .no-additional) (a .count) (a .cookie-length) (to-cookie .result) (to-list .result)
+    (c .type-if3 .result)
+    (to-cookie .ensures) (to-list .ensures) (c .type-if3 .ensures)))

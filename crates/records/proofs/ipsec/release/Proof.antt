@@ -11,5 +11,6 @@ release-spec =
     (tie.spec
     (λ c. rw (eq-eqb _ _ (c .if1 .taken)))
     (λ c κs. search needs)
-    (λ c. rw (ne-eqb _ _ (c .before .before .before .if1 .left), eq-eqb _ _ (c .before .if2 .taken)) (c .no-ipsec .ensures))
+    (λ c. rw (ne-eqb _ _ (c .before .before .before .if1 .left), eq-eqb _ _ (c .before .if2 .taken))
+    (c .no-ipsec .ensures))
     (λ c. rw (ne-eqb _ _ (c .before .before .if1 .left), ne-eqb _ _ (c .if2 .left))))

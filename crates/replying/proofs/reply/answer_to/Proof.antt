@@ -9,6 +9,4 @@ answer-to-spec =
     tie.close
     (tie.spec
     (λ c κs. search needs)
-    (λ c κs. search needs)
-    (λ c κs. search needs)
-    (λ c. rw (c .before .before .reply-to .ensures, c .before .is-done .ensures, c .is-done2 .ensures)))
+    (λ c. rw (c .reply-to .ensures)))

@@ -12,4 +12,7 @@ reply-to-spec =
     (λ c κs. search needs)
     (λ c κs. search needs)
     (λ c κs. search needs)
-    (λ c. rw (c .before .before .before .verdict-number .ensures, c .before .before .effect-number .ensures, c .before .effect-number2 .ensures, c .first-of .ensures)))
+    (λ c.
+    let told = c .before .before in
+    let update = c .before .effect-number .ensures in
+    rw (told .number-of .ensures, told .before .verdict-told .ensures, update, c .effect-number2 .ensures)))

@@ -1,21 +1,18 @@
 -- `responding::respond::put_done` meets its contract: the two values, then the cookie behind them.
 -- Assumes nothing.
 use borrow.Author.Needs.{needs}
-use Prim.Native.Nat.{_+_}
-use mathlib.Core.Path.{_≡_, _∙_}
-use mathlib.Core.List.{_++_, append-assoc}
+use mathlib.Core.Path.{refl}
+use mathlib.Core.List.{[], _∷_}
 use native.Mathlib.Omega.{arith}
-use native.Mathlib.Nat.{zero-add}
-use lib.ListN.{length, length-append}
-use Rattle.writing.specs.Notify.{notifyOctets}
-use Rattle.writing.proofs.Placed.{placed-then, length-notify}
-use Rattle.responding.specs.Respond.{doneResponse, cookieNotify, nextFor}
-use Rattle.responding.proofs.Lengths.{cookie-length}
+use Rattle.octets.specs.Wire.{natDetectionDestinationIp, natDetectionSourceIp, notifyPayload}
+use Rattle.writing.specs.Notify.{notification}
+use Rattle.writing.specs.Parts.{cookieNotifies}
+use Rattle.writing.proofs.Chained.{length-one, wrote-one, wrote-both}
+use Rattle.responding.proofs.Lengths.{cookie-length, responds}
 use Rattle.responding.proofs.respond.put_done.Statement.{statement}
 use Rattle.responding.proofs.respond.put_done.Tie as tie
 
 pub put-done-spec : {M : Type 1} → statement M
-unfolding doneResponse
 put-done-spec =
     tie.close
     (tie.spec
@@ -23,30 +20,50 @@ put-done-spec =
     (λ c κs. search needs)
     (λ c κs. search needs)
     (λ c κs. search needs)
+    (λ c.
+    let k = c .before .before in
+    let n = k .before .before .before .before in
+    let m = n .before .before .before .before in
+    let z = m .before .before .before .before .before .before .before .before in
+    let tail = cookie-length (z .args .cookie .now) in
+    let first = m .put-notify .ensures .0 in
+    let second = n .put-notify2 .ensures .0 in
+    omega (arith, z .pre, first, second, k .put-cookie .ensures .offset, tail))
     (λ c. search needs)
     (λ c.
-    let a = c .before .before .before .before .before .before .before .before .before .before .before .before .before .before .before .before .before .before .args in
-    let p = c .before .before .before .before .before .before .before .before .before .before .before .before .before .before .before .before .before .before .pre in
-    let first = notifyOctets 41 16388 (a .source .now) in
-    let second = notifyOctets (nextFor (a .cookie .now)) 16389 (a .destination .now) in
-    let tail = cookieNotify (a .cookie .now) in
-    let m = c .before .before .before .before .before .before .before .before .before .before .put-notify .ensures in
-    let n = c .before .before .before .before .before .before .put-notify2 .ensures in
-    let k = c .before .before .put-cookie .ensures in
-    let size = length-notify 41 16388 (a .source .now) in
-    let size-2 = length-notify (nextFor (a .cookie .now)) 16389 (a .destination .now) in
-    let at : c .before .before .before .before .before .before .before .before .before .before .put-notify .result ≡ 0 + length first = omega (arith, m .0) in
-    let both = length-append first second in
-    let end : c .before .before .before .before .before .before .put-notify2 .result ≡ 0 + length (first ++ second) = omega (arith, n .0) in
-    let pair =
-    placed-then (a .out .now) (c .before .before .before .before .before .before .before .before .before .before .put-notify .last .0) (c .before .before .before .before .before .before .put-notify2 .last .0) 0 (c .before .before .before .before .before .before .before .before .before .before .put-notify .result) first second (omega (arith, p))
-    (m .1) at (rw (← c .before .before .before .before .before .before .before .before .before .before .before .before .next-for .ensures) (n .1)) in
-    rw (c .before .before .before .before .before .before .before .before .before .before .before .before .before .if1 .taken) (
-      k .0 ∙ (rw (length-append first (second ++ tail), length-append second tail) (omega arith)),
-      placed-then (a .out .now) (c .before .before .before .before .before .before .put-notify2 .last .0) _ 0 (c .before .before .before .before .before .before .put-notify2 .result) (first ++ second) tail
-          (omega (arith, p, cookie-length (a .cookie .now))) pair end (k .1)
-          ∙ (rw (append-assoc first second tail)),
-    ))
+    let k = c .before .before .put-cookie in
+    let c2 = c .before .before .before .before .before .before in
+    let n = c2 .put-notify2 in
+    let c1 = c2 .before .before .before .before in
+    let m = c1 .put-notify in
+    let t = c1 .before .before .before .cookie-type in
+    let z = c1 .before .before .before .before .before .before .before .before in
+    let a = z .args in
+    let p = z .pre in
+    let x = notification natDetectionSourceIp (a .nat-source .now) in
+    let y = notification natDetectionDestinationIp (a .nat-destination .now) in
+    let ys = cookieNotifies (a .cookie .now) in
+    let long = length-one x notifyPayload in
+    let long-2 = length-one y (t .result) in
+    let tail = cookie-length (a .cookie .now) in
+    let second =
+    wrote-both (m .last .0) (m .result) (y ∷ []) ys 0 (t .result) (n .last .0) (k .last .0) (n .result) (k .result)
+    (t .ensures) (omega (arith, p, long-2, tail))
+    (wrote-one (m .last .0) (m .result) y (t .result) (n .last .0) (n .result) (n .ensures .0) (n .ensures .1))
+    (k .ensures) in
+    let all =
+    wrote-both (a .out .now) 0 (x ∷ []) (y ∷ ys) 0 notifyPayload (m .last .0) (k .last .0) (m .result) (k .result) refl
+    (omega (arith, p, long, second .offset))
+    (wrote-one (a .out .now) 0 x notifyPayload (m .last .0) (m .result) (m .ensures .0) (m .ensures .1)) second in
+    rw (c1 .before .before .if1 .taken) (responds (x ∷ y ∷ ys) (a .out .now) (k .last .0) (k .result) all))
     (λ c κs. search needs)
+    (λ c.
+    let z = c .before .before .before .before .before .before .before .before .before .before in
+    omega (arith, z .pre, c .before .before .put-cookie2 .ensures .offset, cookie-length (z .args .cookie .now)))
     (λ c. search needs)
-    (λ c. rw (c .before .before .before .before .if1 .left) (c .before .before .put-cookie2 .ensures .0 ∙ zero-add _, c .before .before .put-cookie2 .ensures .1)))
+    (λ c.
+    let a = c .before .before .before .before .before .before .before .before .before .before .args in
+    let k = c .before .before .put-cookie2 in
+    rw (c .before .before .before .before .if1 .left, c .before .before .before .before .before .cookie-type .ensures)
+    (responds (cookieNotifies (a .cookie .now)) (a .out .now) (k .last .0) (k .result)
+    (k .ensures))))

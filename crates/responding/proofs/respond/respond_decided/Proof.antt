@@ -1,8 +1,6 @@
 -- `responding::respond::respond_decided` meets its contract.
 -- Assumes nothing.
 use borrow.Author.Needs.{needs}
-use borrow.Author.Tests.{eq-eqb, ne-eqb}
-use Rattle.responding.specs.Respond.{decidedOctets}
 use Rattle.responding.proofs.respond.respond_decided.Statement.{statement}
 use Rattle.responding.proofs.respond.respond_decided.Tie as tie
 
@@ -19,8 +17,14 @@ respond-decided-spec =
     (λ c. search needs)
     (λ c κs. search needs)
     (λ c. search needs)
-    (λ c. rw (c .before .before .before .before .enum-told .given .1) (c .before .before .put-done .ensures))
+    (λ c.
+    let which = c .before .before .before .before .enum-told .given .1 in
+    rw which (c .before .before .put-done .ensures))
     (λ c. search needs)
-    (λ c. rw (c .before .before .before .before .before .enum-told2 .given .1) (c .before .before .put-error .ensures))
+    (λ c.
+    let which = c .before .before .before .before .before .enum-told2 .given .1 in
+    rw which (c .before .before .put-error .ensures))
     (λ c. search needs)
-    (λ c. rw (c .before .before .before .before .before .enum-told3 .given .1) (c .before .before .put-error2 .ensures)))
+    (λ c.
+    let which = c .before .before .before .before .before .enum-told3 .given .1 in
+    rw which (c .before .before .put-error2 .ensures)))

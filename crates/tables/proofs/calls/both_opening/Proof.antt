@@ -16,12 +16,14 @@ both-opening-spec =
     (λ c κs. search needs)
     (λ c κs. search needs)
     (λ c κs. search needs)
+    (λ c κs. search needs)
     (λ c.
     rw (
       c .child-of .ensures,
       c .before .place-if2 .ensures,
       c .before .before .ike-of .ensures,
       c .before .before .before .place-if .ensures,
-      c .before .before .before .before .both-number .ensures,
-      c .before .before .before .before .before .opening-fits .ensures,
+      c .before .before .before .before .number-of .ensures,
+      c .before .before .before .before .before .both-number .ensures,
+      c .before .before .before .before .before .before .opening-fits .ensures,
     )))

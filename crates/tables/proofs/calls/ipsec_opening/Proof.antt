@@ -13,4 +13,11 @@ ipsec-opening-spec =
     (λ c κs. search needs)
     (λ c κs. search needs)
     (λ c κs. search needs)
-    (λ c. rw (c .place-if .ensures, c .before .before .opening-number .ensures, c .before .before .before .is-bad-opening .ensures)))
+    (λ c κs. search needs)
+    (λ c.
+    rw (
+      c .place-if .ensures,
+      c .before .before .number-of .ensures,
+      c .before .before .before .adding-number .ensures,
+      c .before .before .before .before .is-bad-adding .ensures,
+    )))

@@ -11,7 +11,11 @@ opening-fits-spec =
     (tie.spec
     (λ c. rw (ne-eqb _ _ (c .if1 .taken)))
     (λ c. rw (eq-eqb _ _ (c .before .before .if1 .left), eq-eqb _ _ (c .if2 .taken)))
-    (λ c. rw (eq-eqb _ _ (c .before .before .before .before .if1 .left), ne-eqb _ _ (c .before .before .if2 .left), eq-eqb _ _ (c .if3 .taken)))
+    (λ c. rw (
+      eq-eqb _ _ (c .before .before .before .before .if1 .left),
+      ne-eqb _ _ (c .before .before .if2 .left),
+      eq-eqb _ _ (c .if3 .taken),
+    ))
     (λ c κs. search needs)
     (λ c.
     rw (

@@ -1,0 +1,2 @@
+// Notify types: the numbers that are known, what each means to this gateway, and the data that each may carry.
+pub mod notify;

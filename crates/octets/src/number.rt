@@ -1,0 +1,41 @@
+// The number that a call gives, by name.
+ghost use mathlib.Core.Path.{_≡_};
+ghost use Rattle.octets.specs.Numbers.{numberOf};
+
+// In the order of 01's table.
+pub enum Number {
+    Done,
+    BadArgument,
+    OutputTooShort,
+    BodyTooLong,
+    NoSuchRecord,
+    MobikeNotAgreed,
+    Malformed,
+    UnknownCritical,
+    AddressesAltered,
+    NotAcceptable,
+    Full,
+    SpiInUse,
+    BadPolicy,
+}
+
+// As it is told.
+pub fn number_of(n: Number) -> u8
+    ensures { λ r. ⌜ r ≡ numberOf n ⌝ }
+{
+    match n {
+        Number::Done => 0,
+        Number::BadArgument => 1,
+        Number::OutputTooShort => 2,
+        Number::BodyTooLong => 3,
+        Number::NoSuchRecord => 4,
+        Number::MobikeNotAgreed => 5,
+        Number::Malformed => 6,
+        Number::UnknownCritical => 7,
+        Number::AddressesAltered => 8,
+        Number::NotAcceptable => 9,
+        Number::Full => 10,
+        Number::SpiInUse => 11,
+        Number::BadPolicy => 12,
+    }
+}

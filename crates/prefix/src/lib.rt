@@ -1,0 +1,2 @@
+// Prefixes of addresses, compared by octets and by the bits of the last one.
+pub mod prefix;

@@ -1,0 +1,2 @@
+// The verdict on an update that is not stale.
+pub mod update;

@@ -1,0 +1,47 @@
+//! The limits, under the names that the definitions and the C header have.
+
+/// The longest body that is read.
+pub const BODY_MOST: usize = 4096;
+/// The places of the table of IKE records.
+pub const IKE_PLACES: usize = 32;
+/// The places of the list of IPsec records; a list of any other length is a bad argument.
+pub const IPSEC_PLACES: usize = 128;
+/// The additional addresses that are kept, or written.
+pub const ADDRESSES_MOST: usize = 16;
+/// The rules of the policy.
+pub const RULES_MOST: usize = 16;
+/// An address as it travels, of either family.
+pub const ADDRESS_OCTETS: usize = 16;
+/// An IPv4 address in a payload.
+pub const IP4_OCTETS: usize = 4;
+/// An IPv6 address in a payload.
+pub const IP6_OCTETS: usize = 16;
+/// A port in a payload.
+pub const PORT_SIZE: usize = 2;
+/// What stands before a payload's content.
+pub const PAYLOAD_HEADER: usize = 4;
+/// What stands before a Notify's data, with no SPI.
+pub const NOTIFY_HEADER: usize = PAYLOAD_HEADER + 4;
+/// A NAT detection value.
+pub const NAT_OCTETS: usize = 20;
+/// The shortest COOKIE2.
+pub const COOKIE_LEAST: usize = 8;
+/// The longest COOKIE2.
+pub const COOKIE_MOST: usize = 64;
+/// A NO_NATS_ALLOWED of IPv4: two addresses and two ports.
+pub const NO_NATS_LEAST: usize = 2 * IP4_OCTETS + 2 * PORT_SIZE;
+/// A NO_NATS_ALLOWED of IPv6.
+pub const NO_NATS_MOST: usize = 2 * IP6_OCTETS + 2 * PORT_SIZE;
+/// The least output for a response, 128 octets: both NAT detections and a COOKIE2.
+pub const RESPONSE_ROOM: usize = 2 * (NOTIFY_HEADER + NAT_OCTETS) + (NOTIFY_HEADER + COOKIE_MOST);
+/// The least output for a request, 564 octets: all that can be asked for.
+pub const REQUEST_ROOM: usize = NOTIFY_HEADER
+    + (NOTIFY_HEADER + NO_NATS_MOST)
+    + 2 * (NOTIFY_HEADER + NAT_OCTETS)
+    + ADDRESSES_MOST * (NOTIFY_HEADER + IP6_OCTETS)
+    + (NOTIFY_HEADER + COOKIE_MOST);
+/// Where a record's tally of what is unknown stays.
+pub const TALLY_MOST: u32 = u32::MAX;
+
+const _: () = assert!(RESPONSE_ROOM == 128);
+const _: () = assert!(REQUEST_ROOM == 564);

@@ -1,0 +1,69 @@
+//! Limits and numbers have the same names and values here, in the C header and in the library's own code.
+use unmavreth::limits::*;
+use unmavreth::Number;
+
+const HEADER: &str = include_str!("../../include/unmavreth.h");
+const LIMITS: &str = include_str!("../../../crates/octets/src/limits.rt");
+const NUMBERS: &str = include_str!("../../../crates/octets/src/number.rt");
+
+/// Whether the text has these words, and neither digits nor letters behind them.
+fn says(text: &str, words: &str) -> bool {
+    text.match_indices(words).any(|(at, _)| {
+        !text[at + words.len()..].starts_with(|c: char| c.is_ascii_alphanumeric() || c == '_')
+    })
+}
+
+#[test]
+fn limits() {
+    for (name, value) in [
+        ("BODY_MOST", BODY_MOST),
+        ("IKE_PLACES", IKE_PLACES),
+        ("IPSEC_PLACES", IPSEC_PLACES),
+        ("ADDRESSES_MOST", ADDRESSES_MOST),
+        ("RULES_MOST", RULES_MOST),
+        ("ADDRESS_OCTETS", ADDRESS_OCTETS),
+        ("IP4_OCTETS", IP4_OCTETS),
+        ("IP6_OCTETS", IP6_OCTETS),
+        ("PORT_SIZE", PORT_SIZE),
+        ("PAYLOAD_HEADER", PAYLOAD_HEADER),
+        ("NOTIFY_HEADER", NOTIFY_HEADER),
+        ("NAT_OCTETS", NAT_OCTETS),
+        ("COOKIE_LEAST", COOKIE_LEAST),
+        ("COOKIE_MOST", COOKIE_MOST),
+        ("NO_NATS_LEAST", NO_NATS_LEAST),
+        ("NO_NATS_MOST", NO_NATS_MOST),
+        ("RESPONSE_ROOM", RESPONSE_ROOM),
+        ("REQUEST_ROOM", REQUEST_ROOM),
+    ] {
+        assert!(says(HEADER, &format!("UNMAVRETH_{name} = {value}")), "{name} in the header");
+        assert!(says(LIMITS, &format!("pub const {name}: usize")), "{name} in the library");
+        // A limit that is a sum there is a sum here as well, of the same limits.
+        let plain = says(LIMITS, &format!("pub const {name}: usize = {value}"));
+        assert!(plain || LIMITS.contains(&sum_of(name)), "the value of {name} in the library");
+    }
+    assert!(says(HEADER, "UNMAVRETH_TALLY_MOST UINT32_MAX"));
+    assert!(says(LIMITS, &format!("pub const TALLY_MOST: u32 = {TALLY_MOST}")));
+}
+
+/// How this crate writes a limit that is a sum.
+fn sum_of(name: &str) -> String {
+    let here = include_str!("../src/limits.rs");
+    let from = here.find(&format!("pub const {name}:")).expect("a limit");
+    here[from..].split_inclusive(';').next().unwrap_or_default().to_owned()
+}
+
+#[test]
+fn numbers() {
+    for octet in 0..=12 {
+        let name = format!("{:?}", Number::from(octet));
+        assert!(says(NUMBERS, &format!("Number::{name} => {octet}")), "{name} in the library");
+        let mut word = String::new();
+        for letter in name.chars() {
+            if letter.is_ascii_uppercase() {
+                word.push('_');
+            }
+            word.push(letter.to_ascii_uppercase());
+        }
+        assert!(says(HEADER, &format!("UNMAVRETH{word} = {octet}")), "{name} in the header");
+    }
+}
