@@ -14,14 +14,14 @@ use mathlib.Core.List.{List, []}
 use mathlib.Core.Bool.{true, cond, not}
 use lib.Dec.{eqb}
 use lib.ListN.{length, getD, replicate}
-use Rattle.octets.specs.Limits.{addressesMost, addressOctets, requestRoom}
+use Rattle.octets.specs.Limits.{addressesMost, addressOctets, natOctets, requestRoom}
 use Rattle.octets.specs.Lists.{firstOnly}
 use Rattle.address.specs.Address.{noAddress, noPair, familiesOf, octetsOf}
 use Rattle.address.specs.declared.address.Address.{Address}
 use Rattle.address.specs.declared.pair.Pair.{Pair}
 use Rattle.findings.specs.declared.seen.Seen.{Seen}
 use Rattle.findings.specs.declared.seen.Tally.{Tally}
-use Rattle.values.specs.Values.{partOf, natLength, noNatsAt, addressesIn}
+use Rattle.values.specs.Values.{partOf, noNatsAt, addressesIn}
 use Rattle.values.specs.declared.NoNats.{NoNats}
 use Rattle.reader.specs.Chain.{reading}
 use Rattle.asking.specs.Draft.{Draft, requested}
@@ -56,8 +56,8 @@ givenBy body s =
       pair = pairOf (noNatsAt body (s .«no_nats») (s .«no_nats_len»));
       families = familiesOf (addressesIn body (s .list));
       addresses = octetsOf (addressesIn body (s .list));
-      nat-source = partOf body (s .«nat_source») natLength;
-      nat-destination = partOf body (s .«nat_destination») natLength;
+      nat-source = partOf body (s .«nat_source») natOctets;
+      nat-destination = partOf body (s .«nat_destination») natOctets;
       cookie = partOf body (s .cookie) (s .«cookie_len»);
     }
 

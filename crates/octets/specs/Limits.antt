@@ -56,7 +56,7 @@ payloadHeader = 4
 abbrev pub notifyHeader : ℕ
 notifyHeader = payloadHeader + 4
 
--- "a lent NAT value not of 20 octets"
+-- "NAT_DETECTION_SOURCE_IP, _DESTINATION_IP: 20"; "a lent NAT value not of 20 octets"
 abbrev pub natOctets : ℕ
 natOctets = 20
 

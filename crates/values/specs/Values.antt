@@ -8,7 +8,6 @@
 --   addressAt      an additional address, padded to sixteen octets
 --   additionalOf   the additional addresses that are kept
 --   addressesIn    the same with their families
---   natLength      the octets of a NAT detection value
 --
 -- NO_NATS_ALLOWED, its addresses of 4 octets (12 in all) or of 16 (36 in all):
 --
@@ -26,7 +25,7 @@ use mathlib.Core.Bool.{Bool, cond, _&&_, not}
 use lib.Dec.{eqb, leb}
 use lib.ListN.{length, take, drop, replicate}
 use denote.Ref.{RefT, ptr, now}
-use Rattle.octets.specs.Limits.{addressesMost, addressOctets, natOctets}
+use Rattle.octets.specs.Limits.{addressesMost, addressOctets}
 use Rattle.octets.specs.Limits.{ip4Octets, ip6Octets, portSize, noNatsLeast, noNatsMost}
 use Rattle.octets.specs.Lists.{firstOnly}
 use Rattle.octets.specs.Octets.{be16, padded}
@@ -52,10 +51,6 @@ pub record PartOf (body : RefT (List ℕ)) (at size : ℕ) (part : RefT (List �
   pub octets : now part ≡ partOf (now body) at size
   pub allocation : ptr part .0 ≡ ptr body .0
   pub offset : ptr part .1 ≡ ptr body .1 + cond (stands (now body) at size) at 0
-
--- 01: "NAT_DETECTION_SOURCE_IP, _DESTINATION_IP: 20" octets.
-abbrev pub natLength : ℕ
-natLength = natOctets
 
 abbrev pub absent : NoNats
 absent =
