@@ -140,7 +140,7 @@ fn reading(body: &[u8], reading: &Reading) -> Told {
         ("cookie", seen.cookie.into()),
         ("addresses", seen.list.count.into()),
     ];
-    fields.extend(seen.list.places.map(|place| ("place", place.into())));
+    fields.extend(seen.list.offsets.map(|offset| ("offset", offset.into())));
     fields.extend(seen.list.families.map(|family| ("family", family.into())));
     Told { fields, octets: vec![reading.cookie(body).to_vec()], tables: None }
 }

@@ -135,7 +135,7 @@ fn reading(body: &[u8], reading: &Reading) -> Told {
         ("cookie", outcome.cookie.offset as u64),
         ("addresses", outcome.addresses as u64),
     ];
-    fields.extend(outcome.address_offsets.map(|place| ("place", place as u64)));
+    fields.extend(outcome.address_offsets.map(|offset| ("offset", offset as u64)));
     fields.extend(outcome.address_families.map(|family| ("family", family.into())));
     Told { fields, octets: vec![outcome.cookie.octets.to_vec()], tables: None }
 }

@@ -34,7 +34,7 @@ extern "C" {
 
 // The library was built for this layout: a compiler that lays a struct out otherwise is stopped here.
 #define UNMAVRETH_SIZE(type, octets) UNMAVRETH_ASSERT(sizeof(type) == (octets), "size of " #type)
-#define UNMAVRETH_AT(type, field, octet) UNMAVRETH_ASSERT(offsetof(type, field) == (octet), "place of " #field)
+#define UNMAVRETH_AT(type, field, octet) UNMAVRETH_ASSERT(offsetof(type, field) == (octet), "offset of " #field)
 
 // ---------------------------------------------------------------------------------------------------- numbers, sizes
 
@@ -335,29 +335,28 @@ UNMAVRETH_AT(unmavreth_tally, errors, 6);
 UNMAVRETH_AT(unmavreth_tally, first_error, 8);
 
 // The additional addresses: all are counted; of the first sixteen, where their octets stand, and their families.
-typedef struct unmavreth_places {
+typedef struct unmavreth_offsets {
     uint16_t count;
-    uint16_t places[UNMAVRETH_ADDRESSES_MOST];
+    uint16_t offsets[UNMAVRETH_ADDRESSES_MOST];
     uint8_t families[UNMAVRETH_ADDRESSES_MOST];
-} unmavreth_places;
-UNMAVRETH_SIZE(unmavreth_places, 50);
-UNMAVRETH_AT(unmavreth_places, count, 0);
-UNMAVRETH_AT(unmavreth_places, places, 2);
-UNMAVRETH_AT(unmavreth_places, families, 34);
+} unmavreth_offsets;
+UNMAVRETH_SIZE(unmavreth_offsets, 50);
+UNMAVRETH_AT(unmavreth_offsets, count, 0);
+UNMAVRETH_AT(unmavreth_offsets, offsets, 2);
+UNMAVRETH_AT(unmavreth_offsets, families, 34);
 
-// What a chain's payloads say. A place is the offset in the body at which the data begins; 0 means that there is
-// none.
+// What a chain's payloads say. Data is told by the offset in the body at which it begins; 0 means that there is none.
 typedef struct unmavreth_seen {
     unmavreth_tally tally;
     bool update;              // UPDATE_SA_ADDRESSES
     bool no_additional;       // NO_ADDITIONAL_ADDRESSES
-    uint16_t nat_source;      // place of the 20 octets of NAT_DETECTION_SOURCE_IP, of the first if there are several
-    uint16_t nat_destination; // place of the 20 octets of NAT_DETECTION_DESTINATION_IP
-    uint16_t no_nats;         // place of NO_NATS_ALLOWED
+    uint16_t nat_source;      // offset of the 20 octets of NAT_DETECTION_SOURCE_IP, of the first if there are several
+    uint16_t nat_destination; // offset of the 20 octets of NAT_DETECTION_DESTINATION_IP
+    uint16_t no_nats;         // offset of NO_NATS_ALLOWED
     uint16_t no_nats_len;     // 12 or 36
-    uint16_t cookie;          // place of COOKIE2
+    uint16_t cookie;          // offset of COOKIE2
     uint16_t cookie_len;      // 8 to 64
-    unmavreth_places list;
+    unmavreth_offsets list;
 } unmavreth_seen;
 UNMAVRETH_SIZE(unmavreth_seen, 74);
 UNMAVRETH_AT(unmavreth_seen, tally, 0);
@@ -403,29 +402,29 @@ UNMAVRETH_SIZE(unmavreth_part, 16);
 UNMAVRETH_AT(unmavreth_part, start, 0);
 UNMAVRETH_AT(unmavreth_part, octets, 8);
 
-// What was seen is handed out by the four calls below, from the body that was read and the places that its reading
-// tells. Any place and length may be given: at place 0, whatever the length, and where octets would run past the end,
-// there is nothing.
+// What was seen is handed out by the four calls below, from the body that was read and the offsets that its reading
+// tells. Any offset and length may be given: at offset 0, whatever the length, and where octets would run past the
+// end, there is nothing.
 
-// Hands out a cookie as a part of the body, by the place and the length that a reading or a reply of this body told:
+// Hands out a cookie as a part of the body, by the offset and the length that a reading or a reply of this body told:
 // *out becomes the `cookie_len` octets at body + cookie, in the body itself and not a copy, or an empty part that
 // begins where the body does. On entry *out must hold some valid part, such as { body, 0 }. The part is of use for as
 // long as the host leaves the body alone.
 void unmavreth_cookie(unmavreth_part *out, const uint8_t *body, size_t body_size, uint16_t cookie,
                       uint16_t cookie_len);
 
-// Hands out a NAT detection value in the same way, by the place that a reading told (`nat_source`, `nat_destination`):
-// its 20 octets, or an empty part.
-void unmavreth_nat_value(unmavreth_part *out, const uint8_t *body, size_t body_size, uint16_t place);
+// Hands out a NAT detection value in the same way, by the offset that a reading told (`nat_source`,
+// `nat_destination`): its 20 octets, or an empty part.
+void unmavreth_nat_value(unmavreth_part *out, const uint8_t *body, size_t body_size, uint16_t offset);
 
 // What NO_NATS_ALLOWED holds: the `no_nats_len` octets at `no_nats`. Family 0 and zeros if there is none, or if these
 // are not 12 or 36 octets within the body, which no reading tells.
 unmavreth_pair unmavreth_no_nats(const uint8_t *body, size_t body_size, uint16_t no_nats, uint16_t no_nats_len);
 
 // The first sixteen additional addresses. Places past the count are not looked at, and are given as zeros. An address
-// of another family than 4 and 6, at place 0, or that would run past the end of the body, is given as its family and
+// of another family than 4 and 6, at offset 0, or that would run past the end of the body, is given as its family and
 // zeros; no reading tells one.
-unmavreth_addresses_list unmavreth_addresses(const uint8_t *body, size_t body_size, unmavreth_places list);
+unmavreth_addresses_list unmavreth_addresses(const uint8_t *body, size_t body_size, unmavreth_offsets list);
 
 // ----------------------------------------------------------------------------------------------- answering a request
 
@@ -438,7 +437,7 @@ typedef struct unmavreth_reply {
     uint16_t left_off;   // how many addresses of a list that was kept were over sixteen
     uint16_t payloads;   // of the request; 0 with 1 to 7
     uint16_t offset;     // with 6 and 7, where the payload begins, else 0
-    uint16_t cookie;     // place of the request's COOKIE2; 0 if there is none, and with 1 to 7
+    uint16_t cookie;     // offset of the request's COOKIE2; 0 if there is none, and with 1 to 7
     uint16_t cookie_len; // its length, 0 likewise
     uint16_t length;     // octets of the response
 } unmavreth_reply;

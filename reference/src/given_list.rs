@@ -12,7 +12,7 @@ const MOST_OCTETS: usize = 16;
 #[derive(Debug, Clone, Copy, Default, PartialEq, Eq)]
 pub struct SeenList {
     pub count: u16,
-    pub places: [u16; MAX_KEPT],
+    pub offsets: [u16; MAX_KEPT],
     pub families: [u8; MAX_KEPT],
 }
 
@@ -41,7 +41,7 @@ pub fn give(body: &[u8], seen: SeenList, faults: Faults) -> [Address; MAX_KEPT] 
     };
     let mut list = [Address::ZERO; MAX_KEPT];
     for (place, address) in list[..given].iter_mut().enumerate() {
-        *address = address_at(body, seen.places[place], seen.families[place], faults);
+        *address = address_at(body, seen.offsets[place], seen.families[place], faults);
     }
     list
 }
@@ -67,9 +67,9 @@ fn address_at(body: &[u8], place: u16, family: u8, faults: Faults) -> Address {
 impl GivenList {
     /// What was said, and of the list the places that aren't all 0.
     pub fn field(&self) -> (String, String) {
-        let SeenList { count, places, families } = self.seen;
+        let SeenList { count, offsets, families } = self.seen;
         let said =
-            places.iter().zip(families).map(|(place, family)| format!("{family} at {place}"));
+            offsets.iter().zip(families).map(|(place, family)| format!("{family} at {place}"));
         let said: Vec<String> = said.collect();
         let given = self.list.iter().enumerate().filter(|(_, address)| **address != Address::ZERO);
         let given = given.map(|(place, address)| format!("{place}: {}", show::address(address)));
@@ -88,7 +88,7 @@ mod tests {
     fn given(count: u16, first: &[(u16, u8)]) -> [Address; MAX_KEPT] {
         let mut seen = SeenList { count, ..SeenList::default() };
         for (at, &(place, family)) in first.iter().enumerate() {
-            (seen.places[at], seen.families[at]) = (place, family);
+            (seen.offsets[at], seen.families[at]) = (place, family);
         }
         give(&BODY, seen, Faults::NONE)
     }

@@ -32,7 +32,7 @@ fn counts(told: u16) -> [u16; 7] {
 
 fn filled(mut seen: SeenList, size: u16, filling: Filling) -> SeenList {
     for at in usize::from(seen.count)..MAX_KEPT {
-        (seen.places[at], seen.families[at]) = filling(size, at as u16);
+        (seen.offsets[at], seen.families[at]) = filling(size, at as u16);
     }
     seen
 }
@@ -68,7 +68,7 @@ mod tests {
     fn told(count: u16) -> SeenList {
         let mut seen = SeenList { count, ..SeenList::default() };
         let kept = usize::from(count).min(MAX_KEPT);
-        seen.places[..kept].fill(8);
+        seen.offsets[..kept].fill(8);
         seen.families[..kept].fill(4);
         seen
     }
@@ -78,9 +78,9 @@ mod tests {
         for count in [0, 1, 15, 16, 17] {
             let kept = usize::from(count).min(MAX_KEPT);
             for seen in hostile(&[0; 100], told(count)) {
-                assert_eq!(seen.places[..kept], told(count).places[..kept]);
+                assert_eq!(seen.offsets[..kept], told(count).offsets[..kept]);
                 assert_eq!(seen.families[..kept], told(count).families[..kept]);
-                assert!(!seen.places[kept..].contains(&8));
+                assert!(!seen.offsets[kept..].contains(&8));
             }
         }
     }

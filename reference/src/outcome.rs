@@ -84,7 +84,7 @@ impl<'a> Outcome<'a> {
     fn told_list(&self) -> SeenList {
         SeenList {
             count: self.addresses as u16,
-            places: self.address_offsets.map(|offset| offset as u16),
+            offsets: self.address_offsets.map(|offset| offset as u16),
             families: self.address_families,
         }
     }

@@ -21,7 +21,7 @@ use Rattle.values.specs.declared.NoNats.{NoNats}
 use Rattle.asking.specs.Draft.{portOctets, noNatsOctets, pairOctets}
 use Rattle.asking.specs.Fits.{cookieFits}
 use Rattle.exchange.specs.RoundTrips.{Octets, pairOf}
-use Rattle.exchange.proofs.Places.{here, on, be16-on, high, low}
+use Rattle.exchange.proofs.Offsets.{here, on, be16-on, high, low}
 
 pub length-padded : (s : List ℕ) → length (padded s) ≡ addressOctets
 length-padded s = simp (length-take, length-append, length-replicate) (omega arith)

@@ -1,4 +1,4 @@
--- What notifications ask for, one after the other: the request that is gathered so far, with no places in it.
+-- What notifications ask for, one after the other: the request that is gathered so far, with no offsets in it.
 use Prim.Native.Nat.{ℕ, _+_}
 use mathlib.Core.Path.{_≡_, refl}
 use mathlib.Core.List.{List, [], _∷_, _++_}

@@ -7,7 +7,7 @@ pub mod Reading
 pub mod Pairs
 pub mod Staged
 pub mod FirstTrip
-pub mod Places
+pub mod Offsets
 pub mod Parsed
 pub mod Ranked
 pub mod Data

@@ -30,7 +30,7 @@ use Rattle.reader.proofs.Chain.{chain-step, takes}
 use Rattle.exchange.specs.Plain.{rank, mayFollow, zeroFields, inOrder}
 use Rattle.exchange.specs.RoundTrips.{Octets}
 use Rattle.exchange.proofs.Notifies.{AllFit, notifyChain}
-use Rattle.exchange.proofs.Places.{high, low, here, on, be16-on}
+use Rattle.exchange.proofs.Offsets.{high, low, here, on, be16-on}
 
 abbrev pub rankOf : Notification → ℕ
 rankOf x = rank (kindOf (x .notifyType))

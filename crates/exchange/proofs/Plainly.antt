@@ -31,9 +31,9 @@ use Rattle.exchange.proofs.Parsed.{rankOf, parsed}
 use Rattle.exchange.proofs.Ranked.{sorted, only, asked}
 use Rattle.exchange.proofs.Asked.{asked-for}
 
--- a place that was noted
+-- an offset that was noted
 abbrev there : ℕ → Bool
-there place = not (eqb place 0)
+there offset = not (eqb offset 0)
 
 -- NO_ADDITIONAL_ADDRESSES stands with no address
 abbrev Apart : Seen → Type 0
@@ -48,14 +48,14 @@ record More (s t : Seen) (n : ℕ) (a b c : Bool) : Type 0 where
   none : t .«no_additional» ≡ c || s .«no_additional»
   apart : Apart s → Apart t
 
-placed : (at : ℕ) → there (at + notifyHeader) ≡ true
-placed at = rw (ne-eqb (at + notifyHeader) 0 (omega arith))
+there-behind : (at : ℕ) → there (at + notifyHeader) ≡ true
+there-behind at = rw (ne-eqb (at + notifyHeader) 0 (omega arith))
 
-placed-once : (place at : ℕ) → there (cond (eqb place 0) (at + notifyHeader) place) ≡ true
-placed-once place at = go (eqb place 0) refl
+there-once : (offset at : ℕ) → there (cond (eqb offset 0) (at + notifyHeader) offset) ≡ true
+there-once offset at = go (eqb offset 0) refl
   where
-    go : (b : Bool) → eqb place 0 ≡ b → there (cond b (at + notifyHeader) place) ≡ true
-    go true e = placed at
+    go : (b : Bool) → eqb offset 0 ≡ b → there (cond b (at + notifyHeader) offset) ≡ true
+    go true e = there-behind at
     go false e = rw e
 
 not-both : (b : Bool) (n : ℕ) → b ≡ false → b ≡ true → n ≡ 0
@@ -69,8 +69,8 @@ one-more : (s : Seen) (k : NotifyKind) (number at len : ℕ) → repeats s k ≡
     → More s (noted (withTally s (counted (s .tally) 0)) k number (at + notifyHeader) len) (cond (eqb (rank k) 6) 1 0)
     (eqb (rank k) 3) (eqb (rank k) 4) (eqb (rank k) 5)
 unfolding noted
-one-more s NatDetectionSource number at len e = search (arith, placed-once)
-one-more s NatDetectionDestination number at len e = search (arith, placed)
+one-more s NatDetectionSource number at len e = search (arith, there-once)
+one-more s NatDetectionDestination number at len e = search (arith, there-behind)
 one-more s MobikeSupported number at len e = search arith
 one-more s AdditionalIp4 number at len e = search (arith, not-both)
 one-more s AdditionalIp6 number at len e = search (arith, not-both)

@@ -1,4 +1,4 @@
--- Scanning a chain of notifications gives what they ask for: what was seen, with the octets at its places, is the
+-- Scanning a chain of notifications gives what they ask for: what was seen, with the octets at its offsets, is the
 -- request gathered.
 use Prim.Native.Nat.{ℕ, zero, suc, _+_}
 use mathlib.Core.Path.{_≡_, refl, sym, ap, _∙_}
@@ -25,7 +25,7 @@ use Rattle.notify.specs.declared.notify.NotifyKind.the-variants.{UnexpectedNatD
 use Rattle.findings.specs.Seen.{is, listed, noted, contentNoted, repeats, counted, withTally}
 use Rattle.values.specs.Values.{partOf, addressAt, addressesIn}
 use Rattle.values.proofs.Stands.{part-there}
-use Rattle.findings.specs.declared.seen.Places.{Places}
+use Rattle.findings.specs.declared.seen.Offsets.{Offsets}
 use Rattle.findings.specs.declared.seen.Seen.{Seen}
 use Rattle.findings.specs.declared.seen.Tally.{Tally}
 use Rattle.writing.specs.Notify.{Notification, notifyOctets, firstType, chained}
@@ -58,49 +58,49 @@ zip-set f (a ∷ xs) [] (suc i) x y = refl
 zip-set f (a ∷ xs) (b ∷ ys) zero x y = refl
 zip-set f (a ∷ xs) (b ∷ ys) (suc i) x y = ap (λ l. f a b ∷ l) (zip-set f xs ys i x y)
 
-pub listed-sixteen : (l : Places) (family place : ℕ) → Sixteen l → Sixteen (listed l family place)
-listed-sixteen l family place h =
-    (length-set (l .places) (l .count) place ∙ h .0, length-set (l .families) (l .count) family ∙ h .1)
+pub listed-sixteen : (l : Offsets) (family offset : ℕ) → Sixteen l → Sixteen (listed l family offset)
+listed-sixteen l family offset h =
+    (length-set (l .offsets) (l .count) offset ∙ h .0, length-set (l .families) (l .count) family ∙ h .1)
 
-pub noted-sixteen : (s : Seen) (k : NotifyKind) (number place len : ℕ) → Sixteen (s .list)
-    → Sixteen (noted s k number place len .list)
+pub noted-sixteen : (s : Seen) (k : NotifyKind) (number offset len : ℕ) → Sixteen (s .list)
+    → Sixteen (noted s k number offset len .list)
 unfolding noted
-noted-sixteen s k number place len h =
-    chosen Sixteen (is k AdditionalIp4) (λ e. listed-sixteen (s .list) 4 place h)
-    (λ e. chosen Sixteen (is k AdditionalIp6) (λ e. listed-sixteen (s .list) 6 place h) (λ e. h))
+noted-sixteen s k number offset len h =
+    chosen Sixteen (is k AdditionalIp4) (λ e. listed-sixteen (s .list) 4 offset h)
+    (λ e. chosen Sixteen (is k AdditionalIp6) (λ e. listed-sixteen (s .list) 6 offset h) (λ e. h))
 
 -- where no cookie is handed out none was seen
 abbrev NoneSeen : List ℕ → Seen → Type 0
 NoneSeen body s = length (givenBy body s .cookie) ≡ 0 → s .cookie ≡ 0
 
--- A notification noted: its data stands at `place`, and what it asks for was not asked for before.
-module _ (body : List ℕ) (s : Seen) (t : Tally) (number place : ℕ) (octets : List ℕ) (later : place ≡ 0 → ⊥)
-    (there : partOf body place (length octets) ≡ octets) (cookies : NoneSeen body s) (sized : Sixteen (s .list)) where
-  part : (n : ℕ) → eqb (length octets) n ≡ true → partOf body place n ≡ octets
+-- A notification noted: its data stands at `offset`, and what it asks for was not asked for before.
+module _ (body : List ℕ) (s : Seen) (t : Tally) (number offset : ℕ) (octets : List ℕ) (later : offset ≡ 0 → ⊥)
+    (there : partOf body offset (length octets) ≡ octets) (cookies : NoneSeen body s) (sized : Sixteen (s .list)) where
+  part : (n : ℕ) → eqb (length octets) n ≡ true → partOf body offset n ≡ octets
   part n e = rw (eqb-true (length octets) n e) at there
 
   -- one address more, behind those counted so far, whatever stood there: its octets, and its family
   octets-more : (family : ℕ)
-      → octetsOf (addressesIn body (listed (s .list) family place))
-      ≡ set (octetsOf (addressesIn body (s .list))) (s .list .count) (addressAt body place family)
+      → octetsOf (addressesIn body (listed (s .list) family offset))
+      ≡ set (octetsOf (addressesIn body (s .list))) (s .list .count) (addressAt body offset family)
   octets-more family =
       let l = s .list in
       let at = addressAt body in
-      let long = length-zip at (l .places) (l .families) (sized .0 ∙ sym (sized .1)) ∙ sized .0 in
+      let long = length-zip at (l .offsets) (l .families) (sized .0 ∙ sym (sized .1)) ∙ sized .0 in
       rw (
-        octets-in body (listed l family place) (listed-sixteen l family place sized),
+        octets-in body (listed l family offset) (listed-sixteen l family offset sized),
         octets-in body l sized,
         zip-set at,
       )
-      (sym (put-last (replicate addressOctets 0) (zipWith at (l .places) (l .families)) addressesMost (l .count) long
-      (at place family)))
+      (sym (put-last (replicate addressOctets 0) (zipWith at (l .offsets) (l .families)) addressesMost (l .count) long
+      (at offset family)))
 
   families-more : (family : ℕ)
-      → familiesOf (addressesIn body (listed (s .list) family place))
+      → familiesOf (addressesIn body (listed (s .list) family offset))
       ≡ set (familiesOf (addressesIn body (s .list))) (s .list .count) family
   families-more family =
       let l = s .list in
-      rw (families-in body (listed l family place) (listed-sixteen l family place sized), families-in body l sized)
+      rw (families-in body (listed l family offset) (listed-sixteen l family offset sized), families-in body l sized)
       (sym (put-last 0 (l .families) addressesMost (l .count) (sized .1) family))
 
   abbrev Noted : NotifyKind → Seen → Type 0
@@ -109,11 +109,11 @@ module _ (body : List ℕ) (s : Seen) (t : Tally) (number place : ℕ) (octets :
       body next
 
   one-noted : (k : NotifyKind) → dataFits k (length octets) ≡ true → taken (givenBy body s) k ≡ false
-      → Noted k (noted (withTally s t) k number place (length octets))
+      → Noted k (noted (withTally s t) k number offset (length octets))
   unfolding noted
   one-noted NatDetectionSource f c =
-      (refl, refl, rw (not-false (eqb (s .«nat_source») 0) c, part natOctets f, ne-eqb place 0 later), cookies)
-  one-noted NatDetectionDestination f c = (c, refl, rw (part natOctets f, ne-eqb place 0 later), cookies)
+      (refl, refl, rw (not-false (eqb (s .«nat_source») 0) c, part natOctets f, ne-eqb offset 0 later), cookies)
+  one-noted NatDetectionDestination f c = (c, refl, rw (part natOctets f, ne-eqb offset 0 later), cookies)
   one-noted MobikeSupported f c = (refl, refl, refl, cookies)
   one-noted AdditionalIp4 f c = (c, refl, rw (octets-more 4, families-more 4, part ip4Octets f), cookies)
   one-noted AdditionalIp6 f c = (c, refl, rw (octets-more 6, families-more 6, part ip6Octets f), cookies)
@@ -125,7 +125,7 @@ module _ (body : List ℕ) (s : Seen) (t : Tally) (number place : ℕ) (octets :
     rw there,
     rw there λ e. absurd (omega (arith, leb-true cookieLeast (length octets) (both _ _ f .0))),
   )
-  one-noted NoNatsAllowed f c = (c, refl, rw (there, ne-eqb place 0 later), cookies)
+  one-noted NoNatsAllowed f c = (c, refl, rw (there, ne-eqb offset 0 later), cookies)
   one-noted UnacceptableAddresses f c = absurd (false≢true (sym c))
   one-noted UnexpectedNatDetected f c = absurd (false≢true (sym c))
   one-noted OtherError f c = absurd (false≢true (sym c))
@@ -149,14 +149,14 @@ module _ (body : List ℕ) where
       let first = notifyOctets (firstType xs 0) (x .notifyType) (x .octets) in
       let more : length front + (notifyHeader + length (x .octets)) ≡ length (front ++ first) =
       simp (length-append, length-notify) in
-      let place = length front + notifyHeader in
+      let offset = length front + notifyHeader in
       let k = kindOf (x .notifyType) in
-      let there : partOf body place (length (x .octets)) ≡ x .octets =
+      let there : partOf body offset (length (x .octets)) ≡ x .octets =
       rw e (part-at front (firstType xs 0) (x .notifyType) (x .octets) (chained xs 0)) in
-      let step = one-noted body s (counted (s .tally) 0) (x .notifyType) place (x .octets) (omega arith) there cookies
+      let step = one-noted body s (counted (s .tally) 0) (x .notifyType) offset (x .octets) (omega arith) there cookies
       sized k (fits .0) (clear .0) in
       let count : n + suc (length xs) ≡ n + 1 + length xs = omega arith in
       rw (step .0, more, ← step .2, count)
       (scan-gives xs (front ++ first) (e ∙ sym (append-assoc front first (chained xs 0))) (fits .1)
       _ (n + 1) (rw (step .2) (clear .1)) (rw (step .1, known)) (step .3)
-      (noted-sixteen _ k (x .notifyType) place (length (x .octets)) sized))
+      (noted-sixteen _ k (x .notifyType) offset (length (x .octets)) sized))

@@ -31,12 +31,12 @@ use Rattle.exchange.proofs.Data.{length-padded, pair-sized}
 use Rattle.exchange.proofs.Plainly.{plain-request}
 use Rattle.exchange.proofs.Ordered.{plain-again}
 
-content-sixteen : (s : Seen) (content : Content) (place : ℕ) → Sixteen (s .list) → DataFits content
-    → Sixteen (contentNoted s content place .list)
+content-sixteen : (s : Seen) (content : Content) (offset : ℕ) → Sixteen (s .list) → DataFits content
+    → Sixteen (contentNoted s content offset .list)
 unfolding contentNoted
-content-sixteen s Skipped place h f = h
-content-sixteen s UnknownPayload place h f = h
-content-sixteen s (Notify k number len) place h f = noted-sixteen _ k number place len h
+content-sixteen s Skipped offset h f = h
+content-sixteen s UnknownPayload offset h f = h
+content-sixteen s (Notify k number len) offset h f = noted-sixteen _ k number offset len h
 
 module _ (first : ℕ) (body : List ℕ) where
   sixteen : Sixteen (reading first body .seen .list)
@@ -46,8 +46,8 @@ module _ (first : ℕ) (body : List ℕ) where
   given-sized =
       let l = reading first body .seen .list in
       let at = addressAt body in
-      let all = zipWith at (l .places) (l .families) in
-      let long : length all ≡ addressesMost = length-zip at (l .places) (l .families) (sixteen .0 ∙ sym (sixteen .1))
+      let all = zipWith at (l .offsets) (l .families) in
+      let long : length all ≡ addressesMost = length-zip at (l .offsets) (l .families) (sixteen .0 ∙ sym (sixteen .1))
       ∙ sixteen .0 in
       let pair = pair-sized
       (partOf body (reading first body .seen .«no_nats») (reading first body .seen .«no_nats_len»)) in
@@ -61,9 +61,9 @@ module _ (first : ℕ) (body : List ℕ) where
             λ i h. rw (octets-in body l sixteen)
             (copied-at (replicate addressOctets 0) (λ a. length a ≡ addressOctets) [] refl all addressesMost
             (min (l .count) addressesMost) i h (omega (arith, long))
-            (ap length (getD-zip at (l .places) (l .families) i 0 0 [] (omega (arith, sixteen .0))
+            (ap length (getD-zip at (l .offsets) (l .families) i 0 0 [] (omega (arith, sixteen .0))
             (omega (arith, sixteen .1)))
-            ∙ length-padded (partOf body (getD (l .places) i 0) (widthOf (getD (l .families) i 0)))));
+            ∙ length-padded (partOf body (getD (l .offsets) i 0) (widthOf (getD (l .families) i 0)))));
       }
 
   -- what a plainly read chain gave is the request that writes it

@@ -11,12 +11,12 @@ use Rattle.octets.proofs.Pad.{length-copied}
 use Rattle.octets.proofs.Zip.{length-zip}
 use Rattle.address.specs.Address.{addressOf, noAddress, familiesOf, octetsOf}
 use Rattle.address.specs.declared.address.Address.{Address}
-use Rattle.findings.specs.declared.seen.Places.{Places}
+use Rattle.findings.specs.declared.seen.Offsets.{Offsets}
 use Rattle.values.specs.Values.{addressAt, additionalOf, addressesIn}
 
--- a list of sixteen places and families
-abbrev pub Sixteen : Places → Type 0
-Sixteen l = (length (l .places) ≡ addressesMost) × (length (l .families) ≡ addressesMost)
+-- a list of sixteen offsets and families
+abbrev pub Sixteen : Offsets → Type 0
+Sixteen l = (length (l .offsets) ≡ addressesMost) × (length (l .families) ≡ addressesMost)
 
 -- what a function makes of the first i elements and of k times z behind them
 map-run : {A B : Type 0} (f : A → B) (z : A) (i k : ℕ) (xs : List A) → map f (take i xs ++ replicate k z)
@@ -63,15 +63,15 @@ cut-again : {A : Type 0} (z : A) (n : ℕ) (xs : List A) → n ≤ length xs →
     ≡ firstOnly z n xs
 cut-again z n xs h = rw (take-at (take n xs) (replicate (addressesMost - n) z) n (length-take-le n xs h))
 
-module _ (body : List ℕ) (l : Places) (sized : Sixteen l) where
+module _ (body : List ℕ) (l : Offsets) (sized : Sixteen l) where
   abbrev kept : ℕ
   kept = min (l .count) addressesMost
 
   abbrev octets : List (List ℕ)
-  octets = zipWith (addressAt body) (l .places) (l .families)
+  octets = zipWith (addressAt body) (l .offsets) (l .families)
 
   long : length octets ≡ addressesMost
-  long = length-zip (addressAt body) (l .places) (l .families) (sized .0 ∙ sym (sized .1)) ∙ sized .0
+  long = length-zip (addressAt body) (l .offsets) (l .families) (sized .0 ∙ sym (sized .1)) ∙ sized .0
 
   pub octets-sixteen : length (additionalOf body l) ≡ addressesMost
   octets-sixteen = length-copied (replicate addressOctets 0) octets addressesMost (l .count) long

@@ -21,15 +21,15 @@ use Rattle.findings.specs.Slots.{payloadsSlot, unknownPayloadsSlot, unkn
 use Rattle.findings.specs.Slots.{firstErrorSlot}
 use Rattle.findings.specs.Slots.{updateSlot, noAdditionalSlot, natSourceSlot, natDestinationSlot}
 use Rattle.findings.specs.Slots.{noNatsSlot, noNatsLenSlot, cookieSlot, cookieLenSlot}
-use Rattle.findings.specs.Slots.{countSlot, placesSlot, familiesSlot, stateSize}
-use Rattle.findings.specs.State.{placesOf, octet, familiesOf, seenOf, Says, withList}
+use Rattle.findings.specs.Slots.{countSlot, offsetsSlot, familiesSlot, stateSize}
+use Rattle.findings.specs.State.{offsetsOf, octet, familiesOf, seenOf, Says, withList}
 use Rattle.findings.specs.declared.seen.Seen.{Seen}
 
 -- a state is its fourteen numbers, and the rest
 spread : (s : List ℕ) → length s ≡ stateSize
     → s
     ≡ getD s 0 0 ∷ getD s 1 0 ∷ getD s 2 0 ∷ getD s 3 0 ∷ getD s 4 0 ∷ getD s 5 0 ∷ getD s 6 0
-    ∷ getD s 7 0 ∷ getD s 8 0 ∷ getD s 9 0 ∷ getD s 10 0 ∷ getD s 11 0 ∷ getD s 12 0 ∷ getD s 13 0 ∷ drop placesSlot s
+    ∷ getD s 7 0 ∷ getD s 8 0 ∷ getD s 9 0 ∷ getD s 10 0 ∷ getD s 11 0 ∷ getD s 12 0 ∷ getD s 13 0 ∷ drop offsetsSlot s
 spread s long =
     rw (
       ← drop-cons s 13 0 (omega arith),
@@ -132,11 +132,11 @@ module _ (s : List ℕ) (long : length s ≡ stateSize) where
       later-tallied z =
           record { long = simp length-set long; seen = rw (e, ne-eqb (getD s errorsSlot 0) 0 z, spread s long) }
 
--- the list begins behind fourteen numbers, the families behind as many more as there are places
-behind : (n : ℕ) → placesSlot + n ≡ suc (suc (suc (suc (suc (suc (suc (suc (suc (suc (suc (suc (suc (suc n)))))))))))))
+-- the list begins behind fourteen numbers, the families behind as many more as there are offsets
+behind : (n : ℕ) → offsetsSlot + n ≡ suc (suc (suc (suc (suc (suc (suc (suc (suc (suc (suc (suc (suc (suc n)))))))))))))
 behind n = omega arith
 
-behind-both : (n : ℕ) → familiesSlot + n ≡ placesSlot + (addressesMost + n)
+behind-both : (n : ℕ) → familiesSlot + n ≡ offsetsSlot + (addressesMost + n)
 behind-both n = omega arith
 
 module _ (s : List ℕ) (long : length s ≡ stateSize) (n family at : ℕ) (count : getD s countSlot 0 ≡ n) where
@@ -144,10 +144,10 @@ module _ (s : List ℕ) (long : length s ≡ stateSize) (n family at : ℕ) (cou
   Lists t = Says t (withList (seenOf s) (listed (seenOf s .list) family at))
 
   pub address-kept : n < addressesMost → family < 256
-      → Lists (set (set (set s countSlot (n + 1)) (placesSlot + n) at) (familiesSlot + n) family)
+      → Lists (set (set (set s countSlot (n + 1)) (offsetsSlot + n) at) (familiesSlot + n) family)
   unfolding seenOf
   address-kept h f =
-      let rest = drop placesSlot s in
+      let rest = drop offsetsSlot s in
       record {
         long = simp length-set long;
         seen =
@@ -170,9 +170,9 @@ module _ (s : List ℕ) (long : length s ≡ stateSize) (n family at : ℕ) (cou
   pub address-left-off : addressesMost ≤ n → Lists (set s countSlot (n + 1))
   unfolding seenOf
   address-left-off h =
-      let places : length (placesOf s) ≤ n = simp (length-take, length-drop) (omega arith) in
+      let offsets : length (offsetsOf s) ≤ n = simp (length-take, length-drop) (omega arith) in
       let families : length (familiesOf s) ≤ n = simp (length-map, length-take, length-drop) (omega arith) in
       record {
         long = simp length-set long;
-        seen = rw (count, set-out (placesOf s) n at places, set-out (familiesOf s) n family families, spread s long);
+        seen = rw (count, set-out (offsetsOf s) n at offsets, set-out (familiesOf s) n family families, spread s long);
       }

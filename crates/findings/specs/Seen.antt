@@ -3,7 +3,7 @@
 --
 --   Seen                    what was seen: the tally, the flags, the offsets of what is handed out, and the list
 --   Tally                   payloads, unknown payloads, unknown notifications; errors among these, the first one's type
---   Places                  the additional addresses: how many, and of the first sixteen the offset and the family
+--   Offsets                 the additional addresses: how many, and of the first sixteen the offset and the family
 --   nothingSeen             where no payload was read yet
 --   contentNoted            what was seen, with one payload more; its data would stand at the offset
 --   counted, unknownNotify  the tally, with one payload more, with one unknown notification more
@@ -26,14 +26,14 @@ use Rattle.notify.specs.declared.notify.NotifyKind.the-variants.{OtherError, Ot
 use Rattle.payload.specs.declared.payload.Content.{Content}
 use Rattle.payload.specs.declared.payload.Content.the-variants.{Skipped, Unknown as UnknownPayload, Notify}
 use Rattle.findings.specs.declared.seen.Tally.{Tally}
-use Rattle.findings.specs.declared.seen.Places.{Places}
+use Rattle.findings.specs.declared.seen.Offsets.{Offsets}
 use Rattle.findings.specs.declared.seen.Seen.{Seen}
 
 abbrev pub noTally : Tally
 noTally = record { payloads = 0; «unknown_payloads» = 0; «unknown_notifies» = 0; errors = 0; «first_error» = 0 }
 
-abbrev pub noPlaces : Places
-noPlaces = record { count = 0; places = replicate addressesMost 0; families = replicate addressesMost 0 }
+abbrev pub noOffsets : Offsets
+noOffsets = record { count = 0; offsets = replicate addressesMost 0; families = replicate addressesMost 0 }
 
 abbrev pub nothingSeen : Seen
 nothingSeen =
@@ -47,7 +47,7 @@ nothingSeen =
       «no_nats_len» = 0;
       cookie = 0;
       «cookie_len» = 0;
-      list = noPlaces;
+      list = noOffsets;
     }
 
 -- 01: "The answer counts the payloads read"; "Any other type but 0 is unknown: ... else it is skipped and tallied."
@@ -74,11 +74,11 @@ unknownNotify t kind notifyType =
     }
 
 -- 01: "The first 16 are kept"; all are counted. Both lists have 16 places, past which `set` changes nothing.
-abbrev pub listed : Places → ℕ → ℕ → Places
+abbrev pub listed : Offsets → ℕ → ℕ → Offsets
 listed l family at =
     record {
       count = l .count + 1;
-      places = set (l .places) (l .count) at;
+      offsets = set (l .offsets) (l .count) at;
       families = set (l .families) (l .count) family;
     }
 
@@ -102,7 +102,7 @@ abbrev pub is : NotifyKind → NotifyKind → Bool
 is a b = eqb (ordinal a) (ordinal b)
 
 -- What a notification adds to the list of additional addresses.
-abbrev pub notifyListed : Places → NotifyKind → ℕ → Places
+abbrev pub notifyListed : Offsets → NotifyKind → ℕ → Offsets
 notifyListed l kind at =
     cond (is kind AdditionalIp4) (listed l 4 at) (cond (is kind AdditionalIp6) (listed l 6 at) l)
 

@@ -45,11 +45,11 @@ cookieLenSlot = 12
 abbrev pub countSlot : ℕ
 countSlot = 13
 
-abbrev pub placesSlot : ℕ
-placesSlot = 14
+abbrev pub offsetsSlot : ℕ
+offsetsSlot = 14
 
 abbrev pub familiesSlot : ℕ
-familiesSlot = placesSlot + addressesMost
+familiesSlot = offsetsSlot + addressesMost
 
 abbrev pub offsetSlot : ℕ
 offsetSlot = familiesSlot + addressesMost

@@ -10,12 +10,12 @@ use Rattle.findings.specs.Slots.{payloadsSlot, unknownPayloadsSlot, unkn
 use Rattle.findings.specs.Slots.{firstErrorSlot}
 use Rattle.findings.specs.Slots.{updateSlot, noAdditionalSlot, natSourceSlot, natDestinationSlot}
 use Rattle.findings.specs.Slots.{noNatsSlot, noNatsLenSlot, cookieSlot, cookieLenSlot}
-use Rattle.findings.specs.Slots.{countSlot, placesSlot, familiesSlot, stateSize}
-use Rattle.findings.specs.declared.seen.Places.{Places}
+use Rattle.findings.specs.Slots.{countSlot, offsetsSlot, familiesSlot, stateSize}
+use Rattle.findings.specs.declared.seen.Offsets.{Offsets}
 use Rattle.findings.specs.declared.seen.Seen.{Seen}
 
-abbrev pub placesOf : List ℕ → List ℕ
-placesOf state = take addressesMost (drop placesSlot state)
+abbrev pub offsetsOf : List ℕ → List ℕ
+offsetsOf state = take addressesMost (drop offsetsSlot state)
 
 -- a number as an octet
 abbrev pub octet : ℕ → ℕ
@@ -43,7 +43,7 @@ seenOf state =
       «no_nats_len» = getD state noNatsLenSlot 0;
       cookie = getD state cookieSlot 0;
       «cookie_len» = getD state cookieLenSlot 0;
-      list = record { count = getD state countSlot 0; places = placesOf state; families = familiesOf state };
+      list = record { count = getD state countSlot 0; offsets = offsetsOf state; families = familiesOf state };
     }
 
 -- the numbers of a state, of which s was seen
@@ -52,7 +52,7 @@ pub record Says (state : List ℕ) (s : Seen) : Type 0 where
   pub seen : seenOf state ≡ s
 
 -- what was seen, with another list of additional addresses
-abbrev pub withList : Seen → Places → Seen
+abbrev pub withList : Seen → Offsets → Seen
 withList s l =
     record {
       tally = s .tally;

@@ -18,9 +18,9 @@ pub struct Tally {
 // The additional addresses: all are counted, and of the first sixteen the offset of their data and their family are
 // kept.
 #[repr(C)]
-pub struct Places {
+pub struct Offsets {
     pub count: u16,
-    pub places: [u16; ADDRESSES_MOST],
+    pub offsets: [u16; ADDRESSES_MOST],
     pub families: [u8; ADDRESSES_MOST],
 }
 
@@ -36,7 +36,7 @@ pub struct Seen {
     pub no_nats_len: u16,
     pub cookie: u16,
     pub cookie_len: u16,
-    pub list: Places,
+    pub list: Offsets,
 }
 
 pub fn nothing_seen() -> Seen
@@ -49,9 +49,9 @@ pub fn nothing_seen() -> Seen
         errors: 0,
         first_error: 0,
     };
-    let list = Places {
+    let list = Offsets {
         count: 0,
-        places: [0u16; ADDRESSES_MOST],
+        offsets: [0u16; ADDRESSES_MOST],
         families: [0u8; ADDRESSES_MOST],
     };
     Seen {

@@ -1,13 +1,13 @@
 // What was seen so far, as numbers that are lent to the scan of a chain. They are changed in place, so that nothing
 // travels from payload to payload.
-use crate::seen::Places;
+use crate::seen::Offsets;
 use crate::seen::Seen;
 use crate::seen::Tally;
 use octets::limits::ADDRESSES_MOST;
 ghost use mathlib.Core.Path.{_≡_};
 ghost use lib.ListN.{length};
 ghost use Rattle.findings.specs.Slots.{stateSize};
-ghost use Rattle.findings.specs.State.{placesOf, familiesOf, seenOf};
+ghost use Rattle.findings.specs.State.{offsetsOf, familiesOf, seenOf};
 
 // Where each number stands, its slot, as `specs/Slots.antt` has it. Yes or no is 1 or 0.
 pub const PAYLOADS: usize = 0;
@@ -40,9 +40,9 @@ pub const COOKIE_LEN: usize = 12;
 // How many additional addresses there were; then the offsets of the first sixteen, and their families.
 pub const COUNT: usize = 13;
 
-pub const PLACES: usize = 14;
+pub const OFFSETS: usize = 14;
 
-pub const FAMILIES: usize = PLACES + ADDRESSES_MOST;
+pub const FAMILIES: usize = OFFSETS + ADDRESSES_MOST;
 
 // Where the scan stopped, if at a fault, and the type of a critical payload there.
 pub const OFFSET: usize = FAMILIES + ADDRESSES_MOST;
@@ -54,14 +54,14 @@ pub const STATE_SIZE: usize = CRITICAL + 1;
 pub type State = [u16; STATE_SIZE];
 
 // The offsets of the additional addresses.
-fn places_of(state: &State) -> [u16; ADDRESSES_MOST]
+fn offsets_of(state: &State) -> [u16; ADDRESSES_MOST]
     requires { ⌜ length (now state) ≡ stateSize ⌝ }
-    ensures { λ r. ⌜ r ≡ placesOf (now (state .entry)) ⌝ }
+    ensures { λ r. ⌜ r ≡ offsetsOf (now (state .entry)) ⌝ }
 {
     let mut out = [0u16; ADDRESSES_MOST];
     let mut i = 0;
     while i < ADDRESSES_MOST {
-        out[i] = state[PLACES + i];
+        out[i] = state[OFFSETS + i];
         i += 1;
     }
     out
@@ -93,9 +93,9 @@ pub fn seen_of(state: &State) -> Seen
         errors: state[ERRORS],
         first_error: state[FIRST_ERROR],
     };
-    let list = Places {
+    let list = Offsets {
         count: state[COUNT],
-        places: places_of(state),
+        offsets: offsets_of(state),
         families: families_of(state),
     };
     Seen {

@@ -1,6 +1,6 @@
 // The reader's calls.
 use address::address::Address;
-use findings::seen::Places;
+use findings::seen::Offsets;
 use octets::limits::ADDRESSES_MOST;
 use reader::read::Reading;
 use values::NoNats;
@@ -55,7 +55,7 @@ pub extern "C" fn unmavreth_no_nats(body: &[u8], at: u16, size: u16) -> NoNats
 
 // The first sixteen additional addresses, by the offsets and the families that a reading told.
 #[no_mangle]
-pub extern "C" fn unmavreth_addresses(body: &[u8], list: Places) -> AddressList
+pub extern "C" fn unmavreth_addresses(body: &[u8], list: Offsets) -> AddressList
     ensures { λ r. ⌜ r .list ≡ addressesIn (now (body .entry)) list ⌝ }
 {
     AddressList {

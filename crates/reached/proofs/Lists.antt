@@ -18,22 +18,22 @@ use Rattle.payload.specs.declared.payload.Content.{Content}
 use Rattle.payload.specs.declared.payload.Content.the-variants.{Skipped, Unknown as UnknownPayload, Notify}
 use Rattle.values.specs.Values.{addressAt, additionalOf, addressesIn}
 use Rattle.findings.specs.Seen.{is, listed, noted, contentNoted}
-use Rattle.findings.specs.declared.seen.Places.{Places}
+use Rattle.findings.specs.declared.seen.Offsets.{Offsets}
 use Rattle.findings.specs.declared.seen.Seen.{Seen}
 use Rattle.reader.specs.Chain.{reading}
 use Rattle.reader.proofs.Chain.{DataFits}
 use Rattle.reader.proofs.Kept.{kept}
 use Rattle.reached.specs.WellFormed.{isFamily}
 
-record Listed (l : Places) : Type 0 where
-  places : length (l .places) ≡ addressesMost
+record Listed (l : Offsets) : Type 0 where
+  offsets : length (l .offsets) ≡ addressesMost
   families : length (l .families) ≡ addressesMost
   known : (i : ℕ) → i < l .count → i < addressesMost → isFamily (getD (l .families) i 0) ≡ true
 
-one-more : (l : Places) (family place : ℕ) → isFamily family ≡ true → Listed l → Listed (listed l family place)
-one-more l family place f h =
+one-more : (l : Offsets) (family at : ℕ) → isFamily family ≡ true → Listed l → Listed (listed l family at)
+one-more l family at f h =
     record {
-      places = length-set (l .places) (l .count) place ∙ h .places;
+      offsets = length-set (l .offsets) (l .count) at ∙ h .offsets;
       families = length-set (l .families) (l .count) family ∙ h .families;
       known = λ i c s. go i c s (ℕ-discrete i (l .count));
     }
@@ -43,23 +43,23 @@ one-more l family place f h =
     go i c s (yes e) = rw (e, getD-set-same (l .families) (l .count) family 0 (omega (arith, h .families))) f
     go i c s (no n) = rw (getD-set-other (l .families) (l .count) i family 0 n) (h .known i (omega arith) s)
 
-content-listed : (s : Seen) (content : Content) (place : ℕ) → Listed (s .list) → DataFits content
-    → Listed (contentNoted s content place .list)
+content-listed : (s : Seen) (content : Content) (at : ℕ) → Listed (s .list) → DataFits content
+    → Listed (contentNoted s content at .list)
 unfolding contentNoted noted
-content-listed s Skipped place h f = h
-content-listed s UnknownPayload place h f = h
-content-listed s (Notify k number len) place h f =
-    chosen Listed (is k AdditionalIp4) (λ e. one-more (s .list) 4 place refl h)
-    (λ e. chosen Listed (is k AdditionalIp6) (λ e. one-more (s .list) 6 place refl h) (λ e. h))
+content-listed s Skipped at h f = h
+content-listed s UnknownPayload at h f = h
+content-listed s (Notify k number len) at h f =
+    chosen Listed (is k AdditionalIp4) (λ e. one-more (s .list) 4 at refl h)
+    (λ e. chosen Listed (is k AdditionalIp6) (λ e. one-more (s .list) 6 at refl h) (λ e. h))
 
 module _ (first : ℕ) (body : List ℕ) where
-  abbrev seen : Places
+  abbrev seen : Offsets
   seen = reading first body .seen .list
 
   all-listed : Listed seen
   all-listed =
       kept (λ (s : Seen). Listed (s .list))
-      (record { places = refl; families = refl; known = λ i c s. absurd (omega arith) }) content-listed first body
+      (record { offsets = refl; families = refl; known = λ i c s. absurd (omega arith) }) content-listed first body
 
   abbrev octets : List (List ℕ)
   octets = additionalOf body seen
@@ -71,9 +71,9 @@ module _ (first : ℕ) (body : List ℕ) where
   octets-long =
       let h = all-listed in
       let long =
-      length-zip (addressAt body) (seen .places) (seen .families) (h .places ∙ sym (h .families)) ∙ h .places in
-      length-copied (replicate addressOctets 0) (zipWith (addressAt body) (seen .places) (seen .families)) addressesMost
-      (seen .count) long
+      length-zip (addressAt body) (seen .offsets) (seen .families) (h .offsets ∙ sym (h .families)) ∙ h .offsets in
+      length-copied (replicate addressOctets 0) (zipWith (addressAt body) (seen .offsets) (seen .families))
+      addressesMost (seen .count) long
 
   given-long : length given ≡ addressesMost
   given-long = let h = all-listed in

@@ -12,7 +12,7 @@
 --   listReplaced      whether the list is kept
 use Prim.Native.Nat.{ℕ}
 use mathlib.Core.Bool.{Bool}
-use Rattle.findings.specs.Seen.{noPlaces}
+use Rattle.findings.specs.Seen.{noOffsets}
 use Rattle.findings.specs.declared.seen.Seen.{Seen}
 use Rattle.records.specs.declared.ike.Marks.{Marks}
 use Rattle.verdict.specs.Verdict.{verdictNumber}
@@ -64,7 +64,7 @@ abbrev pub decidedAnswer : Decision → Seen → Response → CoreAnswer
 decidedAnswer d s response = record { reply = decidedReply d s response; marks = d .marks; list = s .list }
 
 abbrev pub unchangedAnswer : Reply → Marks → CoreAnswer
-unchangedAnswer reply m = record { reply = reply; marks = m; list = noPlaces }
+unchangedAnswer reply m = record { reply = reply; marks = m; list = noOffsets }
 
 -- The record moves exactly where the reply says that the update was applied, and has another list exactly where it says
 -- that the list was replaced.

@@ -3,7 +3,7 @@ use deciding::decide::Decision;
 use deciding::decide::Effect;
 use deciding::decide::effect_number;
 use deciding::decide::says_done;
-use findings::seen::Places;
+use findings::seen::Offsets;
 use findings::seen::Seen;
 use findings::seen::nothing_seen;
 use octets::number::Number;
@@ -37,7 +37,7 @@ pub struct Reply {
 pub struct CoreAnswer {
     pub reply: Reply,
     pub marks: Marks,
-    pub list: Places,
+    pub list: Offsets,
 }
 
 // A reply that gives a number as it is told and an offset, with an error that was written.

@@ -5,8 +5,8 @@ use findings::state::FAMILIES;
 use findings::state::FIRST_ERROR;
 use findings::state::NAT_SOURCE;
 use findings::state::NO_ADDITIONAL;
+use findings::state::OFFSETS;
 use findings::state::PAYLOADS;
-use findings::state::PLACES;
 use findings::state::State;
 use findings::state::UNKNOWN_NOTIFIES;
 use findings::state::UNKNOWN_PAYLOADS;
@@ -97,7 +97,7 @@ pub fn address_noted(state: &mut State, family: u8, at: u16) -> bool
     let place = count as usize;
     state[COUNT] = count + 1;
     if place < ADDRESSES_MOST {
-        state[PLACES + place] = at;
+        state[OFFSETS + place] = at;
         state[FAMILIES + place] = family as u16;
     }
     false

@@ -31,7 +31,7 @@ use Rattle.octets.specs.Lists.{firstOnly}
 use Rattle.octets.specs.Octets.{be16, padded}
 use Rattle.address.specs.Address.{widthOf, addressesOf}
 use Rattle.address.specs.declared.address.Address.{Address}
-use Rattle.findings.specs.declared.seen.Places.{Places}
+use Rattle.findings.specs.declared.seen.Offsets.{Offsets}
 use Rattle.findings.specs.declared.seen.Seen.{Seen}
 use Rattle.values.specs.declared.NoNats.{NoNats}
 
@@ -92,11 +92,11 @@ addressAt body at family = padded (partOf body at (widthOf family))
 
 -- 01: "The first 16 are kept"; "Places past a list's count ... aren't looked at; in a list newly kept or given they
 -- are 0."
-abbrev pub additionalOf : List ℕ → Places → List (List ℕ)
+abbrev pub additionalOf : List ℕ → Offsets → List (List ℕ)
 additionalOf body l =
     firstOnly (replicate addressOctets 0) (min (l .count) addressesMost)
-    (zipWith (addressAt body) (l .places) (l .families))
+    (zipWith (addressAt body) (l .offsets) (l .families))
 
 -- the additional addresses with their families, as a record keeps them
-abbrev pub addressesIn : List ℕ → Places → List Address
+abbrev pub addressesIn : List ℕ → Offsets → List Address
 addressesIn body l = addressesOf (min (l .count) addressesMost) (l .families) (additionalOf body l)

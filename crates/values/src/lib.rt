@@ -2,7 +2,7 @@
 use address::address::Address;
 use address::address::addresses_of;
 use address::address::width_of;
-use findings::seen::Places;
+use findings::seen::Offsets;
 use findings::seen::Seen;
 use octets::be16_at;
 use octets::limits::ADDRESS_OCTETS;
@@ -118,16 +118,16 @@ pub fn kept_count(count: u16) -> u16
 }
 
 // The additional addresses that are kept, with zeros in the places after them.
-pub fn additional(body: &[u8], list: Places) -> [[u8; ADDRESS_OCTETS]; ADDRESSES_MOST]
+pub fn additional(body: &[u8], list: Offsets) -> [[u8; ADDRESS_OCTETS]; ADDRESSES_MOST]
     ensures { λ r. ⌜ r ≡ additionalOf (now (body .entry)) list ⌝ }
 {
     let n = kept_count(list.count) as usize;
-    let places = list.places;
+    let offsets = list.offsets;
     let families = list.families;
     let mut out = [[0u8; ADDRESS_OCTETS]; ADDRESSES_MOST];
     let mut i = 0;
     while i < n {
-        let a = address_at(body, places[i], families[i]);
+        let a = address_at(body, offsets[i], families[i]);
         out[i] = a;
         i += 1;
     }
@@ -135,7 +135,7 @@ pub fn additional(body: &[u8], list: Places) -> [[u8; ADDRESS_OCTETS]; ADDRESSES
 }
 
 // The same with their families, as a record keeps them.
-pub fn addresses_in(body: &[u8], list: Places) -> [Address; ADDRESSES_MOST]
+pub fn addresses_in(body: &[u8], list: Offsets) -> [Address; ADDRESSES_MOST]
     ensures { λ r. ⌜ r ≡ addressesIn (now (body .entry)) list ⌝ }
 {
     let octets = additional(body, list);

@@ -73,7 +73,7 @@ mod responder;
 pub use gateway::Gateway;
 pub use initiator::{assess, write, Draft};
 pub use layout::{
-    Address, Agreed, Ask, Assessment, Flag, IkeRecord, IpsecRecord, Opening, Pair, Places, Policy,
+    Address, Agreed, Ask, Assessment, Flag, IkeRecord, IpsecRecord, Offsets, Opening, Pair, Policy,
     Reading, Reply, Rule, Seen, Tally, Written,
 };
 pub use numbers::{Effect, Number, Outcome};

@@ -1,7 +1,7 @@
 //! The C interface of `libhost.a`. A start and a count are those of memory that the caller lends for
 //! the call; nothing lent for writing may overlap anything else that is lent.
 use crate::layout::{
-    AddressList, Ask, Assessment, IkeRecord, IpsecRecord, Opening, Pair, Part, Places, Policy,
+    AddressList, Ask, Assessment, IkeRecord, IpsecRecord, Offsets, Opening, Pair, Part, Policy,
     Reading, Reply, Rule, Written,
 };
 use crate::limits::{IKE_PLACES, RULES_MOST};
@@ -23,7 +23,7 @@ extern "C" {
         out: *mut Part,
         body: *const u8,
         body_size: usize,
-        place: u16,
+        offset: u16,
     );
 
     pub(crate) fn unmavreth_no_nats(
@@ -36,7 +36,7 @@ extern "C" {
     pub(crate) fn unmavreth_addresses(
         body: *const u8,
         body_size: usize,
-        list: Places,
+        list: Offsets,
     ) -> AddressList;
 
     pub(crate) fn unmavreth_assess(

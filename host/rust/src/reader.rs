@@ -14,24 +14,24 @@ pub fn read(first: u8, body: &[u8]) -> Reading {
     unsafe { raw::unmavreth_read(first, body.as_ptr(), body.len()) }
 }
 
-/// The part of a body at a place, of a length, as a reading or a reply tells them for COOKIE2; empty
-/// at place 0, where the length is 0, or where the part would run past the end of the body.
+/// The part of a body at an offset, of a length, as a reading or a reply tells them for COOKIE2; empty
+/// at offset 0, where the length is 0, or where the part would run past the end of the body.
 #[inline]
-pub fn cookie(body: &[u8], place: u16, length: u16) -> &[u8] {
+pub fn cookie(body: &[u8], offset: u16, length: u16) -> &[u8] {
     let mut part = Part { start: body.as_ptr(), octets: 0 };
-    // SAFETY: start and length are those of a slice that outlives the call, and `part` is another
-    // place, which holds an empty part of that slice.
-    unsafe { raw::unmavreth_cookie(&mut part, body.as_ptr(), body.len(), place, length) };
+    // SAFETY: start and length are those of a slice that outlives the call, and `part` lies
+    // apart from it and holds an empty part of it.
+    unsafe { raw::unmavreth_cookie(&mut part, body.as_ptr(), body.len(), offset, length) };
     within(body, part)
 }
 
-/// The NAT detection value at a place, as a reading tells it: 20 octets, a part of the body; empty at
-/// place 0, or where they would run past the end of the body.
+/// The NAT detection value at an offset, as a reading tells it: 20 octets, a part of the body; empty at
+/// offset 0, or where they would run past the end of the body.
 #[inline]
-pub fn nat_value(body: &[u8], place: u16) -> &[u8] {
+pub fn nat_value(body: &[u8], offset: u16) -> &[u8] {
     let mut part = Part { start: body.as_ptr(), octets: 0 };
     // SAFETY: as in `cookie`.
-    unsafe { raw::unmavreth_nat_value(&mut part, body.as_ptr(), body.len(), place) };
+    unsafe { raw::unmavreth_nat_value(&mut part, body.as_ptr(), body.len(), offset) };
     within(body, part)
 }
 
@@ -47,7 +47,7 @@ fn within(body: &[u8], part: Part) -> &[u8] {
 /// if it wasn't there.
 #[inline]
 pub fn no_nats(body: &[u8], seen: &Seen) -> Pair {
-    // SAFETY: start and length are those of a slice that outlives the call; any place may be given.
+    // SAFETY: start and length are those of a slice that outlives the call; any offset may be given.
     unsafe { raw::unmavreth_no_nats(body.as_ptr(), body.len(), seen.no_nats, seen.no_nats_len) }
 }
 

@@ -1,5 +1,5 @@
 //! Every field of the structs that the library is given: it changes a result that is known, so that a
-//! field at a wrong place would be seen.
+//! field at a wrong offset would be seen.
 mod common;
 use common::*;
 use unmavreth::{
@@ -123,7 +123,7 @@ fn what_was_seen_is_given_back() {
     assert_eq!(no_nats(&body, &seen), pair);
     seen.no_nats_len = 13;
     assert_eq!(no_nats(&body, &seen), Pair::NONE);
-    seen.list.places = std::array::from_fn(|at| 8 + 11 * at as u16);
+    seen.list.offsets = std::array::from_fn(|at| 8 + 11 * at as u16);
     seen.list.families = std::array::from_fn(|at| [4, 6, 6][at % 3]);
     assert_eq!(addresses(&body, &seen), [Address::NONE; 16]);
     seen.list.count = 16;

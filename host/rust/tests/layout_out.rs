@@ -2,8 +2,8 @@
 mod common;
 use common::*;
 use unmavreth::{
-    assess, read, Address, Agreed, Effect, Flag, IkeRecord, IpsecRecord, Number, Opening, Outcome,
-    Pair, Places, Request, Seen, Tally,
+    assess, read, Address, Agreed, Effect, Flag, IkeRecord, IpsecRecord, Number, Offsets, Opening,
+    Outcome, Pair, Request, Seen, Tally,
 };
 
 /// A chain with every kind of notification that may stand together, errors and unknown ones.
@@ -42,9 +42,9 @@ fn every_field_of_a_reading() {
     assert_eq!((seen.nat_source, seen.nat_destination), (16, 44));
     assert_eq!((seen.no_nats, seen.no_nats_len), (72, 36));
     assert_eq!((seen.cookie, seen.cookie_len), (116, 9));
-    let (mut places, mut families) = ([0; 16], [0; 16]);
-    (places[0], places[1], families[0], families[1]) = (133, 145, 4, 6);
-    assert_eq!(seen.list, Places { count: 2, places, families });
+    let (mut offsets, mut families) = ([0; 16], [0; 16]);
+    (offsets[0], offsets[1], families[0], families[1]) = (133, 145, 4, 6);
+    assert_eq!(seen.list, Offsets { count: 2, offsets, families });
     assert_eq!(reading.cookie(&body), COOKIE);
 }
 
@@ -76,14 +76,14 @@ fn every_place_of_a_list() {
     let list = reading.seen().list;
     assert_eq!(list.count, 17);
     let told = unmavreth::addresses(&body, reading.seen());
-    let mut place = 8;
+    let mut offset = 8;
     for (at, one) in told.iter().enumerate() {
         let (family, width) = family_at(at);
-        assert_eq!((list.places[at], list.families[at]), (place, family));
+        assert_eq!((list.offsets[at], list.families[at]), (offset, family));
         let mut octets = [0; 16];
         octets[..width].fill(at as u8);
         assert_eq!(*one, Address { family, octets });
-        place += 8 + width as u16;
+        offset += 8 + width as u16;
     }
 }
 

@@ -35,12 +35,12 @@ fn without_a_cookie_the_part_is_empty() {
     let (_, other) = chain(&[notify(COOKIE2, &COOKIE)]);
     let reading = read(41, &other);
     assert_eq!(reading.cookie(&other), COOKIE);
-    assert!(reading.cookie(&body).is_empty(), "a place that another body doesn't have");
+    assert!(reading.cookie(&body).is_empty(), "an offset that another body doesn't have");
     assert!(reading.cookie(&[]).is_empty());
 }
 
 #[test]
-fn any_place_and_length_may_be_asked_for() {
+fn any_offset_and_length_may_be_asked_for() {
     let body = [5; 40];
     let edges = [0, 1, 8, 39, 40, 41, 0x7fff, 0xffff];
     for at in edges {

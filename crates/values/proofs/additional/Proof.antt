@@ -16,11 +16,11 @@ abbrev zeros : List ℕ
 zeros = replicate addressOctets 0
 
 abbrev Inv-loop : tie.InvT-loop
-Inv-loop body n places families out₀ i₀ out i =
-    (i ≤ n) × (n ≤ addressesMost) × (out ≡ joined (addressAt body) zeros places families addressesMost i)
+Inv-loop body n offsets families out₀ i₀ out i =
+    (i ≤ n) × (n ≤ addressesMost) × (out ≡ joined (addressAt body) zeros offsets families addressesMost i)
 
 abbrev μ-loop : tie.MeasureT-loop
-μ-loop body n places families out₀ i₀ out i = n - i
+μ-loop body n offsets families out₀ i₀ out i = n - i
 
 pub additional-spec : {M : Type 1} → statement M
 additional-spec =
@@ -45,7 +45,7 @@ additional-spec =
       omega arith,
       l .inv .1,
       rw (c .address-at .ensures)
-          (joins-one (addressAt (a .body .now)) zeros (a .list .places) (a .list .families) addressesMost
+          (joins-one (addressAt (a .body .now)) zeros (a .list .offsets) (a .list .families) addressesMost
           (search needs) (search needs) (l .out) (l .i) 0 0 (omega arith) (l .inv .2)),
     ))
     (λ c.

@@ -21,16 +21,17 @@ pub struct Tally {
 /// The additional addresses of a chain: all are counted, the first [`ADDRESSES_MOST`] are told.
 #[repr(C)]
 #[derive(Debug, Clone, Copy, Default, PartialEq, Eq)]
-pub struct Places {
+pub struct Offsets {
     /// How many there are, those past [`ADDRESSES_MOST`] too.
     pub count: u16,
     /// Where the octets of each begin in the body.
-    pub places: [u16; ADDRESSES_MOST],
+    pub offsets: [u16; ADDRESSES_MOST],
     /// The family of each.
     pub families: [u8; ADDRESSES_MOST],
 }
 
-/// What the payloads of a chain say. A place is an offset into the body, and 0 means none.
+/// What the payloads of a chain say. Data is told by the offset in the body at which it
+/// begins; 0 means none.
 #[repr(C)]
 #[derive(Debug, Clone, Copy, Default, PartialEq, Eq)]
 pub struct Seen {
@@ -53,7 +54,7 @@ pub struct Seen {
     /// Its length.
     pub cookie_len: u16,
     /// The additional addresses.
-    pub list: Places,
+    pub list: Offsets,
 }
 
 /// What [`read`](crate::read) gives.
@@ -88,7 +89,7 @@ pub struct Ask {
 laid_out!(Tally, size 10, align 2, {
     payloads: 0, unknown_payloads: 2, unknown_notifies: 4, errors: 6, first_error: 8,
 });
-laid_out!(Places, size 50, align 2, { count: 0, places: 2, families: 34 });
+laid_out!(Offsets, size 50, align 2, { count: 0, offsets: 2, families: 34 });
 laid_out!(Seen, size 74, align 2, {
     tally: 0, update: 10, no_additional: 11, nat_source: 12, nat_destination: 14, no_nats: 16,
     no_nats_len: 18, cookie: 20, cookie_len: 22, list: 24,

@@ -1,8 +1,8 @@
-//! The structs that cross the C interface, each with its size, its alignment and the place of every
+//! The structs that cross the C interface, each with its size, its alignment and the offset of every
 //! field, checked when this crate is compiled.
 
 /// Does not compile unless the struct has this size and alignment and exactly these fields, each at
-/// its place.
+/// its offset.
 macro_rules! laid_out {
     ($name:ident, size $size:literal, align $align:literal, { $($field:ident: $at:literal),* $(,)? }) => {
         const _: () = assert!(core::mem::size_of::<$name>() == $size);
@@ -24,7 +24,7 @@ pub(crate) use addresses::AddressList;
 pub use addresses::{Address, Pair};
 pub(crate) use answers::Part;
 pub use answers::{Assessment, Reply, Written};
-pub use chain::{Ask, Places, Reading, Seen, Tally};
+pub use chain::{Ask, Offsets, Reading, Seen, Tally};
 pub use flag::Flag;
 pub use rules::{Policy, Rule};
 pub use tables::{Agreed, IkeRecord, IpsecRecord, Opening};

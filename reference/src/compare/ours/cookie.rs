@@ -19,7 +19,7 @@ extern "C" {
     fn unmavreth_nat_value(out: *mut COctets, body: *const u8, body_len: usize, at: u16);
 }
 
-/// The cookie that the library hands out for this place and length.
+/// The cookie that the library hands out for this offset and length.
 pub fn hand_out(body: &[u8], at: u16, length: u16) -> Place<'_> {
     let mut out = COctets { start: body.as_ptr(), length: 0 };
     // SAFETY: start and length are those of a slice that outlives the call, and so is what `out`
@@ -28,7 +28,7 @@ pub fn hand_out(body: &[u8], at: u16, length: u16) -> Place<'_> {
     part(body, out)
 }
 
-/// The NAT detection value that it hands out for this place.
+/// The NAT detection value that it hands out for this offset.
 pub fn nat_value(body: &[u8], at: u16) -> Place<'_> {
     let mut out = COctets { start: body.as_ptr(), length: 0 };
     // SAFETY: as in `hand_out`.

@@ -23,14 +23,14 @@ struct CSeen {
     no_nats_len: u16,
     cookie: u16,
     cookie_len: u16,
-    list: CPlaces,
+    list: COffsets,
 }
 
 #[repr(C)]
 #[derive(Clone, Copy)]
-struct CPlaces {
+struct COffsets {
     count: u16,
-    places: [u16; 16],
+    offsets: [u16; 16],
     families: [u8; 16],
 }
 
@@ -49,8 +49,8 @@ pub(super) struct CAddressList {
 
 const _: () = assert!(size_of::<CSeen>() == 74);
 const _: () = assert!(offset_of!(CSeen, update) == 10 && offset_of!(CSeen, nat_source) == 12);
-const _: () = assert!(offset_of!(CSeen, list) == 24 && size_of::<CPlaces>() == 50);
-const _: () = assert!(offset_of!(CPlaces, places) == 2 && offset_of!(CPlaces, families) == 34);
+const _: () = assert!(offset_of!(CSeen, list) == 24 && size_of::<COffsets>() == 50);
+const _: () = assert!(offset_of!(COffsets, offsets) == 2 && offset_of!(COffsets, families) == 34);
 const _: () = assert!(size_of::<CReading>() == 78 && offset_of!(CReading, critical_type) == 1);
 const _: () = assert!(offset_of!(CReading, offset) == 2 && offset_of!(CReading, seen) == 4);
 const _: () = assert!(size_of::<AddressPair>() == 38);
@@ -61,7 +61,7 @@ const _: () = assert!(size_of::<CAddressList>() == 272 && size_of::<Address>() =
 extern "C" {
     fn unmavreth_read(first: u8, body: *const u8, len: usize) -> CReading;
     fn unmavreth_no_nats(body: *const u8, len: usize, at: u16, no_nats_len: u16) -> AddressPair;
-    fn unmavreth_addresses(body: *const u8, len: usize, list: CPlaces) -> CAddressList;
+    fn unmavreth_addresses(body: *const u8, len: usize, list: COffsets) -> CAddressList;
 }
 
 /// Reads a chain by the library.
@@ -79,16 +79,16 @@ pub fn read(first: u8, body: &[u8]) -> Outcome<'_> {
 
 /// The list that the library gives for these additional addresses.
 fn give(body: &[u8], list: SeenList) -> [Address; 16] {
-    let SeenList { count, places, families } = list;
-    let list = CPlaces { count, places, families };
+    let SeenList { count, offsets, families } = list;
+    let list = COffsets { count, offsets, families };
     // SAFETY: start and length are those of a slice that outlives the call.
     unsafe { unmavreth_addresses(body.as_ptr(), body.len(), list) }.list
 }
 
 fn outcome(body: &[u8], reading: CReading, no_nats_pair: AddressPair) -> Outcome<'_> {
     let seen = reading.seen;
-    let CPlaces { count, places, families } = seen.list;
-    let told = SeenList { count, places, families };
+    let COffsets { count, offsets, families } = seen.list;
+    let told = SeenList { count, offsets, families };
     let place = |offset, length| Place::in_body(body, usize::from(offset), usize::from(length));
     let cookie = place(seen.cookie, seen.cookie_len);
     Outcome {
@@ -109,7 +109,7 @@ fn outcome(body: &[u8], reading: CReading, no_nats_pair: AddressPair) -> Outcome
         no_nats: place(seen.no_nats, seen.no_nats_len),
         no_nats_pair,
         addresses: usize::from(count),
-        address_offsets: places.map(usize::from),
+        address_offsets: offsets.map(usize::from),
         address_families: families,
         address_list: give(body, told),
         given_lists: given_lists(body, told, |list| give(body, list)),

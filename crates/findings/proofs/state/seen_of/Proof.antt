@@ -28,4 +28,4 @@ seen-of-spec =
     (λ c. search needs)
     (λ c.
     let f = c .before .before .before .before .before .before .before .before in
-    rw (f .before .places-of .ensures, f .families-of .ensures)))
+    rw (f .before .offsets-of .ensures, f .families-of .ensures)))

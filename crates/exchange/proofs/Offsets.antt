@@ -1,4 +1,4 @@
--- Octets at their places, and the numbers that two of them make.
+-- Octets at their offsets, and the numbers that two of them make.
 use Prim.Native.Nat.{ℕ, suc, _+_, _*_, _/_, _%_, _<_}
 use mathlib.Core.Path.{_≡_}
 use mathlib.Core.List.{List, _∷_}
@@ -21,7 +21,7 @@ module _ (body : List ℕ) (at : ℕ) where
   pub here : at < length body → drop at body ≡ getD body at 0 ∷ drop (at + 1) body
   here h = rw add-one (drop-cons body at 0 h)
 
-  -- the octet k places on
+  -- the octet k further on
   pub on : (k : ℕ) → at + k < length body → drop (at + k) body ≡ getD body (at + k) 0 ∷ drop (at + (k + 1)) body
   on k h = let e : at + (k + 1) ≡ suc (at + k) = omega arith in rw e (drop-cons body (at + k) 0 h)
 
