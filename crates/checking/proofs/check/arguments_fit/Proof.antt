@@ -1,27 +1,50 @@
--- `checking::check::arguments_fit` meets its contract.
+-- `checking::check::arguments_fit` meets its contract. The definition has the same tests in another order.
 -- Assumes nothing.
+use mathlib.Core.Path.{_≡_, refl, sym, _∙_}
+use mathlib.Core.Bool.{Bool, true, false, _&&_, not}
+use lib.Dec.{eqb}
+use Rattle.octets.specs.Limits.{ipsecPlaces}
 use borrow.Author.Needs.{needs}
 use borrow.Author.Tests.{eq-eqb, ne-eqb}
 use Rattle.checking.proofs.check.arguments_fit.Statement.{statement}
 use Rattle.checking.proofs.check.arguments_fit.Tie as tie
 
+-- tests beside one that fails
+fails : (b : Bool) → false ≡ b && false
+fails true = refl
+fails false = refl
+
+both-fail : (a b : Bool) → false ≡ a && (b && false)
+both-fail true b = fails b
+both-fail false b = refl
+
+-- a test beside one that holds
+decides : (b : Bool) → b ≡ b && true
+decides true = refl
+decides false = refl
+
 pub arguments-fit-spec : {M : Type 1} → statement M
 arguments-fit-spec =
     tie.close
     (tie.spec
-    (λ c. rw (ne-eqb _ _ (c .if1 .taken)))
-    (λ c. rw (eq-eqb _ _ (c .before .if1 .left), eq-eqb _ _ (c .if2 .taken)))
-    (λ c. rw (eq-eqb _ _ (c .before .before .if1 .left), ne-eqb _ _ (c .before .if2 .left), ne-eqb _ _ (c .if3 .taken)))
-    (λ c. rw (
-      eq-eqb _ _ (c .before .before .before .if1 .left),
-      ne-eqb _ _ (c .before .before .if2 .left),
-      eq-eqb _ _ (c .before .if3 .left),
-      ne-eqb _ _ (c .if4 .taken),
-    ))
+    (λ c.
+    let a = c .before .before .before .args in
+    rw (ne-eqb _ _ (c .if1 .taken)) (both-fail (eqb (a .size) ipsecPlaces) (not (eqb (a .spi) 0))))
+    (λ c.
+    let a = c .before .before .before .before .args in
+    rw (eq-eqb _ _ (c .before .if1 .left), ne-eqb _ _ (c .if2 .taken))
+    (both-fail (eqb (a .size) ipsecPlaces) (not (eqb (a .spi) 0))))
+    (λ c. rw (ne-eqb _ _ (c .if3 .taken)))
     (λ c κs. search needs)
     (λ c. rw (
       eq-eqb _ _ (c .before .before .before .before .if1 .left),
-      ne-eqb _ _ (c .before .before .before .if2 .left),
+      eq-eqb _ _ (c .before .before .before .if2 .left),
       eq-eqb _ _ (c .before .before .if3 .left),
-      eq-eqb _ _ (c .before .if4 .left),
-    ) (c .pair-fits .ensures)))
+      sym (c .before .pair-fits .ensures) ∙ c .if4 .taken,
+    ) (decides (not (eqb (c .before .before .before .before .before .before .before .args .spi) 0))))
+    (λ c. rw (
+      eq-eqb _ _ (c .before .before .before .before .if1 .left),
+      eq-eqb _ _ (c .before .before .before .if2 .left),
+      eq-eqb _ _ (c .before .before .if3 .left),
+      sym (c .before .pair-fits .ensures) ∙ c .if4 .left,
+    ) (fails (not (eqb (c .before .before .before .before .before .before .before .args .spi) 0)))))
