@@ -1,6 +1,7 @@
-// Counts the instructions of one row's call on one side, in a process of its own.
+// Counts the instructions of one row's call on one side, in a process of its own, and those of a whole program.
 use crate::counted::NAMES;
 use crate::rows::Side;
+use std::fs::{self, File};
 use std::path::Path;
 use std::process::Command;
 
@@ -28,6 +29,32 @@ pub fn count(valgrind: &str, key: &str, side: Side) -> Result<u64, String> {
     match collected(&said) {
         Some(count) if count > 0 => Ok(count),
         _ => Err(format!("{key}, {}: nothing was counted\n{said}", side.name())),
+    }
+}
+
+/// How many instructions a program took with these octets as its standard input, and what it printed.
+pub fn count_program(
+    valgrind: &str,
+    program: &Path,
+    given: &[u8],
+) -> Result<(u64, String), String> {
+    let told = |fault: std::io::Error| format!("{}: {fault}", program.display());
+    let own = std::env::current_exe().map_err(told)?;
+    let input = own.with_file_name("trace");
+    fs::write(&input, given).map_err(told)?;
+    let ran = Command::new(valgrind)
+        .env_clear()
+        .args(["--tool=callgrind", "--callgrind-out-file=/dev/null"])
+        .arg(program)
+        .stdin(File::open(&input).map_err(told)?)
+        .output()
+        .map_err(|fault| format!("{valgrind}: {fault}"))?;
+    let said = String::from_utf8_lossy(&ran.stderr);
+    match collected(&said) {
+        Some(count) if ran.status.success() => {
+            Ok((count, String::from_utf8_lossy(&ran.stdout).into_owned()))
+        }
+        _ => Err(format!("{}: not counted\n{said}", program.display())),
     }
 }
 

@@ -1,6 +1,7 @@
 // What a row's call is given, on either side.
 use crate::chains::{self, COOKIE, NAT_DESTINATION, NAT_SOURCE, NOTIFY};
-use unmavreth::{Address, Agreed, Ask, Draft, Flag, Gateway, Opening, Pair, Request, Rule};
+use unmavreth::trace::Entry;
+use unmavreth::{Address, Agreed, Ask, Draft, Flag, Gateway, Opening, Pair, Policy, Request, Rule};
 
 pub enum Job {
     Read { first: u8, body: Vec<u8> },
@@ -30,6 +31,9 @@ pub struct OpeningBoth {
 
 pub const OWNER: u64 = 7;
 const OTHER: u64 = 8;
+/// The two records, each with its first IPsec record, and then its second one.
+const OPENED: [(u64, u32); 2] = [(OWNER, 71), (OTHER, 81)];
+const ADDED: [(u32, u64); 2] = [(72, OWNER), (82, OTHER)];
 const ID: u32 = 3;
 const OLD: Pair = Pair::ipv4(([203, 0, 113, 5], 4500), ([192, 0, 2, 1], 4500));
 const NEW: Pair = Pair::ipv4(([198, 51, 100, 7], 4500), ([192, 0, 2, 1], 4500));
@@ -41,10 +45,10 @@ impl Handling {
     /// This request to the first of two records, each of which owns two IPsec records.
     pub fn of(first: u8, body: Vec<u8>) -> Self {
         let mut gateway = with_policy();
-        for (spi, child) in [(OWNER, 71), (OTHER, 81)] {
+        for (spi, child) in OPENED {
             gateway.open(&opening(spi, child));
         }
-        for (spi, owner) in [(72, OWNER), (82, OTHER)] {
+        for (spi, owner) in ADDED {
             gateway.open_ipsec(spi, owner);
         }
         Handling::on(gateway, first, body)
@@ -87,6 +91,15 @@ impl OpeningBoth {
 
 fn opening(spi: u64, child: u32) -> Opening {
     Opening { spi, agreed: Agreed { mobike: Flag::YES }, pair: OLD, child }
+}
+
+/// The calls that make the policy and the tables of `Handling::of`, as entries of a trace.
+pub fn calls_before() -> Vec<Entry<'static>> {
+    let mut policy = Policy { count: 1, ..Policy::EMPTY };
+    policy.rules[0] = RULE;
+    let opened = OPENED.map(|(spi, child)| Entry::OpenBoth(opening(spi, child)));
+    let added = ADDED.map(|(spi, owner)| Entry::AddIpsec { spi, owner });
+    [Entry::Policy(policy)].into_iter().chain(opened).chain(added).collect()
 }
 
 /// All places in use; the last of 32 records owns this many of 128 IPsec records, the first ones.

@@ -5,6 +5,7 @@ mod convert;
 mod counted;
 mod job;
 mod ours;
+mod replayed;
 mod report;
 mod rows;
 mod second;
@@ -18,7 +19,7 @@ fn main() -> ExitCode {
     let arguments: Vec<&str> = arguments.iter().map(String::as_str).collect();
     let done = match arguments[..] {
         ["--count", counted] => count(counted),
-        [valgrind] => measure(valgrind),
+        [valgrind, replay] => measure(valgrind, replay),
         _ => Err("run it by ./bench".to_string()),
     };
     match done {
@@ -30,8 +31,8 @@ fn main() -> ExitCode {
     }
 }
 
-/// Counts every row, then prints the tables.
-fn measure(valgrind: &str) -> Result<(), String> {
+/// Counts every row and the replays, then prints the tables.
+fn measure(valgrind: &str, replay: &str) -> Result<(), String> {
     let mut figures = Vec::new();
     for row in rows::all() {
         let ours = callgrind::count(valgrind, &row.key, Side::Ours)?;
@@ -39,7 +40,8 @@ fn measure(valgrind: &str) -> Result<(), String> {
         eprintln!("bench: {}: {ours}, {second}", row.key);
         figures.push((row, [ours, second]));
     }
-    print!("{}", report::tables(&figures));
+    let replayed = replayed::count(valgrind, replay)?;
+    print!("{}\n{}", report::tables(&figures), report::replays(&figures, &replayed));
     Ok(())
 }
 

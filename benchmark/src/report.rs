@@ -1,4 +1,5 @@
 // The figures as markdown tables.
+use crate::replayed::Replayed;
 use crate::rows::{Kind, Row, HANDLE_UPDATE, READ_UPDATE};
 use std::fmt::Write;
 
@@ -37,10 +38,7 @@ fn calls(figures: &[Figure]) -> String {
 
 /// The peers only parse: no decision, no tables, no response.
 fn peers(figures: &[Figure]) -> String {
-    let ours = [READ_UPDATE, HANDLE_UPDATE].map(|key| {
-        figures.iter().find(|(row, _)| row.key == key).map_or(0, |(_, [ours, _])| *ours)
-    });
-    let [read, handled] = ours;
+    let [read, handled] = [READ_UPDATE, HANDLE_UPDATE].map(|key| ours_of(figures, key));
     let mut text = "The 112-octet chain beside the peers, which only parse it (no decision, no tables, no response):\n\n".to_string();
     text += "| Peer | Instructions | Ours, read / peer | Ours, whole request / peer |\n|---|---:|---:|---:|\n";
     for (name, [all, stubbed]) in PEERS {
@@ -48,6 +46,31 @@ fn peers(figures: &[Figure]) -> String {
             let name = format!("{name}{what}");
             line(&mut text, &[&name, &grouped(count), &ratio(read, count), &ratio(handled, count)]);
         }
+    }
+    text
+}
+
+fn ours_of(figures: &[Figure], key: &str) -> u64 {
+    figures.iter().find(|(row, _)| row.key == key).map_or(0, |(_, [ours, _])| *ours)
+}
+
+/// An entry's share is told by the difference of two traces, so that what a run takes once isn't in it.
+pub fn replays(figures: &[Figure], replayed: &[Replayed]) -> String {
+    let call = ours_of(figures, HANDLE_UPDATE);
+    let mut text = "\
+A trace of update requests, the 112-octet chain each, replayed by the whole program: the instructions, and the
+difference to the trace above it for each entry that it has more, beside those of the call alone:
+
+| Update requests | Instructions | an entry | of them the call |
+|---:|---:|---:|---:|
+"
+    .to_string();
+    let mut before: Option<Replayed> = None;
+    for &(updates, count) in replayed {
+        let each = before.map(|(fewer, less)| grouped((count - less) / (updates - fewer)));
+        let (each, call) = (each.unwrap_or_default(), before.map(|_| grouped(call)));
+        line(&mut text, &[&grouped(updates), &grouped(count), &each, &call.unwrap_or_default()]);
+        before = Some((updates, count));
     }
     text
 }

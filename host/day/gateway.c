@@ -1,4 +1,4 @@
-// The gateway's calls of the library that take the policy: one function each.
+// The gateway's calls of the library: one function each, which also puts the call into the gateway's trace.
 #include "gateway.h"
 
 #include <string.h>
@@ -15,8 +15,33 @@ gateway gateway_new(void)
     return g;
 }
 
+uint8_t gateway_open(gateway *g, const unmavreth_opening *opening)
+{
+    trace_open_both(&g->trace, opening);
+    return unmavreth_open(&g->tables.ike, g->tables.ipsec, UNMAVRETH_IPSEC_PLACES, *opening);
+}
+
+uint8_t gateway_open_ipsec(gateway *g, uint32_t spi, uint64_t owner)
+{
+    trace_add_ipsec(&g->trace, spi, owner);
+    return unmavreth_open_ipsec(&g->tables.ike, g->tables.ipsec, UNMAVRETH_IPSEC_PLACES, spi, owner);
+}
+
+uint8_t gateway_close_ike(gateway *g, uint64_t spi)
+{
+    trace_close_ike(&g->trace, spi);
+    return unmavreth_close_ike(&g->tables.ike, g->tables.ipsec, UNMAVRETH_IPSEC_PLACES, spi);
+}
+
+uint8_t gateway_close_ipsec(gateway *g, uint32_t spi)
+{
+    trace_close_ipsec(&g->trace, spi);
+    return unmavreth_close_ipsec(g->tables.ipsec, UNMAVRETH_IPSEC_PLACES, spi);
+}
+
 uint8_t gateway_set_policy(gateway *g, uint16_t count, const unmavreth_rules *rules)
 {
+    trace_policy(&g->trace, count, rules);
     return unmavreth_set_policy(&g->policy, count, rules);
 }
 
@@ -36,6 +61,7 @@ static bool is_filled(const uint8_t *octets, size_t length)
 unmavreth_reply gateway_answer(gateway *g, uint64_t spi, uint32_t id, unmavreth_pair packet, const message *request,
                                message *response, bool *kept)
 {
+    trace_request(&g->trace, spi, id, &packet, g->nat_source, g->nat_destination, request);
     memset(response->octets, FILL, sizeof response->octets);
     unmavreth_reply reply = unmavreth_handle(
         &g->tables.ike, g->tables.ipsec, UNMAVRETH_IPSEC_PLACES, &g->policy, spi, id, packet, g->nat_source,

@@ -4,17 +4,23 @@
 
 #include "message.h"
 #include "tables.h"
+#include "trace.h"
 
 typedef struct gateway {
     tables tables;
     unmavreth_policy policy;
     uint8_t nat_source[UNMAVRETH_NAT_OCTETS];
     uint8_t nat_destination[UNMAVRETH_NAT_OCTETS];
+    trace trace; // the calls below but gateway_accepts, which changes nothing
 } gateway;
 
-// Empty tables and an empty policy, which are all zeros, and NAT detection values.
+// Empty tables, an empty policy and an empty trace, which are all zeros, and NAT detection values.
 gateway gateway_new(void);
 
+uint8_t gateway_open(gateway *g, const unmavreth_opening *opening);
+uint8_t gateway_open_ipsec(gateway *g, uint32_t spi, uint64_t owner);
+uint8_t gateway_close_ike(gateway *g, uint64_t spi);
+uint8_t gateway_close_ipsec(gateway *g, uint32_t spi);
 uint8_t gateway_set_policy(gateway *g, uint16_t count, const unmavreth_rules *rules);
 bool gateway_accepts(const gateway *g, unmavreth_pair pair);
 

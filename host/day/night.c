@@ -21,11 +21,9 @@ static void opens_neither(day *d, const unmavreth_opening *opening, uint8_t numb
 // Opens an IPsec record of the neighbour at each free place: at all but that of its first one.
 static void fill_ipsec(day *d)
 {
-    tables *t = &d->gateway.tables;
     unsigned opened = 0;
     for (uint32_t i = 1; i < UNMAVRETH_IPSEC_PLACES; i++)
-        if (unmavreth_open_ipsec(&t->ike, t->ipsec, UNMAVRETH_IPSEC_PLACES, FURTHER_IPSEC + i, NEIGHBOUR_SPI) ==
-            UNMAVRETH_DONE)
+        if (gateway_open_ipsec(&d->gateway, FURTHER_IPSEC + i, NEIGHBOUR_SPI) == UNMAVRETH_DONE)
             opened++;
     printf("  Open further IPsec records of %016" PRIx64 " at all free places: %u opened\n", NEIGHBOUR_SPI, opened);
     check_number(&d->checks, "how many IPsec records were opened", opened, UNMAVRETH_IPSEC_PLACES - 1);

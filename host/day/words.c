@@ -19,6 +19,9 @@ const char *number_words(uint8_t number)
     case UNMAVRETH_FULL: return "all places in use";
     case UNMAVRETH_SPI_IN_USE: return "SPI in use";
     case UNMAVRETH_BAD_POLICY: return "too many rules or a prefix too long";
+    case UNMAVRETH_CUT: return "cut within an entry";
+    case UNMAVRETH_UNKNOWN_KIND: return "unknown kind of an entry";
+    case UNMAVRETH_TOO_LARGE: return "too large for its field";
     default: return "not a number of the library";
     }
 }

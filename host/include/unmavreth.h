@@ -52,7 +52,10 @@ enum unmavreth_number {
     UNMAVRETH_NOT_ACCEPTABLE = 9,    // no rule of the policy matches the packet's pair
     UNMAVRETH_FULL = 10,
     UNMAVRETH_SPI_IN_USE = 11,
-    UNMAVRETH_BAD_POLICY = 12 // over 16 rules, or a prefix too long
+    UNMAVRETH_BAD_POLICY = 12,   // over 16 rules, or a prefix too long
+    UNMAVRETH_CUT = 20,          // a trace ends within an entry, or has a number not shortest or past 64 bits
+    UNMAVRETH_UNKNOWN_KIND = 21, // of an entry of a trace
+    UNMAVRETH_TOO_LARGE = 22     // a number, a count or a length of a trace, for its field
 };
 
 // What became of a request's update, and of its list of additional addresses.
@@ -570,6 +573,122 @@ UNMAVRETH_AT(unmavreth_assessment, cookie_len, 14);
 //       back, or none and no error either); the first error as NAT seen, unacceptable or failed; accepted.
 unmavreth_assessment unmavreth_assess(const uint8_t *sent, size_t sent_size, uint8_t first, const uint8_t *body,
                                       size_t body_size);
+
+// ------------------------------------------------------------------------------------------------------------ traces
+
+// A trace is the calls that were made on a gateway, as octets, one entry behind the other (docs/TRACE.md). The two
+// calls below read and write one entry. What it says stands in slots, in the order of its fields: a number in one; an
+// address in one, its offset in a lent buffer; a string in two, its offset there and its length; a list in one for its
+// count and then those of its items. Of an entry that was read the buffer is the trace itself.
+enum unmavreth_kind {
+    UNMAVRETH_KIND_OPEN_BOTH = 0,   // unmavreth_open
+    UNMAVRETH_KIND_ADD_IPSEC = 1,   // unmavreth_open_ipsec
+    UNMAVRETH_KIND_CLOSE_IKE = 2,   // unmavreth_close_ike
+    UNMAVRETH_KIND_CLOSE_IPSEC = 3, // unmavreth_close_ipsec
+    UNMAVRETH_KIND_REQUEST = 4,     // unmavreth_handle
+    UNMAVRETH_KIND_POLICY = 5       // unmavreth_set_policy
+};
+
+enum unmavreth_entry_limit {
+    UNMAVRETH_ENTRY_SLOTS = 81,   // as many as the widest kind has, a policy
+    UNMAVRETH_STRING_MOST = 4096, // the longest string of an entry
+    UNMAVRETH_ENTRY_MOST = 12352  // octets of the longest entry, a request with three such strings
+};
+
+// The slots of each kind. Those of a pair and of a rule stand behind the one at which it begins, such as
+// slots[UNMAVRETH_OPEN_PAIR + UNMAVRETH_PAIR_SOURCE].
+enum unmavreth_slot {
+    UNMAVRETH_PAIR_FAMILY = 0,
+    UNMAVRETH_PAIR_SOURCE = 1,      // an offset
+    UNMAVRETH_PAIR_DESTINATION = 2, // an offset
+    UNMAVRETH_PAIR_SOURCE_PORT = 3,
+    UNMAVRETH_PAIR_DESTINATION_PORT = 4,
+    UNMAVRETH_PAIR_SLOTS = 5, // how many a pair has
+
+    UNMAVRETH_RULE_FAMILY = 0,
+    UNMAVRETH_RULE_SOURCE = 1,      // an offset
+    UNMAVRETH_RULE_DESTINATION = 2, // an offset
+    UNMAVRETH_RULE_SOURCE_LEN = 3,
+    UNMAVRETH_RULE_DESTINATION_LEN = 4,
+    UNMAVRETH_RULE_SLOTS = 5, // how many a rule has
+
+    UNMAVRETH_OPEN_SPI = 0,
+    UNMAVRETH_OPEN_AGREED = 1, // 0 or 1
+    UNMAVRETH_OPEN_PAIR = 2,   // where the pair begins
+    UNMAVRETH_OPEN_CHILD = 7,
+
+    UNMAVRETH_ADD_SPI = 0,
+    UNMAVRETH_ADD_OWNER = 1,
+
+    UNMAVRETH_CLOSE_IKE_SPI = 0,
+
+    UNMAVRETH_CLOSE_IPSEC_SPI = 0,
+
+    UNMAVRETH_REQUEST_SPI = 0,
+    UNMAVRETH_REQUEST_ID = 1,
+    UNMAVRETH_REQUEST_PAIR = 2,       // where the pair begins
+    UNMAVRETH_REQUEST_NAT_SOURCE = 7, // an offset
+    UNMAVRETH_REQUEST_NAT_SOURCE_SIZE = 8,
+    UNMAVRETH_REQUEST_NAT_DESTINATION = 9, // an offset
+    UNMAVRETH_REQUEST_NAT_DESTINATION_SIZE = 10,
+    UNMAVRETH_REQUEST_FIRST = 11,
+    UNMAVRETH_REQUEST_BODY = 12, // an offset
+    UNMAVRETH_REQUEST_BODY_SIZE = 13,
+
+    UNMAVRETH_POLICY_COUNT = 0,
+    UNMAVRETH_POLICY_RULES = 1 // where the first rule begins
+};
+
+// Where the rule of this ordinal, from 0, begins in the slots of a policy.
+#define UNMAVRETH_POLICY_RULE(ordinal) (UNMAVRETH_POLICY_RULES + (ordinal) * UNMAVRETH_RULE_SLOTS)
+
+UNMAVRETH_ASSERT(UNMAVRETH_ENTRY_SLOTS == UNMAVRETH_POLICY_RULE((size_t)UNMAVRETH_RULES_MOST), "ENTRY_SLOTS");
+// Seven bits an octet: 10 octets for 64 bits, 5 for 32, 3 for 16, 2 for 8 and for a string's length.
+UNMAVRETH_ASSERT(UNMAVRETH_ENTRY_MOST == 1 + 10 + 5 + (2 + 2 * UNMAVRETH_ADDRESS_OCTETS + 2 * 3) +
+                                             3 * (2 + UNMAVRETH_STRING_MOST) + 2,
+                 "ENTRY_MOST");
+
+typedef struct unmavreth_entry_read {
+    uint8_t number;
+    uint8_t kind;                          // enum unmavreth_kind
+    size_t next;                           // the offset of the first octet behind it
+    uint64_t slots[UNMAVRETH_ENTRY_SLOTS]; // those of its kind; an offset is one in the trace
+} unmavreth_entry_read;
+UNMAVRETH_SIZE(unmavreth_entry_read, 664);
+UNMAVRETH_AT(unmavreth_entry_read, number, 0);
+UNMAVRETH_AT(unmavreth_entry_read, kind, 1);
+UNMAVRETH_AT(unmavreth_entry_read, next, 8);
+UNMAVRETH_AT(unmavreth_entry_read, slots, 16);
+
+// Reads the entry that begins at the offset `at` of the trace. The end of a trace is for the host to see: there, and
+// past it, the answer is 20. Numbers, the first that is met as the octets are read:
+//   20  the octets end within the entry, or a number is not in its shortest form or past 64 bits
+//   21  no kind has this number
+//   22  a number, a count or a length is too large for its field; told before a string or an item is looked for
+//    0  read: every value fits its field, and addresses and strings lie within the trace; slots that its kind does not
+//       have, and those of a list's items past its count, are 0
+// With 20, 21 and 22 every other field is 0.
+unmavreth_entry_read unmavreth_read_entry(const uint8_t *trace, size_t trace_size, size_t at);
+
+typedef struct unmavreth_entry_written {
+    uint8_t number;
+    size_t length; // octets written
+} unmavreth_entry_written;
+UNMAVRETH_SIZE(unmavreth_entry_written, 16);
+UNMAVRETH_AT(unmavreth_entry_written, number, 0);
+UNMAVRETH_AT(unmavreth_entry_written, length, 8);
+
+// Writes an entry; offsets in its slots are those of `source`. Slots that the kind does not have, and those of a list's
+// items past its count, are not looked at. Numbers, in the order of the checks:
+//   21  no kind has this number
+//   22  a number, a count or a length is too large for its field, or an address or a string is not within `source`
+//    2  the output is shorter than the entry
+//    0  written to the start of the output; octets past `length` stay as they were
+// With 21, 22 and 2 every octet of the output stays as it was; `length` is 0. What is written reads back as it was
+// given, and UNMAVRETH_ENTRY_MOST octets are room enough for any entry.
+unmavreth_entry_written unmavreth_write_entry(uint8_t kind, const uint64_t slots[UNMAVRETH_ENTRY_SLOTS],
+                                              const uint8_t *source, size_t source_size, uint8_t *out,
+                                              size_t out_size);
 
 #undef UNMAVRETH_AT
 #undef UNMAVRETH_SIZE

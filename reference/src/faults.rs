@@ -298,6 +298,96 @@ pub enum Fault {
     PlainNotEmpty,
     PlainWithoutNone,
     PlainNeedsUpdate,
+
+    NotShortestRead,
+    TenthOctetUntested,
+    ElevenOctetsRead,
+    NineOctetsMost,
+    Past64Bits22,
+    HighestGroupFirst,
+    JudgedWhileRead,
+    KindBare,
+    KindCut,
+    LargeKind22,
+    UnknownKind20,
+    FieldsBeforeKind,
+    Count17,
+    Count15,
+    CountAfterRules,
+    Length4097,
+    Length4095,
+    LengthAfterOctets,
+    IpsecSpiCut,
+    AgreedCut,
+    IdCut,
+    FamilyCut,
+    PortCut,
+    FirstTypeCut,
+    PrefixLengthCut,
+    FamilyBare,
+    FirstTypeBare,
+    PrefixLengthBare,
+    Ipv4Bare4,
+    ChildSpiSecond,
+    OwnerFirst,
+    IdFirst,
+    NatValuesLast,
+    NatValuesBare,
+    NatLength22,
+    AddressesTurned,
+    PortsTurned,
+    LengthsBetween,
+    Prefix33As22,
+    Unsound22,
+    HalfOpened,
+    PolicyLeftOut,
+    CloseIpsecLeftOut,
+    Lent127,
+    RefusedCallEnds,
+    CutEnds,
+    WindowEnds,
+    PieceEnds,
+    FirstPieceOnly,
+    RefusalOwnOffset,
+    RefusalOrdinal,
+    RefusalWindowOffset,
+    Offset16Bits,
+    PairsAfterRefusal,
+    RefusedUnmade,
+    OrdinalsFrom1,
+    OrdinalOctet,
+    OutcomesExchanged,
+    ListApplied,
+    PairsIkeOnly,
+    PairsIpsecFirst,
+    PairsBySpi,
+    PairsFreePlaces,
+    PairsTurned,
+    PairsSpi32Bits,
+    Pairs4Octets,
+    PairsUpperCase,
+    LastLineUnended,
+    EmptyTraceLine,
+
+    NatValuesTurned,
+    WrittenNotShortest,
+    WrittenHighestFirst,
+    WrittenFamilyBare,
+    WrittenChildSecond,
+    WrittenCut,
+    WrittenAgreedYes,
+    WrittenCount17,
+    WrittenLength4097,
+    WrittenPastCount,
+    WrittenAllRules,
+    WrittenRoomFirst,
+    WrittenOneShort,
+    WrittenOneOver,
+    WrittenFixedRoom,
+    WrittenPartWith2,
+    WrittenBefore22,
+    WrittenLengthWith2,
+    WrittenRestCleared,
 }
 
 const OF_READER: [(Fault, &str); 38] = [
@@ -609,6 +699,100 @@ const OF_ROUND_TRIPS: [(Fault, &str); 20] = [
     (Fault::PlainNeedsUpdate, "plain-needs-update"),
 ];
 
+const OF_TRACES: [(Fault, &str); 69] = [
+    (Fault::NotShortestRead, "not-shortest-read"),
+    (Fault::TenthOctetUntested, "tenth-octet-untested"),
+    (Fault::ElevenOctetsRead, "eleven-octets-read"),
+    (Fault::NineOctetsMost, "nine-octets-most"),
+    (Fault::Past64Bits22, "past-64-bits-22"),
+    (Fault::HighestGroupFirst, "highest-group-first"),
+    (Fault::JudgedWhileRead, "judged-while-read"),
+    (Fault::KindBare, "kind-bare"),
+    (Fault::KindCut, "kind-cut"),
+    (Fault::LargeKind22, "large-kind-22"),
+    (Fault::UnknownKind20, "unknown-kind-20"),
+    (Fault::FieldsBeforeKind, "fields-before-kind"),
+    (Fault::Count17, "count-17"),
+    (Fault::Count15, "count-15"),
+    (Fault::CountAfterRules, "count-after-rules"),
+    (Fault::Length4097, "length-4097"),
+    (Fault::Length4095, "length-4095"),
+    (Fault::LengthAfterOctets, "length-after-octets"),
+    (Fault::IpsecSpiCut, "ipsec-spi-cut"),
+    (Fault::AgreedCut, "agreed-cut"),
+    (Fault::IdCut, "id-cut"),
+    (Fault::FamilyCut, "family-cut"),
+    (Fault::PortCut, "port-cut"),
+    (Fault::FirstTypeCut, "first-type-cut"),
+    (Fault::PrefixLengthCut, "prefix-length-cut"),
+    (Fault::FamilyBare, "family-bare"),
+    (Fault::FirstTypeBare, "first-type-bare"),
+    (Fault::PrefixLengthBare, "prefix-length-bare"),
+    (Fault::Ipv4Bare4, "ipv4-bare-4"),
+    (Fault::ChildSpiSecond, "child-spi-second"),
+    (Fault::OwnerFirst, "owner-first"),
+    (Fault::IdFirst, "id-first"),
+    (Fault::NatValuesLast, "nat-values-last"),
+    (Fault::NatValuesBare, "nat-values-bare"),
+    (Fault::NatLength22, "nat-length-22"),
+    (Fault::AddressesTurned, "addresses-turned"),
+    (Fault::PortsTurned, "ports-turned"),
+    (Fault::LengthsBetween, "lengths-between"),
+    (Fault::Prefix33As22, "prefix-33-as-22"),
+    (Fault::Unsound22, "unsound-22"),
+    (Fault::HalfOpened, "half-opened"),
+    (Fault::PolicyLeftOut, "policy-left-out"),
+    (Fault::CloseIpsecLeftOut, "close-ipsec-left-out"),
+    (Fault::Lent127, "lent-127"),
+    (Fault::RefusedCallEnds, "refused-call-ends"),
+    (Fault::CutEnds, "cut-ends"),
+    (Fault::WindowEnds, "window-ends"),
+    (Fault::PieceEnds, "piece-ends"),
+    (Fault::FirstPieceOnly, "first-piece-only"),
+    (Fault::RefusalOwnOffset, "refusal-own-offset"),
+    (Fault::RefusalOrdinal, "refusal-ordinal"),
+    (Fault::RefusalWindowOffset, "refusal-window-offset"),
+    (Fault::Offset16Bits, "offset-16-bits"),
+    (Fault::PairsAfterRefusal, "pairs-after-refusal"),
+    (Fault::RefusedUnmade, "refused-unmade"),
+    (Fault::OrdinalsFrom1, "ordinals-from-1"),
+    (Fault::OrdinalOctet, "ordinal-octet"),
+    (Fault::OutcomesExchanged, "outcomes-exchanged"),
+    (Fault::ListApplied, "list-applied"),
+    (Fault::PairsIkeOnly, "pairs-ike-only"),
+    (Fault::PairsIpsecFirst, "pairs-ipsec-first"),
+    (Fault::PairsBySpi, "pairs-by-spi"),
+    (Fault::PairsFreePlaces, "pairs-free-places"),
+    (Fault::PairsTurned, "pairs-turned"),
+    (Fault::PairsSpi32Bits, "pairs-spi-32-bits"),
+    (Fault::Pairs4Octets, "pairs-4-octets"),
+    (Fault::PairsUpperCase, "pairs-upper-case"),
+    (Fault::LastLineUnended, "last-line-unended"),
+    (Fault::EmptyTraceLine, "empty-trace-line"),
+];
+
+const OF_ENTRIES: [(Fault, &str); 19] = [
+    (Fault::NatValuesTurned, "nat-values-turned"),
+    (Fault::WrittenNotShortest, "written-not-shortest"),
+    (Fault::WrittenHighestFirst, "written-highest-first"),
+    (Fault::WrittenFamilyBare, "written-family-bare"),
+    (Fault::WrittenChildSecond, "written-child-second"),
+    (Fault::WrittenCut, "written-cut"),
+    (Fault::WrittenAgreedYes, "written-agreed-yes"),
+    (Fault::WrittenCount17, "written-count-17"),
+    (Fault::WrittenLength4097, "written-length-4097"),
+    (Fault::WrittenPastCount, "written-past-count"),
+    (Fault::WrittenAllRules, "written-all-rules"),
+    (Fault::WrittenRoomFirst, "written-room-first"),
+    (Fault::WrittenOneShort, "written-one-short"),
+    (Fault::WrittenOneOver, "written-one-over"),
+    (Fault::WrittenFixedRoom, "written-fixed-room"),
+    (Fault::WrittenPartWith2, "written-part-with-2"),
+    (Fault::WrittenBefore22, "written-before-22"),
+    (Fault::WrittenLengthWith2, "written-length-with-2"),
+    (Fault::WrittenRestCleared, "written-rest-cleared"),
+];
+
 /// A fault by its name, with the kind of cases that must find it.
 #[derive(Debug, Clone, Copy)]
 pub struct NamedFault {
@@ -631,6 +815,8 @@ impl NamedFault {
             Kind::Assess => &OF_ASSESS,
             Kind::Writer => &OF_WRITER,
             Kind::RoundTrips => &OF_ROUND_TRIPS,
+            Kind::Traces => &OF_TRACES,
+            Kind::Entries => &OF_ENTRIES,
         };
         faults.iter().map(move |&(fault, name)| NamedFault { fault, name, kind })
     }
@@ -661,11 +847,13 @@ mod tests {
     use super::*;
     use crate::assess::assess;
     use crate::cases::assess::{self, AssessCases};
+    use crate::cases::entries::EntriesCases;
     use crate::cases::orders::{self, OrdersCases};
     use crate::cases::reader::ReaderCases;
     use crate::cases::requests::{self, RequestsCases};
     use crate::cases::round_trips::RoundTripsCases;
     use crate::cases::tables::TablesCases;
+    use crate::cases::traces::TracesCases;
     use crate::cases::writer::WriterCases;
     use crate::handler::handle;
     use crate::orders::broken;
@@ -724,12 +912,23 @@ mod tests {
         !cases.case(number).holds_of(&Model(Faults::NONE), Faults::only(fault))
     }
 
+    fn shows_in_traces(cases: &TracesCases, number: u64, fault: Fault) -> bool {
+        let case = cases.case(number);
+        case.printed(Faults::NONE) != case.printed(Faults::only(fault))
+    }
+
+    fn shows_in_entries(cases: &EntriesCases, number: u64, fault: Fault) -> bool {
+        let case = cases.case(number);
+        case.outcome(Faults::NONE) != case.outcome(Faults::only(fault))
+    }
+
     #[test]
     fn every_fault_changes_some_outcome() {
         let (reader, tables) = (ReaderCases::new(1), TablesCases::new(1));
         let (requests, orders) = (RequestsCases::new(1), OrdersCases::new(1));
         let (assess, writer) = (AssessCases::new(1), WriterCases::new(1));
         let round_trips = RoundTripsCases::new(1);
+        let (traces, entries) = (TracesCases::new(1), EntriesCases::new(1));
         for NamedFault { fault, name, kind } in NamedFault::all() {
             let found = (0..20_000).any(|number| match kind {
                 Kind::Reader => shows_in_reader(&reader, number, fault),
@@ -739,9 +938,45 @@ mod tests {
                 Kind::Assess => shows_in_assess(&assess, number, fault),
                 Kind::Writer => shows_in_writer(&writer, number, fault),
                 Kind::RoundTrips => shows_in_round_trips(&round_trips, number, fault),
+                Kind::Traces => shows_in_traces(&traces, number, fault),
+                Kind::Entries => shows_in_entries(&entries, number, fault),
             });
             assert!(found, "{name} shows in no case");
         }
+    }
+
+    /// Groups of faults of this kind that no case up to this number tells apart.
+    fn alike<O: PartialEq>(
+        kind: Kind,
+        cases: u64,
+        outcome: impl Fn(u64, Faults) -> O,
+    ) -> Vec<Vec<&'static str>> {
+        let mut groups = vec![NamedFault::of_kind(kind).collect::<Vec<_>>()];
+        for number in 0..cases {
+            let mut split = Vec::new();
+            for group in groups {
+                let mut parts: Vec<(O, Vec<NamedFault>)> = Vec::new();
+                for named in group {
+                    let made = outcome(number, Faults::only(named.fault));
+                    match parts.iter_mut().find(|(other, _)| *other == made) {
+                        Some((_, part)) => part.push(named),
+                        None => parts.push((made, vec![named])),
+                    }
+                }
+                split.extend(parts.into_iter().map(|(_, part)| part).filter(|it| it.len() > 1));
+            }
+            groups = split;
+        }
+        groups.iter().map(|group| group.iter().map(|named| named.name).collect()).collect()
+    }
+
+    #[test]
+    fn no_two_faults_of_traces_or_entries_are_the_same() {
+        let (traces, entries) = (TracesCases::new(1), EntriesCases::new(1));
+        let printed = |number, faults| traces.case(number).printed(faults);
+        assert_eq!(alike(Kind::Traces, 10_000, printed), Vec::<Vec<&str>>::new());
+        let outcome = |number, faults| entries.case(number).outcome(faults);
+        assert_eq!(alike(Kind::Entries, 10_000, outcome), Vec::<Vec<&str>>::new());
     }
 
     #[test]

@@ -9,10 +9,14 @@ pub enum Kind {
     Assess,
     Writer,
     RoundTrips,
+    /// Of the replay.
+    Traces,
+    /// Of what is read and written of a trace, entry by entry.
+    Entries,
 }
 
 impl Kind {
-    pub const ALL: [Kind; 7] = [
+    pub const ALL: [Kind; 9] = [
         Kind::Reader,
         Kind::Tables,
         Kind::Requests,
@@ -20,6 +24,8 @@ impl Kind {
         Kind::Assess,
         Kind::Writer,
         Kind::RoundTrips,
+        Kind::Traces,
+        Kind::Entries,
     ];
 
     pub fn name(self) -> &'static str {
@@ -31,6 +37,8 @@ impl Kind {
             Kind::Assess => "responses",
             Kind::Writer => "writer",
             Kind::RoundTrips => "round-trips",
+            Kind::Traces => "traces",
+            Kind::Entries => "entries",
         }
     }
 }

@@ -40,4 +40,5 @@ pub mod steps;
 pub mod summary;
 pub mod table_fields;
 pub mod tables;
+pub mod trace;
 pub mod writer;

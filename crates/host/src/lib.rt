@@ -3,4 +3,5 @@ pub mod calls;
 pub mod chain;
 pub mod handler;
 pub mod responses;
+pub mod trace;
 pub mod writer;

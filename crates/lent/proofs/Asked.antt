@@ -1,5 +1,6 @@
 -- The calls on the lent list and the lent table that several walks make, each as one step, known by the callee's contract alone. At the head of the context stand what the reference owns and its token, and while the operands are read two items in their stead; what is passed for good leaves what says its last value, behind one item.
---     counts, finds-ipsec, stores-ipsec      a `&mut [IpsecRecord]` to `ipsec_count`, to `ipsec_place`, and for good to `ipsec_store`
+--     counts, finds-ipsec, reads-ipsec, stores-ipsec      a `&mut [IpsecRecord]` to `ipsec_count`, to `ipsec_place`, to
+--                      `ipsec_at`, and for good to `ipsec_store`
 --     finds-ike, reads-ike, stores-ike       a `&mut [IkeRecord; IKE_PLACES]` to `ike_place`, to `ike_at`, and for good
 --                      to `ike_store`.        changes-ike      the same to `ike_change`, beside a `&[u8]`
 --     reads-policy, reads-lent, stores-policy      a `&Policy` to `policy_of`, a `&mut Policy` to it, and for good to `policy_store`.        reads-rules      a `&[Rule; 16]` to `rules_of`
@@ -17,7 +18,7 @@ use Rattle.policy.specs.declared.rules.Policy.{Policy}
 use Rattle.policy.specs.declared.rules.Rule.{Rule}
 use Rattle.policy.proofs.rules.Policy as Y
 use Rattle.policy.proofs.rules.Policy.Laws as Y′
-use Rattle.records.specs.Records.{ikeSpi, ipsecSpi, noIke}
+use Rattle.records.specs.Records.{ikeSpi, ipsecSpi, noIke, noIpsec}
 use Rattle.records.specs.declared.ike.IkeRecord.{IkeRecord}
 use Rattle.records.specs.declared.ipsec.IpsecRecord.{IpsecRecord}
 use Rattle.records.proofs.ike.IkeRecord as I
@@ -41,6 +42,8 @@ use Rattle.lent_ike.proofs.ike.ike_place as home
 use Rattle.lent_ike.proofs.ike.ike_place.Symbol as home-def
 use Rattle.lent_ike.proofs.ike.ike_store as put
 use Rattle.lent_ike.proofs.ike.ike_store.Symbol as put-def
+use Rattle.lent_ipsec.proofs.places.ipsec_at as read-at
+use Rattle.lent_ipsec.proofs.places.ipsec_at.Symbol as read-at-def
 use Rattle.lent_ipsec.proofs.places.ipsec_count as count
 use Rattle.lent_ipsec.proofs.places.ipsec_count.Symbol as count-def
 use Rattle.lent_ipsec.proofs.places.ipsec_place as place
@@ -66,6 +69,21 @@ module _ {M : Type 1} {𝓤 : URA M} {H : Heap 𝓤} {A : Atoms 𝓤} {K : Type 
     finds-ipsec known room k fits os s = lent-list t tt R x (u32 ∷ []) (uint-makes 𝓤 H A W w32, tt) (k, tt) (uint-vals w32 k, tt) ((refl, fits), tt) (λ ν δ.
         calls-for t fm place.ended (place.clauses 𝓤 H A at-mem run) known (((ν ∷ [], tt), (fullShare, tt), tt, (renamed δ x, (k, tt)), (slice-vals x, (uint-vals w32 k, tt))), tt) (id⊢ 𝓤 _) (os _ _)
         (uint-vals w64) (uint-tells w64) (placeOf ipsecSpi k (x .now)) (λ r ws. id⊢ 𝓤 _) (λ is. list-over t tt R x room $ s (is .1)))
+
+    pub reads-ipsec : Triple 𝓤 (C read-at-def.name) (Told 𝓤 H A read-at.ended (read-at.clauses 𝓤 H A at-mem run))
+        → Room R (length (x .now)) → (i : ℕ) → i < 2 ^ 64
+        → ((j k : Item 𝓤) → Opds K W (j ∷ k ∷ Γ) E ops (only (slice-vals x) ∷ vint w64 i ∷ []))
+        → (Is R (getD (x .now) i noIpsec) (rec-vals (getD (x .now) i noIpsec))
+        → Seq K W (‵ (MutSlice erased κ R .own x (slice-vals x)) ∷ ‵ (flft κ q) ∷ Γ)
+        (lands C Λ E d (only (rec-vals (getD (x .now) i noIpsec))) rest p))
+        → Seq K W (‵ (MutSlice erased κ R .own x (slice-vals x)) ∷ ‵ (flft κ q) ∷ Γ)
+        (runs C Λ E (seq (call read-at-def.name ops d) rest) p)
+    reads-ipsec known room i fits os s =
+        lent-list t tt R x (usize ∷ []) (uint-makes 𝓤 H A W w64, tt) (i, tt) (uint-vals w64 i, tt) ((refl, fits), tt)
+        (λ ν δ. calls-for t fm read-at.ended (read-at.clauses 𝓤 H A at-mem run) known
+        (((ν ∷ [], tt), (fullShare, tt), tt, (renamed δ x, (i, tt)), (slice-vals x, (uint-vals w64 i, tt))), tt)
+        (id⊢ 𝓤 _) (os _ _) rec-vals (LL.tells S.the-type S′.the-laws) (getD (x .now) i noIpsec) (λ r ws. id⊢ 𝓤 _)
+        (λ is. list-over t tt R x room $ s is))
 
     pub stores-ipsec : Triple 𝓤 (C store-def.name) (Told 𝓤 H A store.ended (store.clauses 𝓤 H A at-mem run)) → (i : ℕ) (new : IpsecRecord) → Is usize i (uint-vals w64 i) → Is R new (rec-vals new) → ((j : Item 𝓤) → Opds K W (j ∷ Γ) E ops (only (slice-vals x) ∷ vint w64 i ∷ only (rec-vals new) ∷ []))
         → ((zs : List IpsecRecord) → zs ≡ set (x .now) i new → length zs ≡ length (x .now) → Seq K W (‵ (finally R (x .name) zs) ∷ ‵ (flft κ q) ∷ Γ) (lands C Λ E d vunit rest p)) → Seq K W (‵ (MutSlice erased κ R .own x (slice-vals x)) ∷ ‵ (flft κ q) ∷ Γ) (runs C Λ E (seq (call store-def.name ops d) rest) p)

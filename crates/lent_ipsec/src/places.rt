@@ -1,9 +1,11 @@
-// The lent IPsec list: how many records it has, the lowest place with an SPI, and a record stored at a place.
+// The lent IPsec list: how many records it has, the lowest place with an SPI, and the record at a place, read and
+// stored.
 use records::ipsec::IpsecRecord;
+use records::ipsec::no_ipsec;
 ghost use mathlib.Core.Path.{_≡_};
-ghost use lib.ListN.{length, set};
+ghost use lib.ListN.{length, getD, set};
 ghost use Rattle.octets.specs.Lists.{placeOf};
-ghost use Rattle.records.specs.Records.{ipsecSpi};
+ghost use Rattle.records.specs.Records.{ipsecSpi, noIpsec};
 
 // How many records are lent.
 pub fn ipsec_count(records: &[IpsecRecord]) -> usize
@@ -24,6 +26,16 @@ pub fn ipsec_place(records: &[IpsecRecord], spi: u32) -> usize
         place += 1;
     }
     place
+}
+
+// The record at a place; a closed one past the end.
+pub fn ipsec_at(records: &[IpsecRecord], place: usize) -> IpsecRecord
+    ensures { λ r. ⌜ r ≡ getD (now (records .entry)) place noIpsec ⌝ }
+{
+    if place < records.len() {
+        return records[place];
+    }
+    no_ipsec()
 }
 
 // Stores a record at a place; nothing past the end.

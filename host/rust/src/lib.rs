@@ -69,6 +69,7 @@ mod raw;
 mod reader;
 mod records;
 mod responder;
+pub mod trace;
 
 pub use gateway::Gateway;
 pub use initiator::{assess, write, Draft};

@@ -40,8 +40,18 @@ pub const REQUEST_ROOM: usize = NOTIFY_HEADER
     + 2 * (NOTIFY_HEADER + NAT_OCTETS)
     + ADDRESSES_MOST * (NOTIFY_HEADER + IP6_OCTETS)
     + (NOTIFY_HEADER + COOKIE_MOST);
+/// The slots of an entry of a trace: as many as the widest kind has, a policy.
+pub const ENTRY_SLOTS: usize = 1 + RULES_MOST * 5;
+/// The longest string of an entry.
+pub const STRING_MOST: usize = 4096;
+/// The octets of the longest entry, a request with three such strings. A number takes an octet for every
+/// seven bits: 10 for 64, 5 for 32, 3 for 16, 2 for 8 and for a string's length.
+pub const ENTRY_MOST: usize =
+    1 + 10 + 5 + (2 + 2 * ADDRESS_OCTETS + 2 * 3) + 3 * (2 + STRING_MOST) + 2;
 /// Where a record's tally of what is unknown stays.
 pub const TALLY_MOST: u32 = u32::MAX;
 
 const _: () = assert!(RESPONSE_ROOM == 128);
 const _: () = assert!(REQUEST_ROOM == 564);
+const _: () = assert!(ENTRY_SLOTS == 81);
+const _: () = assert!(ENTRY_MOST == 12352);

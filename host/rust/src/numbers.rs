@@ -8,7 +8,7 @@ pub enum Number {
     /// 1: a family other than 4 or 6, an IPv4 tail that isn't zero, an SPI of 0, an IPsec list not of
     /// 128 records, a NAT value not of 20 octets, or a cookie to send not of 0 or 8 to 64 octets.
     BadArgument,
-    /// 2: the output is under 128 octets, or 564 for the writer.
+    /// 2: the output is under 128 octets, 564 for the writer, or shorter than the entry of a trace.
     OutputTooShort,
     /// 3: the body is over 4,096 octets.
     BodyTooLong,
@@ -30,6 +30,12 @@ pub enum Number {
     SpiInUse,
     /// 12: a policy of over 16 rules, or a prefix that is too long.
     BadPolicy,
+    /// 20: a trace ends within an entry, or has a number not in its shortest form or past 64 bits.
+    Cut,
+    /// 21: the kind of an entry of a trace is not known.
+    UnknownKind,
+    /// 22: a number, a count or a length of a trace is too large for its field.
+    TooLarge,
     /// A number that no call gives.
     Other(u8),
 }
@@ -57,6 +63,9 @@ impl From<u8> for Number {
             10 => Number::Full,
             11 => Number::SpiInUse,
             12 => Number::BadPolicy,
+            20 => Number::Cut,
+            21 => Number::UnknownKind,
+            22 => Number::TooLarge,
             other => Number::Other(other),
         }
     }
@@ -78,6 +87,9 @@ impl From<Number> for u8 {
             Number::Full => 10,
             Number::SpiInUse => 11,
             Number::BadPolicy => 12,
+            Number::Cut => 20,
+            Number::UnknownKind => 21,
+            Number::TooLarge => 22,
             Number::Other(other) => other,
         }
     }

@@ -1,10 +1,10 @@
 //! The C interface of `libhost.a`. A start and a count are those of memory that the caller lends for
 //! the call; nothing lent for writing may overlap anything else that is lent.
 use crate::layout::{
-    AddressList, Ask, Assessment, IkeRecord, IpsecRecord, Offsets, Opening, Pair, Part, Policy,
-    Reading, Reply, Rule, Written,
+    AddressList, Ask, Assessment, EntryRead, EntryWritten, IkeRecord, IpsecRecord, Offsets,
+    Opening, Pair, Part, Policy, Reading, Reply, Rule, Written,
 };
-use crate::limits::{IKE_PLACES, RULES_MOST};
+use crate::limits::{ENTRY_SLOTS, IKE_PLACES, RULES_MOST};
 
 extern "C" {
     pub(crate) fn unmavreth_read(first: u8, body: *const u8, body_size: usize) -> Reading;
@@ -112,4 +112,16 @@ extern "C" {
         out: *mut u8,
         out_size: usize,
     ) -> Reply;
+
+    pub(crate) fn unmavreth_read_entry(trace: *const u8, trace_size: usize, at: usize)
+        -> EntryRead;
+
+    pub(crate) fn unmavreth_write_entry(
+        kind: u8,
+        slots: *const [u64; ENTRY_SLOTS],
+        source: *const u8,
+        source_size: usize,
+        out: *mut u8,
+        out_size: usize,
+    ) -> EntryWritten;
 }

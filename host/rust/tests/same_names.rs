@@ -1,10 +1,15 @@
 //! Limits and numbers have the same names and values here, in the C header and in the library's own code.
 use unmavreth::limits::*;
+use unmavreth::trace::Kind;
 use unmavreth::Number;
 
 const HEADER: &str = include_str!("../../include/unmavreth.h");
 const LIMITS: &str = include_str!("../../../crates/octets/src/limits.rt");
 const NUMBERS: &str = include_str!("../../../crates/octets/src/number.rt");
+const REFUSALS: &str = include_str!("../../../crates/fields/src/refusal.rt");
+const FIELDS: &str = include_str!("../../../crates/fields/src/codes.rt");
+const ENTRIES: &str = include_str!("../../../crates/entries/src/lib.rt");
+const KINDS: &str = include_str!("../../../crates/entries/src/kind.rt");
 
 /// Whether the text has these words, and neither digits nor letters behind them.
 fn says(text: &str, words: &str) -> bool {
@@ -52,18 +57,47 @@ fn sum_of(name: &str) -> String {
     here[from..].split_inclusive(';').next().unwrap_or_default().to_owned()
 }
 
+/// A name as the header has it, with an underscore before each word.
+fn in_capitals(name: &str) -> String {
+    let mut words = String::new();
+    for letter in name.chars() {
+        if letter.is_ascii_uppercase() {
+            words.push('_');
+        }
+        words.push(letter.to_ascii_uppercase());
+    }
+    words
+}
+
 #[test]
 fn numbers() {
-    for octet in 0..=12 {
+    for octet in (0..=12).chain(20..=22) {
         let name = format!("{:?}", Number::from(octet));
-        assert!(says(NUMBERS, &format!("Number::{name} => {octet}")), "{name} in the library");
-        let mut word = String::new();
-        for letter in name.chars() {
-            if letter.is_ascii_uppercase() {
-                word.push('_');
-            }
-            word.push(letter.to_ascii_uppercase());
-        }
+        let (words, whose) = if octet < 20 { (NUMBERS, "Number") } else { (REFUSALS, "Refusal") };
+        assert!(says(words, &format!("{whose}::{name} => {octet}")), "{name} in the library");
+        let word = in_capitals(&name);
         assert!(says(HEADER, &format!("UNMAVRETH{word} = {octet}")), "{name} in the header");
     }
+}
+
+#[test]
+fn kinds_of_entries() {
+    for octet in 0..=5 {
+        let name = format!("{:?}", Kind::from(octet));
+        assert!(says(KINDS, &format!("Kind::{name} => {octet}")), "{name} in the library");
+        let word = in_capitals(&name);
+        assert!(says(HEADER, &format!("UNMAVRETH_KIND{word} = {octet}")), "{name} in the header");
+    }
+}
+
+#[test]
+fn limits_of_entries() {
+    for (name, value) in
+        [("ENTRY_SLOTS", ENTRY_SLOTS), ("STRING_MOST", STRING_MOST), ("ENTRY_MOST", ENTRY_MOST)]
+    {
+        assert!(says(HEADER, &format!("UNMAVRETH_{name} = {value}")), "{name} in the header");
+    }
+    assert!(says(ENTRIES, &format!("pub const ENTRY_SLOTS: usize = {ENTRY_SLOTS}")));
+    assert!(says(FIELDS, &format!("pub const STRING_MOST: u64 = {STRING_MOST}")));
+    assert!(says(FIELDS, &format!("pub const LIST_PLACES: usize = {RULES_MOST}")));
 }

@@ -1,9 +1,11 @@
 // The cases that the programs are compared on: each one is made from the seed and its number alone.
 pub mod assess;
+pub mod entries;
 pub mod orders;
 pub mod reader;
 pub mod requests;
 pub mod round_trips;
 mod seeded;
 pub mod tables;
+pub mod traces;
 pub mod writer;

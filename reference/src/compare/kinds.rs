@@ -6,6 +6,7 @@ use crate::report::Detail;
 use crate::requests;
 use crate::round_trips;
 use crate::tables;
+use crate::traces;
 use crate::writer;
 use reference::cases::assess::AssessCases;
 use reference::cases::orders::OrdersCases;
@@ -13,12 +14,14 @@ use reference::cases::reader::ReaderCases;
 use reference::cases::requests::RequestsCases;
 use reference::cases::round_trips::RoundTripsCases;
 use reference::cases::tables::TablesCases;
+use reference::cases::traces::TracesCases;
 use reference::cases::writer::WriterCases;
 use reference::faults::{Faults, NamedFault};
 use reference::kind::Kind;
+use std::io;
 
 /// The kinds whose calls the library has, in the order in which they take turns in a run of all.
-pub const TURNS: &[Kind] = &[
+const OF_CALLS: [Kind; 14] = [
     Kind::Reader,
     Kind::Requests,
     Kind::Tables,
@@ -35,13 +38,19 @@ pub const TURNS: &[Kind] = &[
     Kind::RoundTrips,
 ];
 
+/// The turns of all kinds. A trace has one less often, since a program is started for each.
+pub fn turns() -> Vec<Kind> {
+    [&OF_CALLS[..], &OF_CALLS, &[Kind::Traces]].concat()
+}
+
 pub fn named(name: &str) -> Option<Kind> {
-    TURNS.iter().copied().find(|kind| kind.name() == name)
+    turns().into_iter().find(|kind| kind.name() == name)
 }
 
 /// The deliberate faults of these kinds.
 pub fn faults() -> impl Iterator<Item = NamedFault> {
-    NamedFault::all().filter(|named| TURNS.contains(&named.kind))
+    let kinds = turns();
+    NamedFault::all().filter(move |named| kinds.contains(&named.kind))
 }
 
 /// What came of one case.
@@ -68,6 +77,7 @@ pub struct Cases {
     assess: AssessCases,
     writer: WriterCases,
     round_trips: RoundTripsCases,
+    traces: TracesCases,
 }
 
 impl Cases {
@@ -80,11 +90,28 @@ impl Cases {
             assess: AssessCases::new(seed),
             writer: WriterCases::new(seed),
             round_trips: RoundTripsCases::new(seed),
+            traces: TracesCases::new(seed),
         }
     }
 
-    pub fn run(&self, kind: Kind, number: u64, faults: Faults, detail: Detail) -> Verdict {
-        match kind {
+    /// Whether the case can tell a program with these faults from a sound one. Of a trace this is found
+    /// without starting a program; other cases are just run.
+    pub fn may_tell(&self, kind: Kind, number: u64, faults: Faults) -> bool {
+        if kind != Kind::Traces {
+            return true;
+        }
+        let case = self.traces.case(number);
+        case.printed(faults) != case.printed(Faults::NONE)
+    }
+
+    pub fn run(
+        &self,
+        kind: Kind,
+        number: u64,
+        faults: Faults,
+        detail: Detail,
+    ) -> io::Result<Verdict> {
+        Ok(match kind {
             Kind::Reader => reader::run(self.reader.case(number), faults, detail),
             Kind::Tables => tables::run(self.tables.case(number), faults, detail),
             Kind::Requests => requests::run(self.requests.case(number), faults, detail),
@@ -92,6 +119,8 @@ impl Cases {
             Kind::Assess => assess::run(self.assess.case(number), faults, detail),
             Kind::Writer => writer::run(self.writer.case(number), faults, detail),
             Kind::RoundTrips => round_trips::run(self.round_trips.case(number), faults, detail),
-        }
+            Kind::Traces => traces::run(self.traces.case(number), faults, detail)?,
+            Kind::Entries => unreachable!("the library has no such call"),
+        })
     }
 }

@@ -9,6 +9,7 @@ mod report;
 mod requests;
 mod round_trips;
 mod tables;
+mod traces;
 mod writer;
 
 use arguments::{Arguments, Mode, USAGE};
@@ -56,7 +57,7 @@ struct Run<'a> {
 impl<'a> Run<'a> {
     fn new(arguments: &'a Arguments) -> Self {
         let only = arguments.only.or(arguments.fault.map(|named| named.kind));
-        let turns = only.map_or(kinds::TURNS.to_vec(), |kind| vec![kind]);
+        let turns = only.map_or_else(kinds::turns, |kind| vec![kind]);
         Run { arguments, cases: Cases::new(arguments.seed), turns }
     }
 
@@ -83,7 +84,7 @@ impl<'a> Run<'a> {
         let mut differences = 0;
         for place in places {
             let (kind, number) = self.kind_and_number(place);
-            let verdict = self.cases.run(kind, number, faults, detail);
+            let verdict = self.cases.run(kind, number, faults, detail)?;
             if !verdict.agrees {
                 differences += 1;
             }
@@ -107,7 +108,7 @@ impl<'a> Run<'a> {
         for named in kinds::faults().filter(|named| self.turns.contains(&named.kind)) {
             let (name, kind) = (named.name, named.kind.name());
             tried += 1;
-            match self.first_difference(named) {
+            match self.first_difference(named)? {
                 Some(number) => {
                     found += 1;
                     writeln!(out, "{name}: found in {kind} case {number}")?;
@@ -121,10 +122,18 @@ impl<'a> Run<'a> {
     }
 
     /// The number of the first case of the fault's kind in which it makes a difference.
-    fn first_difference(&self, NamedFault { fault, kind, .. }: NamedFault) -> Option<u64> {
+    fn first_difference(
+        &self,
+        NamedFault { fault, kind, .. }: NamedFault,
+    ) -> io::Result<Option<u64>> {
         let places = (0..self.arguments.cases).map(|place| self.kind_and_number(place));
-        let mut numbers = places.filter(|place| place.0 == kind).map(|place| place.1);
+        let numbers = places.filter(|place| place.0 == kind).map(|place| place.1);
         let faults = Faults::only(fault);
-        numbers.find(|&number| !self.cases.run(kind, number, faults, Detail::Nothing).agrees)
+        for number in numbers.filter(|&number| self.cases.may_tell(kind, number, faults)) {
+            if !self.cases.run(kind, number, faults, Detail::Nothing)?.agrees {
+                return Ok(Some(number));
+            }
+        }
+        Ok(None)
     }
 }

@@ -16,6 +16,7 @@ macro_rules! laid_out {
 mod addresses;
 mod answers;
 mod chain;
+mod entries;
 mod flag;
 mod rules;
 mod tables;
@@ -25,6 +26,7 @@ pub use addresses::{Address, Pair};
 pub(crate) use answers::Part;
 pub use answers::{Assessment, Reply, Written};
 pub use chain::{Ask, Offsets, Reading, Seen, Tally};
+pub(crate) use entries::{EntryRead, EntryWritten};
 pub use flag::Flag;
 pub use rules::{Policy, Rule};
 pub use tables::{Agreed, IkeRecord, IpsecRecord, Opening};

@@ -75,7 +75,7 @@ pub fn ike_spi(rng: &mut Rng, tables: &Tables, in_use: usize) -> u64 {
 }
 
 /// As `ike_spi`, of the other table.
-fn ipsec_spi(rng: &mut Rng, tables: &Tables, in_use: usize) -> u32 {
+pub fn ipsec_spi(rng: &mut Rng, tables: &Tables, in_use: usize) -> u32 {
     let few = rng.pick(&spis::FEW_IPSEC);
     let other = other_ipsec_spi(rng);
     let there = spi_in_use(rng, &tables.ipsec.records).map_or(few, |spi| spi as u32);

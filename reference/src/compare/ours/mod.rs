@@ -1,7 +1,10 @@
-// The verified library: its C interface, and its answers in the form in which they are compared.
+// The verified library: its C interface, and its answers in the form in which they are compared. And the
+// verified program that replays a trace.
 pub mod assess;
 pub mod cookie;
+mod pipe;
 pub mod reader;
+pub mod replay;
 pub mod requests;
 pub mod tables;
 pub mod writer;

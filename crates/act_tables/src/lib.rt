@@ -1,0 +1,98 @@
+// The entries that open and close records: each is passed on to the call that a host links.
+use given::calling::child_in;
+use given::calling::opening_in;
+use given::calling::owner_in;
+use given::calling::spi_in;
+use given::outcome::Outcome;
+use given::outcome::numbered;
+use given::reading::Slots;
+use host::calls::unmavreth_close_ike;
+use host::calls::unmavreth_close_ipsec;
+use host::calls::unmavreth_open;
+use host::calls::unmavreth_open_ipsec;
+use octets::limits::IKE_PLACES;
+use policy::rules::Policy;
+use records::ike::IkeRecord;
+use records::ipsec::IpsecRecord;
+ghost use Rattle.acts.specs.Performed.{Performs, openedBy, addedBy, closedBy, childClosedBy};
+
+// Opens an IKE record and its first IPsec record.
+pub fn open_entry(
+    ike: &mut [IkeRecord; IKE_PLACES],
+    ipsec: &mut [IpsecRecord],
+    policy: &mut Policy,
+    window: &[u8],
+    e: Slots,
+    out: &mut [u8],
+) -> Outcome
+    ensures { λ r. ⌜ (
+        let act = openedBy (now (window .entry)) (e .slots) in
+        Performs act (now (ike .entry)) (now (ipsec .entry)) (now (policy .entry))
+        r (now (ike .exit)) (now (ipsec .exit)) (now (policy .exit))
+        ) ⌝ }
+{
+    let o = opening_in(window, e);
+    let number = unmavreth_open(ike, ipsec, o);
+    numbered(number)
+}
+
+// Opens another IPsec record.
+pub fn add_entry(
+    ike: &mut [IkeRecord; IKE_PLACES],
+    ipsec: &mut [IpsecRecord],
+    policy: &mut Policy,
+    window: &[u8],
+    e: Slots,
+    out: &mut [u8],
+) -> Outcome
+    ensures { λ r. ⌜ (
+        let act = addedBy (e .slots) in
+        Performs act (now (ike .entry)) (now (ipsec .entry)) (now (policy .entry))
+        r (now (ike .exit)) (now (ipsec .exit)) (now (policy .exit))
+        ) ⌝ }
+{
+    let spi = child_in(e);
+    let owner = owner_in(e);
+    let number = unmavreth_open_ipsec(ike, ipsec, spi, owner);
+    numbered(number)
+}
+
+// Closes an IKE record.
+pub fn close_entry(
+    ike: &mut [IkeRecord; IKE_PLACES],
+    ipsec: &mut [IpsecRecord],
+    policy: &mut Policy,
+    window: &[u8],
+    e: Slots,
+    out: &mut [u8],
+) -> Outcome
+    ensures { λ r. ⌜ (
+        let act = closedBy (e .slots) in
+        Performs act (now (ike .entry)) (now (ipsec .entry)) (now (policy .entry))
+        r (now (ike .exit)) (now (ipsec .exit)) (now (policy .exit))
+        ) ⌝ }
+{
+    let spi = spi_in(e);
+    let number = unmavreth_close_ike(ike, ipsec, spi);
+    numbered(number)
+}
+
+// Closes an IPsec record.
+pub fn close_child_entry(
+    ike: &mut [IkeRecord; IKE_PLACES],
+    ipsec: &mut [IpsecRecord],
+    policy: &mut Policy,
+    window: &[u8],
+    e: Slots,
+    out: &mut [u8],
+) -> Outcome
+    ensures { λ r. ⌜ (
+        let act = childClosedBy (e .slots) in
+        Performs act (now (ike .entry)) (now (ipsec .entry)) (now (policy .entry))
+        r (now (ike .exit)) (now (ipsec .exit)) (now (policy .exit))
+        ) ⌝ }
+{
+    let spi = child_in(e);
+    let number = unmavreth_close_ipsec(ipsec, spi);
+    numbered(number)
+}

@@ -1,0 +1,3 @@
+-- What the walks of the acts share.
+pub mod Signed
+pub mod Shared

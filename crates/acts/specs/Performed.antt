@@ -1,0 +1,105 @@
+-- Trusted. What an entry's call comes to by its slots, on any tables, as the code makes it: the definitions of the
+-- exported calls' contracts on what `Given` takes from the slots.
+--   Gateway                 the tables and the policy that calls are made on
+--   Performed, Performs     what is printed and what is left, and that the code gives and leaves it
+--   openedBy … handledBy    of each kind; ikeShownBy, ipsecShownBy: of a record that is shown
+--   performed               of whatever number
+use Prim.Native.Nat.{ℕ}
+use mathlib.Core.Path.{_≡_}
+use mathlib.Core.Bool.{cond}
+use mathlib.Core.List.{List}
+use lib.Dec.{eqb}
+use lib.ListN.{length, getD}
+use Rattle.records.specs.Records.{noIke, noIpsec}
+use Rattle.records.specs.declared.ike.IkeRecord.{IkeRecord}
+use Rattle.records.specs.declared.ipsec.IpsecRecord.{IpsecRecord}
+use Rattle.policy.specs.Policy.{setPolicy}
+use Rattle.policy.specs.declared.rules.Policy.{Policy}
+use Rattle.tables.specs.Calls.{openBoth, openIpsec, closeIke, closeIpsec}
+use Rattle.answering.specs.Core.{asked}
+use Rattle.checking.specs.Checks.{Request, requestOf}
+use Rattle.responder.specs.Handle.{handled}
+use Rattle.given.specs.Given.{openingIn, requestIn, rulesIn, spiIn, childIn, ownerIn, countIn, stringIn}
+use Rattle.given.specs.Outcome.{numberedBy, repliedBy, shownOf}
+use Rattle.given.specs.declared.outcome.Outcome.{Outcome}
+
+pub record Gateway : Type 0 where
+  pub ike : List IkeRecord
+  pub ipsec : List IpsecRecord
+  pub policy : Policy
+
+abbrev pub gateway : List IkeRecord → List IpsecRecord → Policy → Gateway
+gateway ike ipsec policy = record { ike = ike; ipsec = ipsec; policy = policy }
+
+pub record Performed : Type 0 where
+  pub outcome : Outcome
+  pub after : Gateway
+
+abbrev pub gives : Outcome → Gateway → Performed
+gives outcome after = record { outcome = outcome; after = after }
+
+module _ (act : Gateway → Performed) (ike : List IkeRecord) (ipsec : List IpsecRecord) (policy : Policy) where
+  pub record Performs (r : Outcome) (ike-after : List IkeRecord) (ipsec-after : List IpsecRecord)
+      (policy-after : Policy) : Type 0 where
+    pub outcome : r ≡ act (gateway ike ipsec policy) .outcome
+    pub records : ike-after ≡ act (gateway ike ipsec policy) .after .ike
+    pub owned : ipsec-after ≡ act (gateway ike ipsec policy) .after .ipsec
+    pub rules : policy-after ≡ act (gateway ike ipsec policy) .after .policy
+
+abbrev pub openedBy : List ℕ → List ℕ → Gateway → Performed
+openedBy s slots g =
+    let a = openBoth (g .ike) (g .ipsec) (openingIn s slots) in
+    gives (numberedBy (a .number)) (gateway (a .ike) (a .ipsec) (g .policy))
+
+abbrev pub addedBy : List ℕ → Gateway → Performed
+addedBy slots g =
+    let a = openIpsec (g .ike) (g .ipsec) (childIn slots) (ownerIn slots) in
+    gives (numberedBy (a .number)) (gateway (g .ike) (a .ipsec) (g .policy))
+
+abbrev pub closedBy : List ℕ → Gateway → Performed
+closedBy slots g =
+    let a = closeIke (g .ike) (g .ipsec) (spiIn slots) in
+    gives (numberedBy (a .number)) (gateway (a .ike) (a .ipsec) (g .policy))
+
+abbrev pub childClosedBy : List ℕ → Gateway → Performed
+childClosedBy slots g =
+    let a = closeIpsec (g .ipsec) (childIn slots) in
+    gives (numberedBy (a .number)) (gateway (g .ike) (a .ipsec) (g .policy))
+
+abbrev pub policySetBy : List ℕ → List ℕ → Gateway → Performed
+policySetBy s slots g =
+    let a = setPolicy (g .policy) (countIn slots) (rulesIn s slots) in
+    gives (numberedBy (a .number)) (gateway (g .ike) (g .ipsec) (a .policy))
+
+-- a request with so much room for its response
+abbrev pub requestBy : List ℕ → List ℕ → ℕ → Request
+requestBy s slots room =
+    let q = requestIn s slots in
+    let nat-source = stringIn s (q .«nat_source» .at) (q .«nat_source» .size) in
+    let nat-destination = stringIn s (q .«nat_destination» .at) (q .«nat_destination» .size) in
+    let body = stringIn s (q .body .at) (q .body .size) in
+    requestOf (q .spi) (asked (q .id) (q .pair) nat-source nat-destination (q .first) body) room
+
+abbrev pub handledBy : List ℕ → List ℕ → ℕ → Gateway → Performed
+handledBy s slots room g =
+    let a = handled (g .policy) (g .ike) (g .ipsec) (requestBy s slots room) in
+    gives (repliedBy (a .reply)) (gateway (a .ike) (a .ipsec) (g .policy))
+
+abbrev pub ikeShownBy : List ℕ → Gateway → Performed
+ikeShownBy slots g =
+    let x = getD (g .ike) (spiIn slots) noIke in
+    gives (shownOf (x .spi) (x .pair)) g
+
+abbrev pub ipsecShownBy : List ℕ → Gateway → Performed
+ipsecShownBy slots g =
+    let x = getD (g .ipsec) (spiIn slots) noIpsec in
+    gives (shownOf (x .spi) (x .pair)) g
+
+abbrev pub performed : ℕ → List ℕ → List ℕ → ℕ → Gateway → Performed
+performed kind s slots room =
+    cond (eqb kind 0) (openedBy s slots)
+    (cond (eqb kind 1) (addedBy slots)
+    (cond (eqb kind 2) (closedBy slots)
+    (cond (eqb kind 3) (childClosedBy slots)
+    (cond (eqb kind 4) (handledBy s slots room)
+    (cond (eqb kind 5) (policySetBy s slots) (cond (eqb kind 254) (ikeShownBy slots) (ipsecShownBy slots)))))))

@@ -1,0 +1,56 @@
+// What a replay starts with: empty tables, a policy with no rule, and buffers.
+use octets::limits::ADDRESS_OCTETS;
+use octets::limits::IKE_PLACES;
+use octets::limits::IPSEC_PLACES;
+use octets::limits::RESPONSE_ROOM;
+use octets::limits::RULES_MOST;
+use policy::rules::Policy;
+use policy::rules::Rule;
+use records::ike::IkeRecord;
+use records::ike::no_ike;
+use records::ipsec::IpsecRecord;
+use records::ipsec::no_ipsec;
+ghost use mathlib.Core.Path.{_≡_};
+ghost use lib.ListN.{replicate};
+ghost use Rattle.octets.specs.Limits.{ikePlaces, ipsecPlaces, rulesMost};
+ghost use Rattle.policy.specs.Policy.{noRule};
+ghost use Rattle.records.specs.Records.{noIke, noIpsec};
+
+// The octets of the window: an entry and what must be seen behind it fit.
+pub const WINDOW: usize = 16384;
+
+pub fn no_ikes() -> [IkeRecord; IKE_PLACES]
+    ensures { λ r. ⌜ r ≡ replicate ikePlaces noIke ⌝ }
+{
+    let k = no_ike();
+    [k; IKE_PLACES]
+}
+
+pub fn no_ipsecs() -> [IpsecRecord; IPSEC_PLACES]
+    ensures { λ r. ⌜ r ≡ replicate ipsecPlaces noIpsec ⌝ }
+{
+    let k = no_ipsec();
+    [k; IPSEC_PLACES]
+}
+
+pub fn no_policy() -> Policy
+    ensures { λ r. ⌜ r ≡ record { count = 0; rules = replicate rulesMost noRule } ⌝ }
+{
+    let none = Rule {
+        family: 0,
+        source: [0u8; ADDRESS_OCTETS],
+        destination: [0u8; ADDRESS_OCTETS],
+        source_len: 0,
+        destination_len: 0,
+    };
+    let rules = [none; RULES_MOST];
+    Policy { count: 0, rules }
+}
+
+pub fn no_window() -> [u8; WINDOW] {
+    [0u8; WINDOW]
+}
+
+pub fn no_response() -> [u8; RESPONSE_ROOM] {
+    [0u8; RESPONSE_ROOM]
+}

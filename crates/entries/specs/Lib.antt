@@ -1,0 +1,4 @@
+pub mod Kinds
+pub mod Slots
+pub mod Entries
+pub mod Writing

@@ -1,0 +1,55 @@
+// The kinds of entries, by their numbers.
+ghost use mathlib.Core.Path.{_≡_};
+ghost use Rattle.entries.specs.Kinds.{kindNumber};
+ghost use Rattle.entries.specs.Entries.{kindOf};
+
+pub enum Kind {
+    OpenBoth,
+    AddIpsec,
+    CloseIke,
+    CloseIpsec,
+    Request,
+    Policy,
+}
+
+pub enum Known {
+    Is(Kind),
+    Unknown,
+}
+
+pub fn kind_of(n: u64) -> Known
+    ensures { λ r. ⌜ r ≡ kindOf n ⌝ }
+{
+    if n == 0 {
+        return Known::Is(Kind::OpenBoth);
+    }
+    if n == 1 {
+        return Known::Is(Kind::AddIpsec);
+    }
+    if n == 2 {
+        return Known::Is(Kind::CloseIke);
+    }
+    if n == 3 {
+        return Known::Is(Kind::CloseIpsec);
+    }
+    if n == 4 {
+        return Known::Is(Kind::Request);
+    }
+    if n == 5 {
+        return Known::Is(Kind::Policy);
+    }
+    Known::Unknown
+}
+
+pub fn kind_number(kind: Kind) -> u8
+    ensures { λ r. ⌜ r ≡ kindNumber kind ⌝ }
+{
+    match kind {
+        Kind::OpenBoth => 0,
+        Kind::AddIpsec => 1,
+        Kind::CloseIke => 2,
+        Kind::CloseIpsec => 3,
+        Kind::Request => 4,
+        Kind::Policy => 5,
+    }
+}

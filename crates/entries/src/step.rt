@@ -1,0 +1,9 @@
+// What reading an entry comes to.
+use crate::kind::Kind;
+use fields::refusal::Refusal;
+
+pub enum EntryStep {
+    // its kind, and the place after it
+    Entry(Kind, usize),
+    Refused(Refusal),
+}

@@ -1,0 +1,1 @@
+// Laws of every field: both round trips, and how much of a buffer decides. Proofs and no code.

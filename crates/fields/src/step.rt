@@ -1,0 +1,8 @@
+// What reading a field comes to.
+use crate::refusal::Refusal;
+
+pub enum Step {
+    // the place after what was read
+    At(usize),
+    Refused(Refusal),
+}

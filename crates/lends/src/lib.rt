@@ -1,0 +1,1 @@
+// Steps of walks whose locals are lent for a call; no code.

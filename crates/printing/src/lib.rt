@@ -1,0 +1,2 @@
+// Lines of the replay program as octets in a lent buffer.
+pub mod lines;

@@ -1,0 +1,100 @@
+-- No call changes how many places the tables have. Assumes nothing.
+use Prim.Native.Nat.{ℕ}
+use mathlib.Core.Path.{_≡_, refl}
+use mathlib.Core.Bool.{Bool, true, false, cond}
+use mathlib.Core.List.{List, map}
+use lib.Dec.{eqb}
+use lib.ListN.{length, length-set, length-map, length-replicate}
+use Rattle.octets.specs.Limits.{ikePlaces, ipsecPlaces}
+use Rattle.octets.specs.Checks.{firstFailed}
+use Rattle.records.specs.Records.{noIke, noIpsec, follows}
+use Rattle.records.specs.declared.ipsec.IpsecRecord.{IpsecRecord}
+use Rattle.tables.specs.Calls.{openingChecks, addingChecks, closingChecks, hasIke, hasIpsec}
+use Rattle.tables.specs.declared.calls.Opening.{Opening}
+use Rattle.tables.specs.Calls.{openBoth, openIpsec, closeIke, closeIpsec}
+use Rattle.answering.specs.Core.{coreResult}
+use Rattle.checking.specs.Checks.{Request}
+use Rattle.responder.specs.Handle.{meant, earlyNumber, handled}
+use Rattle.fields.specs.Fields.{Value}
+use Rattle.entries.specs.Kinds.{fieldsOf}
+use Rattle.entries.specs.declared.kind.Kind.{Kind}
+use Rattle.entries.specs.declared.kind.Kind.the-variants as kind
+use Rattle.acts.specs.Performed.{Gateway, gateway}
+use Rattle.replays.specs.Calls.{openingOf, requestFrom, calledAs, empty}
+
+pub record Sized (g : Gateway) : Type 0 where
+  pub ikes : length (g .ike) ≡ ikePlaces
+  pub ipsecs : length (g .ipsec) ≡ ipsecPlaces
+
+pub empty-sized : Sized empty
+empty-sized = record { ikes = length-replicate ikePlaces noIke; ipsecs = length-replicate ipsecPlaces noIpsec }
+
+-- ---- each call, by its number
+opened : (g : Gateway) (o : Opening) → Sized g
+    → let a = openBoth (g .ike) (g .ipsec) o in Sized (gateway (a .ike) (a .ipsec) (g .policy))
+unfolding openBoth
+opened g o h = go (eqb (firstFailed (openingChecks (g .ike) (g .ipsec) o)) 0) refl
+  where
+    go : (b : Bool) → eqb (firstFailed (openingChecks (g .ike) (g .ipsec) o)) 0 ≡ b
+        → let a = openBoth (g .ike) (g .ipsec) o in Sized (gateway (a .ike) (a .ipsec) (g .policy))
+    go true e = rw e (record { ikes = rw length-set (h .ikes); ipsecs = rw length-set (h .ipsecs) })
+    go false e = rw e (record { ikes = h .ikes; ipsecs = h .ipsecs })
+
+added : (g : Gateway) (spi owner : ℕ) → Sized g
+    → Sized (gateway (g .ike) (openIpsec (g .ike) (g .ipsec) spi owner .ipsec) (g .policy))
+unfolding openIpsec
+added g spi owner h = go (eqb (firstFailed (addingChecks (g .ike) (g .ipsec) spi owner)) 0) refl
+  where
+    go : (b : Bool) → eqb (firstFailed (addingChecks (g .ike) (g .ipsec) spi owner)) 0 ≡ b
+        → Sized (gateway (g .ike) (openIpsec (g .ike) (g .ipsec) spi owner .ipsec) (g .policy))
+    go true e = rw e (record { ikes = h .ikes; ipsecs = rw length-set (h .ipsecs) })
+    go false e = rw e (record { ikes = h .ikes; ipsecs = h .ipsecs })
+
+closed : (g : Gateway) (spi : ℕ) → Sized g
+    → let a = closeIke (g .ike) (g .ipsec) spi in Sized (gateway (a .ike) (a .ipsec) (g .policy))
+unfolding closeIke
+closed g spi h = go (eqb (firstFailed (closingChecks (g .ipsec) spi (hasIke spi (g .ike)))) 0) refl
+  where
+    go : (b : Bool) → eqb (firstFailed (closingChecks (g .ipsec) spi (hasIke spi (g .ike)))) 0 ≡ b
+        → let a = closeIke (g .ike) (g .ipsec) spi in Sized (gateway (a .ike) (a .ipsec) (g .policy))
+    go true e = rw e (record { ikes = rw length-set (h .ikes); ipsecs = rw length-map (h .ipsecs) })
+    go false e = rw e (record { ikes = h .ikes; ipsecs = h .ipsecs })
+
+child-closed : (g : Gateway) (spi : ℕ) → Sized g
+    → Sized (gateway (g .ike) (closeIpsec (g .ipsec) spi .ipsec) (g .policy))
+unfolding closeIpsec
+child-closed g spi h = go (eqb (firstFailed (closingChecks (g .ipsec) spi (hasIpsec spi (g .ipsec)))) 0) refl
+  where
+    go : (b : Bool) → eqb (firstFailed (closingChecks (g .ipsec) spi (hasIpsec spi (g .ipsec)))) 0 ≡ b
+        → Sized (gateway (g .ike) (closeIpsec (g .ipsec) spi .ipsec) (g .policy))
+    go true e = rw e (record { ikes = h .ikes; ipsecs = rw length-set (h .ipsecs) })
+    go false e = rw e (record { ikes = h .ikes; ipsecs = h .ipsecs })
+
+followed : (b : Bool) (f : IpsecRecord → IpsecRecord) (xs : List IpsecRecord) → length xs ≡ ipsecPlaces
+    → length (cond b (map f xs) xs) ≡ ipsecPlaces
+followed true f xs h = rw length-map h
+followed false f xs h = h
+
+answered : (g : Gateway) (q : Request) → Sized g
+    → let a = handled (g .policy) (g .ike) (g .ipsec) q in Sized (gateway (a .ike) (a .ipsec) (g .policy))
+unfolding handled
+answered g q h = go (eqb (earlyNumber (g .ike) (g .ipsec) q) 0) refl
+  where
+    go : (b : Bool) → eqb (earlyNumber (g .ike) (g .ipsec) q) 0 ≡ b
+        → let a = handled (g .policy) (g .ike) (g .ipsec) q in Sized (gateway (a .ike) (a .ipsec) (g .policy))
+    go true e =
+        let c = coreResult (g .policy) (q .asks) (meant (g .ike) (q .spi)) in
+        rw e
+        (record {
+          ikes = rw length-set (h .ikes);
+          ipsecs = followed (c .moves) (follows (q .spi) (q .asks .pair)) (g .ipsec) (h .ipsecs);
+        })
+    go false e = rw e (record { ikes = h .ikes; ipsecs = h .ipsecs })
+
+pub called-sized : (k : Kind) (v : Value (fieldsOf k)) (g : Gateway) → Sized g → Sized (calledAs k v g .after)
+called-sized kind.OpenBoth v g h = opened g (openingOf v) h
+called-sized kind.AddIpsec v g h = added g (v .0) (v .1 .0) h
+called-sized kind.CloseIke v g h = closed g (v .0) h
+called-sized kind.CloseIpsec v g h = child-closed g (v .0) h
+called-sized kind.Request v g h = answered g (requestFrom v) h
+called-sized kind.Policy v g h = record { ikes = h .ikes; ipsecs = h .ipsecs }

@@ -1,0 +1,4 @@
+pub mod Digits
+pub mod HexDigits
+pub mod Placed
+pub mod Puts

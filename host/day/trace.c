@@ -1,0 +1,134 @@
+// Writes the day's calls as entries of a trace: what a call is given becomes the slots of an entry, which the library
+// writes.
+#include "trace.h"
+
+#include <stdio.h>
+#include <stdlib.h>
+#include <string.h>
+
+// The slots of an entry, and the octets of its addresses and strings, which the slots point into.
+typedef struct told {
+    uint64_t slots[UNMAVRETH_ENTRY_SLOTS];
+    uint8_t source[2 * UNMAVRETH_RULES_MOST * UNMAVRETH_ADDRESS_OCTETS + UNMAVRETH_REQUEST_ROOM];
+    size_t used;
+} told;
+
+static uint64_t offset_of(told *what, const uint8_t *octets, size_t length)
+{
+    size_t at = what->used;
+    memcpy(what->source + at, octets, length);
+    what->used += length;
+    return at;
+}
+
+static void tell_pair(told *what, size_t first, const unmavreth_pair *pair)
+{
+    uint64_t *slots = what->slots + first;
+    slots[UNMAVRETH_PAIR_FAMILY] = pair->family;
+    slots[UNMAVRETH_PAIR_SOURCE] = offset_of(what, pair->source, sizeof pair->source);
+    slots[UNMAVRETH_PAIR_DESTINATION] = offset_of(what, pair->destination, sizeof pair->destination);
+    slots[UNMAVRETH_PAIR_SOURCE_PORT] = pair->source_port;
+    slots[UNMAVRETH_PAIR_DESTINATION_PORT] = pair->destination_port;
+}
+
+static void tell_rule(told *what, size_t first, const unmavreth_rule *rule)
+{
+    uint64_t *slots = what->slots + first;
+    slots[UNMAVRETH_RULE_FAMILY] = rule->family;
+    slots[UNMAVRETH_RULE_SOURCE] = offset_of(what, rule->source, sizeof rule->source);
+    slots[UNMAVRETH_RULE_DESTINATION] = offset_of(what, rule->destination, sizeof rule->destination);
+    slots[UNMAVRETH_RULE_SOURCE_LEN] = rule->source_len;
+    slots[UNMAVRETH_RULE_DESTINATION_LEN] = rule->destination_len;
+}
+
+static void append(trace *t, uint8_t kind, const told *what)
+{
+    unmavreth_entry_written written = unmavreth_write_entry(kind, what->slots, what->source, what->used,
+                                                            t->octets + t->length, sizeof t->octets - t->length);
+    if (written.number != UNMAVRETH_DONE) {
+        fprintf(stderr, "day: entry %u of the trace is refused with %u\n", t->entries, written.number);
+        exit(2);
+    }
+    t->entries++;
+    t->length += written.length;
+}
+
+void trace_open_both(trace *t, const unmavreth_opening *opening)
+{
+    told what = {0};
+    what.slots[UNMAVRETH_OPEN_SPI] = opening->spi;
+    what.slots[UNMAVRETH_OPEN_AGREED] = opening->agreed.mobike != 0;
+    tell_pair(&what, UNMAVRETH_OPEN_PAIR, &opening->pair);
+    what.slots[UNMAVRETH_OPEN_CHILD] = opening->child;
+    append(t, UNMAVRETH_KIND_OPEN_BOTH, &what);
+}
+
+void trace_add_ipsec(trace *t, uint32_t spi, uint64_t owner)
+{
+    told what = {0};
+    what.slots[UNMAVRETH_ADD_SPI] = spi;
+    what.slots[UNMAVRETH_ADD_OWNER] = owner;
+    append(t, UNMAVRETH_KIND_ADD_IPSEC, &what);
+}
+
+void trace_close_ike(trace *t, uint64_t spi)
+{
+    told what = {0};
+    what.slots[UNMAVRETH_CLOSE_IKE_SPI] = spi;
+    append(t, UNMAVRETH_KIND_CLOSE_IKE, &what);
+}
+
+void trace_close_ipsec(trace *t, uint32_t spi)
+{
+    told what = {0};
+    what.slots[UNMAVRETH_CLOSE_IPSEC_SPI] = spi;
+    append(t, UNMAVRETH_KIND_CLOSE_IPSEC, &what);
+}
+
+void trace_policy(trace *t, uint16_t count, const unmavreth_rules *rules)
+{
+    told what = {0};
+    what.slots[UNMAVRETH_POLICY_COUNT] = count;
+    for (size_t i = 0; i < count && i < UNMAVRETH_RULES_MOST; i++)
+        tell_rule(&what, UNMAVRETH_POLICY_RULE(i), &rules->rules[i]);
+    append(t, UNMAVRETH_KIND_POLICY, &what);
+}
+
+void trace_request(trace *t, uint64_t spi, uint32_t id, const unmavreth_pair *packet,
+                   const uint8_t nat_source[UNMAVRETH_NAT_OCTETS], const uint8_t nat_destination[UNMAVRETH_NAT_OCTETS],
+                   const message *request)
+{
+    told what = {0};
+    what.slots[UNMAVRETH_REQUEST_SPI] = spi;
+    what.slots[UNMAVRETH_REQUEST_ID] = id;
+    tell_pair(&what, UNMAVRETH_REQUEST_PAIR, packet);
+    what.slots[UNMAVRETH_REQUEST_NAT_SOURCE] = offset_of(&what, nat_source, UNMAVRETH_NAT_OCTETS);
+    what.slots[UNMAVRETH_REQUEST_NAT_SOURCE_SIZE] = UNMAVRETH_NAT_OCTETS;
+    what.slots[UNMAVRETH_REQUEST_NAT_DESTINATION] = offset_of(&what, nat_destination, UNMAVRETH_NAT_OCTETS);
+    what.slots[UNMAVRETH_REQUEST_NAT_DESTINATION_SIZE] = UNMAVRETH_NAT_OCTETS;
+    what.slots[UNMAVRETH_REQUEST_FIRST] = request->first;
+    what.slots[UNMAVRETH_REQUEST_BODY] = offset_of(&what, request->octets, request->length);
+    what.slots[UNMAVRETH_REQUEST_BODY_SIZE] = request->length;
+    append(t, UNMAVRETH_KIND_REQUEST, &what);
+}
+
+unsigned trace_read_back(const trace *t)
+{
+    unsigned entries = 0;
+    for (size_t at = 0; at < t->length; entries++) {
+        unmavreth_entry_read read = unmavreth_read_entry(t->octets, t->length, at);
+        if (read.number != UNMAVRETH_DONE)
+            return 0;
+        at = read.next;
+    }
+    return entries;
+}
+
+bool trace_save(const trace *t, const char *file)
+{
+    FILE *out = fopen(file, "wb");
+    if (out == NULL)
+        return false;
+    bool all = fwrite(t->octets, 1, t->length, out) == t->length;
+    return fclose(out) == 0 && all;
+}

@@ -1,0 +1,55 @@
+//! The calls by their words, with the fields of each. A later field is one more word at the end of its line, and a
+//! later call one more line.
+use unmavreth::trace::Kind;
+
+/// What a word, or several, say.
+pub enum Field {
+    /// A number, in decimal.
+    Number,
+    /// A number that says of which family the addresses behind it are.
+    Family,
+    /// An address in one of the usual forms, or 32 hex digits.
+    Address,
+    /// Octets as hex digits, or `-` for none.
+    String,
+    /// These, one behind the other.
+    Each(&'static [Field]),
+    /// A count, and so many of these.
+    List(&'static [Field]),
+}
+use Field::{Address, Each, Family, List, Number, String};
+
+/// The places of a list in the slots of an entry, however many of them it fills.
+pub const LIST_PLACES: usize = 16;
+
+/// Family, source, destination, source port, destination port.
+const PAIR: Field = Each(&[Family, Address, Address, Number, Number]);
+/// Family, source prefix, destination prefix, their lengths.
+const RULE: &[Field] = &[Family, Address, Address, Number, Number];
+
+/// The word, the kind and the fields of each call.
+pub const CALLS: [(&str, Kind, &[Field]); 6] = [
+    // SPI, MOBIKE agreed, pair, IPsec SPI
+    ("open", Kind::OpenBoth, &[Number, Number, PAIR, Number]),
+    // SPI, owner's SPI
+    ("add", Kind::AddIpsec, &[Number, Number]),
+    // SPI
+    ("close", Kind::CloseIke, &[Number]),
+    // SPI
+    ("close-ipsec", Kind::CloseIpsec, &[Number]),
+    // SPI, message ID, pair, both NAT values, first type, body
+    ("request", Kind::Request, &[Number, Number, PAIR, String, String, Number, String]),
+    // rules
+    ("policy", Kind::Policy, &[List(RULE)]),
+];
+
+/// How many slots these fields have.
+pub fn width(fields: &[Field]) -> usize {
+    let one = |field: &Field| match field {
+        Number | Family | Address => 1,
+        String => 2,
+        Each(fields) => width(fields),
+        List(fields) => 1 + LIST_PLACES * width(fields),
+    };
+    fields.iter().map(one).sum()
+}

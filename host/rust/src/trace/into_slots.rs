@@ -1,0 +1,99 @@
+//! An entry as slots, and the octets that they point into.
+use super::{Entry, Kind, Slots};
+use crate::layout::{Opening, Pair, Policy, Rule};
+use crate::limits::{ADDRESS_OCTETS, ENTRY_SLOTS};
+use crate::Request;
+
+/// The kind, the slots and the source of an entry.
+pub(super) fn into_slots(entry: &Entry<'_>) -> (Kind, Slots, Vec<u8>) {
+    let mut told = Told { slots: [0; ENTRY_SLOTS], next: 0, source: Vec::new() };
+    let kind = match entry {
+        Entry::OpenBoth(opening) => told.opening(opening),
+        Entry::AddIpsec { spi, owner } => {
+            told.number(*spi);
+            told.number(*owner);
+            Kind::AddIpsec
+        }
+        Entry::CloseIke { spi } => {
+            told.number(*spi);
+            Kind::CloseIke
+        }
+        Entry::CloseIpsec { spi } => {
+            told.number(*spi);
+            Kind::CloseIpsec
+        }
+        Entry::Request(request) => told.request(request),
+        Entry::Policy(policy) => told.policy(policy),
+    };
+    (kind, told.slots, told.source)
+}
+
+/// The slots that are filled so far. Each function fills those of one field, or of several.
+struct Told {
+    slots: Slots,
+    next: usize,
+    source: Vec<u8>,
+}
+
+impl Told {
+    fn number(&mut self, number: impl Into<u64>) {
+        if let Some(slot) = self.slots.get_mut(self.next) {
+            *slot = number.into();
+        }
+        self.next += 1;
+    }
+
+    fn address(&mut self, octets: &[u8; ADDRESS_OCTETS]) {
+        self.number(self.source.len() as u64);
+        self.source.extend(octets);
+    }
+
+    fn string(&mut self, octets: &[u8]) {
+        self.number(self.source.len() as u64);
+        self.number(octets.len() as u64);
+        self.source.extend(octets);
+    }
+
+    fn pair(&mut self, pair: &Pair) {
+        self.number(pair.family);
+        self.address(&pair.source);
+        self.address(&pair.destination);
+        self.number(pair.source_port);
+        self.number(pair.destination_port);
+    }
+
+    fn opening(&mut self, opening: &Opening) -> Kind {
+        self.number(opening.spi);
+        self.number(opening.agreed.mobike.is_set());
+        self.pair(&opening.pair);
+        self.number(opening.child);
+        Kind::OpenBoth
+    }
+
+    fn request(&mut self, request: &Request<'_>) -> Kind {
+        self.number(request.spi);
+        self.number(request.id);
+        self.pair(&request.pair);
+        self.string(request.nat_source);
+        self.string(request.nat_destination);
+        self.number(request.first);
+        self.string(request.body);
+        Kind::Request
+    }
+
+    fn rule(&mut self, rule: &Rule) {
+        self.number(rule.family);
+        self.address(&rule.source);
+        self.address(&rule.destination);
+        self.number(rule.source_len);
+        self.number(rule.destination_len);
+    }
+
+    fn policy(&mut self, policy: &Policy) -> Kind {
+        self.number(policy.count);
+        for rule in policy.rules.iter().take(usize::from(policy.count)) {
+            self.rule(rule);
+        }
+        Kind::Policy
+    }
+}

@@ -1,0 +1,172 @@
+//! Entries of a trace: every field of each kind is written where it belongs and read back; every number.
+mod common;
+use common::*;
+use unmavreth::limits::{ENTRY_MOST, ENTRY_SLOTS, STRING_MOST};
+use unmavreth::trace::{read_entry, read_slots, write_entry, write_slots, Entry, Kind};
+use unmavreth::{Agreed, Flag, Number, Opening, Pair, Policy, Request, Rule};
+
+/// Octets that are all different.
+fn octets(from: u8) -> [u8; 16] {
+    std::array::from_fn(|at| from + at as u8)
+}
+
+/// A pair, and how it is written.
+fn pair() -> (Pair, Vec<u8>) {
+    let pair = Pair::ipv6((octets(1), 300), (octets(101), 5));
+    (pair, [&[6][..], &octets(1), &octets(101), &[0xac, 2, 5]].concat())
+}
+
+/// An opening, and how it is written.
+fn opening() -> (Entry<'static>, Vec<u8>) {
+    let (pair, written) = pair();
+    let entry =
+        Entry::OpenBoth(Opening { spi: u64::MAX, agreed: AGREED, pair, child: 0x1122_3344 });
+    let spi = [0xff, 0xff, 0xff, 0xff, 0xff, 0xff, 0xff, 0xff, 0xff, 1];
+    (entry, [&[0][..], &spi, &[1], &written, &[0xc4, 0xe6, 0x88, 0x89, 1]].concat())
+}
+
+/// A request with strings of several lengths, and how it is written.
+fn request() -> (Entry<'static>, Vec<u8>) {
+    let (pair, written) = pair();
+    let (nat_source, nat_destination, body) = (&[1, 2, 3][..], &[][..], &[7; 200][..]);
+    let request = Request { spi: 7, id: 128, pair, nat_source, nat_destination, first: 41, body };
+    let strings = [&[3, 1, 2, 3][..], &[0], &[41], &[0xc8, 1], body].concat();
+    (Entry::Request(request), [&[4, 7, 0x80, 1][..], &written, &strings].concat())
+}
+
+/// A policy of so many rules, and how it is written.
+fn policy(count: u16) -> (Entry<'static>, Vec<u8>) {
+    let mut policy = Policy { count, ..Policy::EMPTY };
+    let mut written = vec![5, count as u8];
+    for (at, rule) in policy.rules.iter_mut().enumerate().take(usize::from(count)) {
+        let at = at as u8;
+        *rule = Rule::ipv6((octets(at), 100 + at), (octets(100 + at), at));
+        written.push(6);
+        written.extend(octets(at).iter().chain(&octets(100 + at)).chain(&[100 + at, at]));
+    }
+    (Entry::Policy(policy), written)
+}
+
+fn entries() -> Vec<(Entry<'static>, Vec<u8>)> {
+    let owner = [0x80, 0x80, 0x80, 0x80, 0x80, 0x80, 0x80, 0x80, 0x80, 1];
+    let mut entries = vec![
+        opening(),
+        (Entry::AddIpsec { spi: 300, owner: 1 << 63 }, [&[1, 0xac, 2][..], &owner].concat()),
+        (Entry::CloseIke { spi: 7 }, vec![2, 7]),
+        (Entry::CloseIpsec { spi: u32::MAX }, vec![3, 0xff, 0xff, 0xff, 0xff, 0xf]),
+        request(),
+    ];
+    entries.extend((0..=16).map(policy));
+    entries
+}
+
+#[test]
+fn each_kind_is_written_and_read_back() {
+    for (entry, octets) in entries() {
+        let mut out = vec![9; octets.len() + 3];
+        assert_eq!(write_entry(&entry, &mut out), Ok(octets.len()));
+        assert_eq!(out[..octets.len()], octets);
+        assert_eq!(out[octets.len()..], [9; 3], "past the length");
+        assert_eq!(read_entry(&octets, 0), Ok((entry, octets.len())));
+        // Behind other octets, and with others behind it.
+        let between = [&[0xff; 5][..], &octets, &[0xff; 5]].concat();
+        assert_eq!(read_entry(&between, 5), Ok((entry, 5 + octets.len())));
+    }
+}
+
+#[test]
+fn a_cut_entry() {
+    for (entry, octets) in entries() {
+        for cut in 0..octets.len() {
+            assert_eq!(read_entry(&octets[..cut], 0), Err(Number::Cut));
+            let mut out = vec![9; cut];
+            assert_eq!(write_entry(&entry, &mut out), Err(Number::OutputTooShort));
+            assert_eq!(out, vec![9; cut]);
+        }
+        for at in [octets.len(), octets.len() + 1, usize::MAX] {
+            assert_eq!(read_entry(&octets, at), Err(Number::Cut));
+        }
+    }
+}
+
+#[test]
+fn numbers_that_are_not_read() {
+    assert_eq!(read_entry(&[2, 0x87, 0], 0), Err(Number::Cut));
+    let mut past = [&[2][..], &[0xff; 9], &[1]].concat();
+    assert_eq!(read_entry(&past, 0), Ok((Entry::CloseIke { spi: u64::MAX }, 11)));
+    past[10] = 2;
+    assert_eq!(read_entry(&past, 0), Err(Number::Cut));
+    assert_eq!(read_entry(&[6, 7], 0), Err(Number::UnknownKind));
+    assert_eq!(read_entry(&[0x82, 0], 0), Err(Number::Cut));
+    assert_eq!(read_entry(&[3, 0x80, 0x80, 0x80, 0x80, 0x10], 0), Err(Number::TooLarge));
+    assert_eq!(read_entry(&[5, 17], 0), Err(Number::TooLarge));
+}
+
+#[test]
+fn what_is_too_large_to_write() {
+    let Entry::Request(sound) = request().0 else { unreachable!() };
+    let (long, most) = ([1; STRING_MOST + 1], [1; STRING_MOST]);
+    for one in [
+        Entry::Request(Request { nat_source: &long, ..sound }),
+        Entry::Request(Request { nat_destination: &long, ..sound }),
+        Entry::Request(Request { body: &long, ..sound }),
+        Entry::Policy(Policy { count: 17, ..Policy::EMPTY }),
+        Entry::Policy(Policy { count: u16::MAX, ..Policy::EMPTY }),
+    ] {
+        let mut out = [9; 10];
+        assert_eq!(write_entry(&one, &mut out), Err(Number::TooLarge));
+        assert_eq!(out, [9; 10]);
+    }
+    let pair = Pair { family: 255, source_port: u16::MAX, destination_port: u16::MAX, ..OLD };
+    let strings = Request { nat_source: &most, nat_destination: &most, body: &most, ..sound };
+    let longest = Request { spi: u64::MAX, id: u32::MAX, pair, first: 255, ..strings };
+    let mut out = [0; ENTRY_MOST];
+    assert_eq!(write_entry(&Entry::Request(longest), &mut out), Ok(ENTRY_MOST));
+    assert_eq!(read_entry(&out, 0), Ok((Entry::Request(longest), ENTRY_MOST)));
+}
+
+#[test]
+fn slots_that_point_elsewhere() {
+    let mut slots = [0; ENTRY_SLOTS];
+    let mut out = [9; 200];
+    assert_eq!(write_slots(Kind::Other(6), &slots, &[], &mut out), Err(Number::UnknownKind));
+    for offset in [1, 16, 17, u64::MAX - 15, u64::MAX] {
+        slots[3] = offset;
+        let told = write_slots(Kind::OpenBoth, &slots, &[0; 16], &mut out);
+        assert_eq!(told, Err(Number::TooLarge));
+    }
+    slots[3] = 0;
+    slots[1] = 2;
+    let told = write_slots(Kind::OpenBoth, &slots, &[0; 16], &mut out);
+    assert_eq!((told, out), (Err(Number::TooLarge), [9; 200]), "a yes or no of 2");
+    slots[1] = 1;
+    assert_eq!(write_slots(Kind::OpenBoth, &slots, &[0; 16], &mut out), Ok(39));
+}
+
+#[test]
+fn slots_of_a_request() {
+    let (_, octets) = request();
+    let (kind, slots, next) = read_slots(&octets, 0).expect("an entry");
+    assert_eq!((kind, next), (Kind::Request, octets.len()));
+    assert_eq!(slots[..14], [7, 128, 6, 5, 21, 300, 5, 41, 3, 45, 0, 41, 48, 200]);
+    assert_eq!(slots[14..], [0; ENTRY_SLOTS - 14]);
+}
+
+#[test]
+fn any_yes_is_written_as_1() {
+    // SAFETY: a flag is an octet, and any is allowed.
+    let agreed = Agreed { mobike: unsafe { std::mem::transmute::<u8, Flag>(200) } };
+    let mut out = [0; 100];
+    let opening = Opening { agreed, ..OPENING };
+    assert!(write_entry(&Entry::OpenBoth(opening), &mut out).is_ok());
+    let yes = Opening { agreed: AGREED, ..opening };
+    assert_eq!(read_entry(&out, 0).map(|(entry, _)| entry), Ok(Entry::OpenBoth(yes)));
+}
+
+#[test]
+fn any_octet_is_a_kind() {
+    for octet in 0..=255 {
+        assert_eq!(u8::from(Kind::from(octet)), octet);
+        assert_eq!(Kind::from(octet) == Kind::Other(octet), octet > 5);
+    }
+}

@@ -1,0 +1,66 @@
+// Changes of an entry's numbers, to such that their fields have no room for.
+use crate::faults::Faults;
+use crate::rng::Rng;
+use crate::trace::entry::{Entry, Pair, Rule};
+use crate::trace::fields::{Field, MOST_OCTETS};
+
+/// The numbers of an entry, rules past the count too.
+pub fn numbers(entry: &mut Entry) -> Vec<(Field, &mut u64)> {
+    match entry {
+        Entry::OpenBoth { spi, agreed, pair, child } => {
+            let mut numbers = vec![(Field::IkeSpi, spi), (Field::Agreed, agreed)];
+            numbers.extend(of_pair(pair));
+            numbers.push((Field::IpsecSpi, child));
+            numbers
+        }
+        Entry::AddIpsec { spi, owner } => vec![(Field::IpsecSpi, spi), (Field::IkeSpi, owner)],
+        Entry::CloseIke { spi } => vec![(Field::IkeSpi, spi)],
+        Entry::CloseIpsec { spi } => vec![(Field::IpsecSpi, spi)],
+        Entry::Request(request) => {
+            let mut numbers = vec![(Field::IkeSpi, &mut request.spi), (Field::Id, &mut request.id)];
+            numbers.extend(of_pair(&mut request.pair));
+            numbers.push((Field::FirstType, &mut request.first));
+            numbers
+        }
+        Entry::Policy { count, rules } => {
+            let mut numbers = vec![(Field::Count, count)];
+            numbers.extend(rules.iter_mut().flat_map(of_rule));
+            numbers
+        }
+    }
+}
+
+fn of_pair(pair: &mut Pair) -> [(Field, &mut u64); 3] {
+    [
+        (Field::Family, &mut pair.family),
+        (Field::Port, &mut pair.source_port),
+        (Field::Port, &mut pair.destination_port),
+    ]
+}
+
+fn of_rule(rule: &mut Rule) -> [(Field, &mut u64); 3] {
+    [
+        (Field::Family, &mut rule.family),
+        (Field::PrefixLength, &mut rule.source_length),
+        (Field::PrefixLength, &mut rule.destination_length),
+    ]
+}
+
+/// Makes one number, count or length larger than its field has room for, if there is any such.
+pub fn enlarge(rng: &mut Rng, entry: &mut Entry) {
+    if let Entry::Request(request) = entry {
+        let strings = [&mut request.nat_source, &mut request.nat_destination, &mut request.body];
+        let string = rng.below(9);
+        if let Some(octets) = strings.into_iter().nth(string) {
+            octets.resize(MOST_OCTETS + rng.between(1, 2), 7);
+            return;
+        }
+    }
+    let numbers = numbers(entry);
+    let chosen = rng.below(numbers.len());
+    if let Some((field, number)) = numbers.into_iter().nth(chosen) {
+        let most = field.most(Faults::NONE);
+        let more = [most.saturating_add(1), most.saturating_mul(2), u64::MAX];
+        *number = rng.pick(&more);
+    }
+}

@@ -1,0 +1,107 @@
+// Traces worked out by hand, with what each prints: those of request E3, and others about its sentences.
+
+/// 192.0.2.1 to 198.51.100.1, ports 4500 and 4500, as an entry holds it.
+const PAIR: &str = "04 c0000201000000000000000000000000 c6336401000000000000000000000000 9423 9423";
+
+/// 203.0.113.7 to 198.51.100.1, ports 1024 and 4500.
+const OTHER_PAIR: &str =
+    "04 cb007107000000000000000000000000 c6336401000000000000000000000000 8008 9423";
+
+/// The same two as they are printed.
+const PRINTED: &str =
+    "4 c0000201000000000000000000000000 c6336401000000000000000000000000 4500 4500";
+const OTHER_PRINTED: &str =
+    "4 cb007107000000000000000000000000 c6336401000000000000000000000000 1024 4500";
+
+const UPDATE: &str = "0000000800004010";
+
+pub struct Example {
+    pub trace: Vec<u8>,
+    pub printed: String,
+}
+
+/// Opens IKE 7 and IPsec 9.
+pub fn opening() -> Vec<u8> {
+    from_hex(&format!("00 07 01 {PAIR} 09"))
+}
+
+/// Accepts all pairs of IPv4.
+pub fn any_ipv4() -> Vec<u8> {
+    from_hex(&format!("05 01 04 {} 00 00", "00".repeat(32)))
+}
+
+/// A request to IKE 7 from the other pair.
+pub fn request(id: u8, first: u8, body: &[u8]) -> Vec<u8> {
+    let values = format!("14 {zeros} 14 {zeros}", zeros = "00".repeat(20));
+    let mut octets = from_hex(&format!("04 07 {id:02x} {OTHER_PAIR} {values} {first:02x}"));
+    octets.push(u8::try_from(body.len()).expect("a short body"));
+    octets.extend_from_slice(body);
+    octets
+}
+
+/// A trace with an entry of every kind, none of which is refused.
+pub fn all_kinds() -> Vec<u8> {
+    let list = from_hex("29 00000800004010 0000000c 0000400d 0a000001");
+    let adding = from_hex("01 ac02 07 01 ad02 07");
+    let closing = from_hex("03 ac02");
+    let entries = [
+        opening(),
+        any_ipv4(),
+        adding,
+        request(5, 41, &from_hex(UPDATE)),
+        closing,
+        request(6, 41, &list),
+        request(0, 0, &[]),
+        from_hex("02 07"),
+        opening(),
+    ];
+    entries.concat()
+}
+
+pub fn all() -> Vec<Example> {
+    let update = request(5, 41, &from_hex(UPDATE));
+    let moved = [opening(), any_ipv4(), update].concat();
+    let at_43 = [opening(), from_hex("02 07 06")].concat();
+    let (ike, ipsec) = (format!("ike 7 {PRINTED}"), format!("ipsec 9 {PRINTED}"));
+    let (moved_ike, moved_ipsec) =
+        (format!("ike 7 {OTHER_PRINTED}"), format!("ipsec 9 {OTHER_PRINTED}"));
+    let done = ["0 0 none none", "1 0 none none"];
+    let examples: [(Vec<u8>, &[&str]); 17] = [
+        (from_hex("02 07"), &["0 4 none none"]),
+        (vec![], &[]),
+        (opening(), &[done[0], &ike, &ipsec]),
+        (at_43, &[done[0], done[1], "21 at 43"]),
+        (moved, &[done[0], done[1], "2 0 applied none", &moved_ike, &moved_ipsec]),
+        (from_hex("03 80 80 80 80 10"), &["22 at 0"]),
+        (from_hex("02 80 80 80 80 10"), &["0 4 none none"]),
+        (from_hex("05 11"), &["22 at 0"]),
+        (from_hex("05 10"), &["20 at 0"]),
+        (from_hex("05 00"), &["0 0 none none"]),
+        // The kind: a number first, and unknown at once however large.
+        (from_hex("82 00"), &["20 at 0"]),
+        (from_hex("80"), &["20 at 0"]),
+        (from_hex("ff ff ff ff ff ff ff ff ff 01"), &["21 at 0"]),
+        // A family that is cut isn't judged, and one that is read whole is.
+        (from_hex("00 07 01 ff ff"), &["20 at 0"]),
+        (from_hex("00 07 01 ff ff 03"), &["22 at 0"]),
+        // Of an opening, a family of 5 and an SPI of 0 are the call's to refuse.
+        (with_octet(opening(), 3, 5), &["0 1 none none"]),
+        (with_octet(opening(), 1, 0), &["0 1 none none"]),
+    ];
+    let example = |(trace, lines): (Vec<u8>, &[&str])| Example {
+        trace,
+        printed: lines.iter().map(|line| format!("{line}\n")).collect(),
+    };
+    examples.map(example).into()
+}
+
+fn with_octet(mut octets: Vec<u8>, place: usize, octet: u8) -> Vec<u8> {
+    octets[place] = octet;
+    octets
+}
+
+/// Octets written as two digits each, with blanks anywhere between them.
+pub fn from_hex(digits: &str) -> Vec<u8> {
+    let digits: Vec<u32> = digits.chars().filter_map(|digit| digit.to_digit(16)).collect();
+    digits.chunks(2).map(|two| (16 * two[0] + two[1]) as u8).collect()
+}

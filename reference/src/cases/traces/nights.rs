@@ -1,0 +1,133 @@
+// Traces as a gateway might leave them: calls on the records that are there, and requests to them.
+use super::super::requests::{arguments, starts};
+use super::super::tables::{pairs, rules, scripts, spis};
+use crate::faults::Faults;
+use crate::policy::Policy;
+use crate::request;
+use crate::rng::Rng;
+use crate::tables::{Record, Tables};
+use crate::trace::entry::{Entry, Pair, Request, Rule};
+use crate::trace::fields::MOST_OCTETS;
+use crate::trace::writing::entry_octets;
+
+#[derive(Debug, Clone, Copy)]
+enum Making {
+    OpenBoth,
+    AddIpsec,
+    CloseIke,
+    CloseIpsec,
+    PlainRequest,
+    AnyRequest,
+    Policy,
+}
+
+type Weights = [(usize, Making); 7];
+
+const MOSTLY_REQUESTS: Weights = [
+    (6, Making::OpenBoth),
+    (6, Making::AddIpsec),
+    (2, Making::CloseIke),
+    (3, Making::CloseIpsec),
+    (28, Making::PlainRequest),
+    (14, Making::AnyRequest),
+    (2, Making::Policy),
+];
+
+/// By which the tables become full.
+const MOSTLY_OPENINGS: Weights = [
+    (60, Making::OpenBoth),
+    (60, Making::AddIpsec),
+    (1, Making::CloseIke),
+    (2, Making::CloseIpsec),
+    (6, Making::PlainRequest),
+    (3, Making::AnyRequest),
+    (1, Making::Policy),
+];
+
+/// More SPIs than there are places, so that the tables may be full.
+const IKE_SPIS: usize = 80;
+const IPSEC_SPIS: usize = 400;
+
+/// Entries of at least so many octets in all, each drawn to suit the tables that those before left.
+pub fn entries(rng: &mut Rng, size: usize) -> Vec<Entry> {
+    let mut tables = Tables::empty();
+    let weights = if rng.one_in(4) { MOSTLY_OPENINGS } else { MOSTLY_REQUESTS };
+    let mut entries = vec![policy(rng), opening(rng)];
+    let mut octets = 0;
+    for entry in &entries {
+        octets += entry_octets(entry).len();
+        entry.make(&mut tables, Faults::NONE);
+    }
+    while octets < size {
+        let entry = entry(rng, &tables, &weights);
+        octets += entry_octets(&entry).len();
+        entry.make(&mut tables, Faults::NONE);
+        entries.push(entry);
+    }
+    entries
+}
+
+fn entry(rng: &mut Rng, tables: &Tables, weights: &Weights) -> Entry {
+    let has_record = tables.ike.records.iter().any(Record::is_in_use);
+    let making = if has_record { rng.pick_weighted(weights) } else { Making::OpenBoth };
+    match making {
+        Making::OpenBoth => opening(rng),
+        Making::AddIpsec => Entry::AddIpsec {
+            spi: u64::from(spis::ipsec(rng.below(IPSEC_SPIS))),
+            owner: scripts::ike_spi(rng, tables, 30),
+        },
+        Making::CloseIke => Entry::CloseIke { spi: scripts::ike_spi(rng, tables, 8) },
+        Making::CloseIpsec => {
+            Entry::CloseIpsec { spi: u64::from(scripts::ipsec_spi(rng, tables, 8)) }
+        }
+        Making::PlainRequest => {
+            let spi = scripts::ike_spi(rng, tables, 60);
+            of_request(arguments::plain_request(rng, tables, spi))
+        }
+        Making::AnyRequest => {
+            let spi = arguments::spi(rng, tables);
+            of_request(arguments::request(rng, tables, spi))
+        }
+        Making::Policy => policy(rng),
+    }
+}
+
+fn opening(rng: &mut Rng) -> Entry {
+    let pair = if rng.one_in(12) { pairs::any_pair(rng) } else { pairs::pair(rng) };
+    Entry::OpenBoth {
+        spi: spis::ike(rng.below(IKE_SPIS)),
+        agreed: u64::from(!rng.one_in(8)),
+        pair: Pair::from(&pair),
+        child: u64::from(spis::ipsec(rng.below(IPSEC_SPIS))),
+    }
+}
+
+/// One that accepts all pairs, or some; now and then a list that is refused.
+fn policy(rng: &mut Rng) -> Entry {
+    let mut policy = rules::policy(rng);
+    match rng.below(8) {
+        0 => {
+            let (count, list) = rules::list_to_set(rng);
+            policy = Policy { count: count.min(16), rules: list.rules };
+        }
+        1 | 2 => {}
+        _ => starts::open(&mut policy),
+    }
+    let rules: Vec<Rule> =
+        policy.rules[..usize::from(policy.count)].iter().map(Rule::from).collect();
+    Entry::policy(&rules)
+}
+
+fn of_request(request: request::Request) -> Entry {
+    let mut body = request.body;
+    body.truncate(MOST_OCTETS);
+    Entry::Request(Request {
+        spi: request.spi,
+        id: u64::from(request.id),
+        pair: Pair::from(&request.pair),
+        nat_source: request.nat_source,
+        nat_destination: request.nat_destination,
+        first: u64::from(request.first),
+        body,
+    })
+}

@@ -1,0 +1,91 @@
+// The entries of a trace: what a call is given. Numbers have 64 bits here whatever their field, so that
+// what has no room in it can be asked to be written.
+use super::fields::MOST_RULES;
+use crate::address::{AddressOctets, AddressPair};
+use crate::policy;
+
+#[derive(Debug, Clone, PartialEq, Eq)]
+pub enum Entry {
+    OpenBoth { spi: u64, agreed: u64, pair: Pair, child: u64 },
+    AddIpsec { spi: u64, owner: u64 },
+    CloseIke { spi: u64 },
+    CloseIpsec { spi: u64 },
+    Request(Request),
+    Policy { count: u64, rules: Box<Rules> },
+}
+
+/// Those past the count aren't looked at.
+pub type Rules = [Rule; MOST_RULES];
+
+#[derive(Debug, Clone, Copy, Default, PartialEq, Eq)]
+pub struct Pair {
+    pub family: u64,
+    pub source: AddressOctets,
+    pub destination: AddressOctets,
+    pub source_port: u64,
+    pub destination_port: u64,
+}
+
+#[derive(Debug, Clone, Default, PartialEq, Eq)]
+pub struct Request {
+    pub spi: u64,
+    pub id: u64,
+    pub pair: Pair,
+    pub nat_source: Vec<u8>,
+    pub nat_destination: Vec<u8>,
+    pub first: u64,
+    pub body: Vec<u8>,
+}
+
+#[derive(Debug, Clone, Copy, Default, PartialEq, Eq)]
+pub struct Rule {
+    pub family: u64,
+    pub source: AddressOctets,
+    pub destination: AddressOctets,
+    pub source_length: u64,
+    pub destination_length: u64,
+}
+
+impl Entry {
+    pub fn kind(&self) -> u64 {
+        match self {
+            Entry::OpenBoth { .. } => 0,
+            Entry::AddIpsec { .. } => 1,
+            Entry::CloseIke { .. } => 2,
+            Entry::CloseIpsec { .. } => 3,
+            Entry::Request(_) => 4,
+            Entry::Policy { .. } => 5,
+        }
+    }
+
+    /// The setting of these rules, of which there are at most sixteen.
+    pub fn policy(rules: &[Rule]) -> Self {
+        let mut places = Rules::default();
+        places[..rules.len()].copy_from_slice(rules);
+        Entry::Policy { count: rules.len() as u64, rules: Box::new(places) }
+    }
+}
+
+impl From<&AddressPair> for Pair {
+    fn from(pair: &AddressPair) -> Self {
+        Pair {
+            family: u64::from(pair.family),
+            source: pair.source,
+            destination: pair.destination,
+            source_port: u64::from(pair.source_port),
+            destination_port: u64::from(pair.destination_port),
+        }
+    }
+}
+
+impl From<&policy::Rule> for Rule {
+    fn from(rule: &policy::Rule) -> Self {
+        Rule {
+            family: u64::from(rule.family),
+            source: rule.source,
+            destination: rule.destination,
+            source_length: u64::from(rule.source_length),
+            destination_length: u64::from(rule.destination_length),
+        }
+    }
+}

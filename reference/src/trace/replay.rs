@@ -1,0 +1,168 @@
+// The replay of a trace: each entry is read and its call made, from empty tables and policy, up to the
+// end or to the first entry that can't be read.
+use super::pieces::Pieces;
+use super::reading::{self, Unread};
+use super::{lines, Refusal};
+use crate::faults::{Fault, Faults};
+use crate::tables::Tables;
+
+/// All that is printed for a trace whose octets come at once.
+pub fn replay(trace: &[u8], faults: Faults) -> Vec<u8> {
+    replay_in_pieces(trace, &Pieces::at_once(), faults)
+}
+
+/// All that is printed for a trace, which is the same however its octets come but by faults.
+pub fn replay_in_pieces(trace: &[u8], pieces: &Pieces, faults: Faults) -> Vec<u8> {
+    let first = if faults.on(Fault::FirstPieceOnly) { pieces.end(0, trace) } else { trace.len() };
+    let trace = &trace[..first];
+    let mut tables = Tables::empty();
+    let mut printed = String::new();
+    let (mut ordinal, mut offset) = (0, 0);
+    let last = loop {
+        if offset == trace.len() {
+            break lines::pairs(&tables, faults);
+        }
+        match reading::read(window(trace, pieces, offset, faults), offset, faults) {
+            Ok(read) => {
+                let answer = read.entry.make(&mut tables, faults);
+                printed += &lines::entry(ordinal, answer, faults);
+                (ordinal, offset) = (ordinal + 1, read.next);
+                if answer.number != 0 && faults.on(Fault::RefusedCallEnds) {
+                    break lines::pairs(&tables, faults);
+                }
+            }
+            Err(Unread { refusal: Refusal::Cut, .. }) if faults.on(Fault::CutEnds) => {
+                break lines::pairs(&tables, faults);
+            }
+            Err(unread) => {
+                let told = told_offset(ordinal, offset, unread, faults);
+                let mut last = lines::refusal(unread.refusal, told);
+                if faults.on(Fault::PairsAfterRefusal) {
+                    last += &lines::pairs(&tables, faults);
+                }
+                if faults.on(Fault::RefusedUnmade) {
+                    printed.clear();
+                }
+                break last;
+            }
+        }
+    };
+    printed += &last;
+    if faults.on(Fault::LastLineUnended) {
+        printed.pop();
+    }
+    if trace.is_empty() && faults.on(Fault::EmptyTraceLine) {
+        printed.push('\n');
+    }
+    printed.into_bytes()
+}
+
+/// As many octets as some faults take for the whole trace.
+const WINDOW: usize = 12_352;
+
+/// What the entry at this offset is read of: the trace.
+fn window<'a>(trace: &'a [u8], pieces: &Pieces, offset: usize, faults: Faults) -> &'a [u8] {
+    let end = match faults {
+        _ if faults.on(Fault::WindowEnds) => (offset / WINDOW + 1) * WINDOW,
+        _ if faults.on(Fault::PieceEnds) => pieces.end(offset, trace),
+        _ => trace.len(),
+    };
+    &trace[..end.min(trace.len())]
+}
+
+/// That of the entry's first octet.
+fn told_offset(ordinal: u64, offset: usize, unread: Unread, faults: Faults) -> usize {
+    match faults {
+        _ if faults.on(Fault::RefusalOwnOffset) => unread.field,
+        _ if faults.on(Fault::RefusalOrdinal) => ordinal as usize,
+        _ if faults.on(Fault::RefusalWindowOffset) => offset % WINDOW,
+        _ if faults.on(Fault::Offset16Bits) => offset % 65_536,
+        _ => offset,
+    }
+}
+
+#[cfg(test)]
+mod tests {
+    use super::*;
+    use crate::cases::traces::examples::{self, Example};
+
+    fn printed(trace: &[u8]) -> String {
+        String::from_utf8(replay(trace, Faults::NONE)).expect("only plain characters")
+    }
+
+    #[test]
+    fn the_examples_print_what_they_should() {
+        for Example { trace, printed: expected } in examples::all() {
+            assert_eq!(printed(&trace), expected, "{trace:02x?}");
+        }
+    }
+
+    /// The offsets at which the entries of this trace begin, and its end.
+    fn starts(trace: &[u8]) -> Vec<usize> {
+        let mut starts = vec![0];
+        let mut offset = 0;
+        while offset < trace.len() {
+            offset = reading::read(trace, offset, Faults::NONE).expect("a whole trace").next;
+            starts.push(offset);
+        }
+        starts
+    }
+
+    #[test]
+    fn a_trace_cut_at_any_octet_is_refused_at_its_last_entry() {
+        let trace = examples::all_kinds();
+        let whole = printed(&trace);
+        let starts = starts(&trace);
+        assert_eq!(starts[..5], [0, 41, 78, 82, 86]);
+        for length in 0..=trace.len() {
+            let before = starts.iter().filter(|&&start| start <= length).count() - 1;
+            let lines: Vec<&str> = whole.lines().take(before).collect();
+            let cut = printed(&trace[..length]);
+            let cut: Vec<&str> = cut.lines().collect();
+            assert_eq!(cut[..before], lines, "{length}");
+            if starts[before] == length {
+                assert!(cut[before..]
+                    .iter()
+                    .all(|line| line.starts_with("ip") || line.starts_with("ike")));
+            } else {
+                assert_eq!(cut[before..], [format!("20 at {}", starts[before])]);
+            }
+        }
+    }
+
+    #[test]
+    fn every_kind_is_made_on_what_the_one_before_left() {
+        let expected = "0 0 none none
+1 0 none none
+2 0 none none
+3 0 none none
+4 0 applied none
+5 0 none none
+6 0 applied replaced
+7 0 none none
+8 0 none none
+9 0 none none
+ike 7 4 c0000201000000000000000000000000 c6336401000000000000000000000000 4500 4500
+ipsec 9 4 c0000201000000000000000000000000 c6336401000000000000000000000000 4500 4500
+";
+        assert_eq!(printed(&examples::all_kinds()), expected);
+    }
+
+    #[test]
+    fn pairs_come_by_place_and_with_all_their_octets() {
+        let open = |spi: u8, family: u8, child: u8| {
+            let pair = [vec![family], vec![0xab; 4], vec![0; 28], vec![1, 2]].concat();
+            [vec![0, spi, 1], pair, vec![child]].concat()
+        };
+        let trace = [open(9, 4, 8), open(3, 6, 5), vec![2, 9], open(7, 4, 6)].concat();
+        let (ab, zeros) = ("ab".repeat(4), "0".repeat(24));
+        let pair = |family| format!("{family} {ab}{zeros} {} 1 2", "0".repeat(32));
+        let expected = format!(
+            "0 0 none none\n1 0 none none\n2 0 none none\n3 0 none none\n\
+             ike 7 {four}\nike 3 {six}\nipsec 6 {four}\nipsec 5 {six}\n",
+            four = pair(4),
+            six = pair(6)
+        );
+        assert_eq!(printed(&trace), expected);
+    }
+}
