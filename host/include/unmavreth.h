@@ -681,7 +681,8 @@ UNMAVRETH_AT(unmavreth_entry_written, length, 8);
 // Writes an entry; offsets in its slots are those of `source`. Slots that the kind does not have, and those of a list's
 // items past its count, are not looked at. Numbers, in the order of the checks:
 //   21  no kind has this number
-//   22  a number, a count or a length is too large for its field, or an address or a string is not within `source`
+//   22  a number, a count or a length is too large for its field, or an address or a string, an empty one too, is not
+//       within `source`
 //    2  the output is shorter than the entry
 //    0  written to the start of the output; octets past `length` stay as they were
 // With 21, 22 and 2 every octet of the output stays as it was; `length` is 0. What is written reads back as it was

@@ -388,6 +388,20 @@ pub enum Fault {
     WrittenBefore22,
     WrittenLengthWith2,
     WrittenRestCleared,
+    WrittenUnknownKind22,
+    WrittenRoomBeforeKind,
+    WrittenOutsideZeros,
+    WrittenOutsideByOne,
+    WrittenEndWraps,
+    WrittenEmptyOutside,
+    WrittenOutsidePastCount,
+    ReadOffsetsOfEntry,
+    ReadNextOfEntry,
+    ReadSlotBehind,
+    RefusedKindTold,
+    RefusedNextTold,
+    EndRead,
+    PlaceWraps,
 }
 
 const OF_READER: [(Fault, &str); 38] = [
@@ -771,7 +785,7 @@ const OF_TRACES: [(Fault, &str); 69] = [
     (Fault::EmptyTraceLine, "empty-trace-line"),
 ];
 
-const OF_ENTRIES: [(Fault, &str); 19] = [
+const OF_ENTRIES: [(Fault, &str); 33] = [
     (Fault::NatValuesTurned, "nat-values-turned"),
     (Fault::WrittenNotShortest, "written-not-shortest"),
     (Fault::WrittenHighestFirst, "written-highest-first"),
@@ -791,6 +805,20 @@ const OF_ENTRIES: [(Fault, &str); 19] = [
     (Fault::WrittenBefore22, "written-before-22"),
     (Fault::WrittenLengthWith2, "written-length-with-2"),
     (Fault::WrittenRestCleared, "written-rest-cleared"),
+    (Fault::WrittenUnknownKind22, "written-unknown-kind-22"),
+    (Fault::WrittenRoomBeforeKind, "written-room-before-kind"),
+    (Fault::WrittenOutsideZeros, "written-outside-zeros"),
+    (Fault::WrittenOutsideByOne, "written-outside-by-one"),
+    (Fault::WrittenEndWraps, "written-end-wraps"),
+    (Fault::WrittenEmptyOutside, "written-empty-outside"),
+    (Fault::WrittenOutsidePastCount, "written-outside-past-count"),
+    (Fault::ReadOffsetsOfEntry, "read-offsets-of-entry"),
+    (Fault::ReadNextOfEntry, "read-next-of-entry"),
+    (Fault::ReadSlotBehind, "read-slot-behind"),
+    (Fault::RefusedKindTold, "refused-kind-told"),
+    (Fault::RefusedNextTold, "refused-next-told"),
+    (Fault::EndRead, "end-read"),
+    (Fault::PlaceWraps, "place-wraps"),
 ];
 
 /// A fault by its name, with the kind of cases that must find it.
@@ -860,6 +888,7 @@ mod tests {
     use crate::outcome::Outcome;
     use crate::reader::read;
     use crate::round_trips::Model;
+    use crate::trace::codec;
     use crate::writer::write;
 
     fn shows_in_reader(cases: &ReaderCases, number: u64, fault: Fault) -> bool {
@@ -919,7 +948,8 @@ mod tests {
 
     fn shows_in_entries(cases: &EntriesCases, number: u64, fault: Fault) -> bool {
         let case = cases.case(number);
-        case.outcome(Faults::NONE) != case.outcome(Faults::only(fault))
+        case.outcome(&codec::Model(Faults::NONE))
+            != case.outcome(&codec::Model(Faults::only(fault)))
     }
 
     #[test]
@@ -975,7 +1005,7 @@ mod tests {
         let (traces, entries) = (TracesCases::new(1), EntriesCases::new(1));
         let printed = |number, faults| traces.case(number).printed(faults);
         assert_eq!(alike(Kind::Traces, 10_000, printed), Vec::<Vec<&str>>::new());
-        let outcome = |number, faults| entries.case(number).outcome(faults);
+        let outcome = |number, faults| entries.case(number).outcome(&codec::Model(faults));
         assert_eq!(alike(Kind::Entries, 10_000, outcome), Vec::<Vec<&str>>::new());
     }
 

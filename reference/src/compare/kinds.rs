@@ -1,5 +1,6 @@
 // The kinds that this program runs, and the cases of each.
 use crate::assess;
+use crate::entries;
 use crate::orders;
 use crate::reader;
 use crate::report::Detail;
@@ -9,6 +10,7 @@ use crate::tables;
 use crate::traces;
 use crate::writer;
 use reference::cases::assess::AssessCases;
+use reference::cases::entries::EntriesCases;
 use reference::cases::orders::OrdersCases;
 use reference::cases::reader::ReaderCases;
 use reference::cases::requests::RequestsCases;
@@ -20,8 +22,8 @@ use reference::faults::{Faults, NamedFault};
 use reference::kind::Kind;
 use std::io;
 
-/// The kinds whose calls the library has, in the order in which they take turns in a run of all.
-const OF_CALLS: [Kind; 14] = [
+/// The kinds of the library's calls, in the order in which they take turns in a run of all.
+const OF_CALLS: [Kind; 15] = [
     Kind::Reader,
     Kind::Requests,
     Kind::Tables,
@@ -36,6 +38,7 @@ const OF_CALLS: [Kind; 14] = [
     Kind::RoundTrips,
     Kind::Writer,
     Kind::RoundTrips,
+    Kind::Entries,
 ];
 
 /// The turns of all kinds. A trace has one less often, since a program is started for each.
@@ -78,6 +81,7 @@ pub struct Cases {
     writer: WriterCases,
     round_trips: RoundTripsCases,
     traces: TracesCases,
+    entries: EntriesCases,
 }
 
 impl Cases {
@@ -91,6 +95,7 @@ impl Cases {
             writer: WriterCases::new(seed),
             round_trips: RoundTripsCases::new(seed),
             traces: TracesCases::new(seed),
+            entries: EntriesCases::new(seed),
         }
     }
 
@@ -120,7 +125,7 @@ impl Cases {
             Kind::Writer => writer::run(self.writer.case(number), faults, detail),
             Kind::RoundTrips => round_trips::run(self.round_trips.case(number), faults, detail),
             Kind::Traces => traces::run(self.traces.case(number), faults, detail)?,
-            Kind::Entries => unreachable!("the library has no such call"),
+            Kind::Entries => entries::run(self.entries.case(number), faults, detail),
         })
     }
 }

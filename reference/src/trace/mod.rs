@@ -1,4 +1,5 @@
 // A trace: calls as octets, one entry behind the other, and its replay (request E3 of document 02).
+pub mod codec;
 mod cursor;
 pub mod entry;
 pub mod fields;
@@ -8,6 +9,7 @@ pub mod numbers;
 pub mod pieces;
 pub mod reading;
 pub mod replay;
+pub mod slots;
 pub mod writing;
 
 /// Why an entry isn't read, or isn't written, with its number.

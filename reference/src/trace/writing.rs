@@ -1,7 +1,9 @@
 // Writing an entry: every field that is too large is found first (22), then an output too short (2).
 use super::entry::{Entry, Pair, Request, Rule};
 use super::fields::{Field, MOST_RULES};
+use super::slots::Meant;
 use super::{numbers, Refusal};
+use crate::address::AddressOctets;
 use crate::faults::{Fault, Faults};
 
 /// What an entry consists of, in its order.
@@ -9,8 +11,9 @@ use crate::faults::{Fault, Faults};
 pub enum Piece<'a> {
     Kind(u64),
     Number(Field, u64),
-    /// Octets as they are: an address, or those of a string.
-    Bare(&'a [u8]),
+    Address(&'a AddressOctets),
+    /// Those of a string, behind its length.
+    Octets(&'a [u8]),
 }
 
 #[derive(Debug, Clone, PartialEq, Eq)]
@@ -20,14 +23,22 @@ pub struct Written {
     pub length: usize,
     /// The whole output after the call.
     pub output: Vec<u8>,
+    /// Whether what is around the output, and what is lent for reading, is as it was.
+    pub around_kept: bool,
 }
 
 /// Writes an entry to the start of the output, or nothing.
 pub fn write(entry: &Entry, output: &[u8], faults: Faults) -> Written {
+    write_meant(&Meant { entry: entry.clone(), within: true }, output, faults)
+}
+
+/// The same of an entry that was told by slots; what isn't within the source is as what is too large.
+pub fn write_meant(meant: &Meant, output: &[u8], faults: Faults) -> Written {
+    let Meant { entry, within } = meant;
     let mut pieces = pieces(entry, faults);
     pieces.iter_mut().for_each(|piece| piece.spoil(faults));
     let fitting = pieces.iter().take_while(|piece| piece.fits(faults)).count();
-    let fits = fitting == pieces.len() && !past_count_unfit(entry, faults);
+    let fits = fitting == pieces.len() && *within && !past_count_unfit(entry, faults);
     let octets = octets(&pieces, faults);
     let mut output = output.to_vec();
     let (number, length) = match refusal(fits, octets.len(), output.len(), faults) {
@@ -51,7 +62,7 @@ pub fn write(entry: &Entry, output: &[u8], faults: Faults) -> Written {
             (refusal as u8, 0)
         }
     };
-    Written { number, length, output }
+    Written { number, length, output, around_kept: true }
 }
 
 /// 22, then 2.
@@ -97,7 +108,7 @@ impl Piece<'_> {
     fn fits(&self, faults: Faults) -> bool {
         match self {
             Piece::Number(field, value) => *value <= field.most(faults),
-            Piece::Kind(_) | Piece::Bare(_) => true,
+            Piece::Kind(_) | Piece::Address(_) | Piece::Octets(_) => true,
         }
     }
 
@@ -119,7 +130,8 @@ impl Piece<'_> {
                 vec![*value as u8]
             }
             Piece::Kind(value) | Piece::Number(_, value) => numbers::write(*value, faults),
-            Piece::Bare(octets) => octets.to_vec(),
+            Piece::Address(octets) => octets.to_vec(),
+            Piece::Octets(octets) => octets.to_vec(),
         }
     }
 }
@@ -168,23 +180,23 @@ fn push_request<'a>(pieces: &mut Vec<Piece<'a>>, request: &'a Request) {
 
 fn push_pair<'a>(pieces: &mut Vec<Piece<'a>>, pair: &'a Pair) {
     pieces.push(Piece::Number(Field::Family, pair.family));
-    pieces.push(Piece::Bare(&pair.source));
-    pieces.push(Piece::Bare(&pair.destination));
+    pieces.push(Piece::Address(&pair.source));
+    pieces.push(Piece::Address(&pair.destination));
     pieces.push(Piece::Number(Field::Port, pair.source_port));
     pieces.push(Piece::Number(Field::Port, pair.destination_port));
 }
 
 fn push_rule<'a>(pieces: &mut Vec<Piece<'a>>, rule: &'a Rule) {
     pieces.push(Piece::Number(Field::Family, rule.family));
-    pieces.push(Piece::Bare(&rule.source));
-    pieces.push(Piece::Bare(&rule.destination));
+    pieces.push(Piece::Address(&rule.source));
+    pieces.push(Piece::Address(&rule.destination));
     pieces.push(Piece::Number(Field::PrefixLength, rule.source_length));
     pieces.push(Piece::Number(Field::PrefixLength, rule.destination_length));
 }
 
 fn push_string<'a>(pieces: &mut Vec<Piece<'a>>, octets: &'a [u8]) {
     pieces.push(Piece::Number(Field::Length, octets.len() as u64));
-    pieces.push(Piece::Bare(octets));
+    pieces.push(Piece::Octets(octets));
 }
 
 /// Whether a rule past the count has no room, which only a fault looks at.
@@ -201,7 +213,7 @@ mod tests {
     use crate::trace::entry::Rules;
 
     fn written(entry: &Entry, output: &[u8]) -> (u8, usize, Vec<u8>) {
-        let Written { number, length, output } = write(entry, output, Faults::NONE);
+        let Written { number, length, output, .. } = write(entry, output, Faults::NONE);
         (number, length, output)
     }
 

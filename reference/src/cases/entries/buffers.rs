@@ -1,8 +1,8 @@
 // Octets to read an entry of, and the place at which it is read.
 use super::super::traces;
-use super::Buffer;
 use crate::faults::Faults;
 use crate::rng::Rng;
+use crate::trace::codec::Buffer;
 use crate::trace::entry::Entry;
 use crate::trace::reading;
 use crate::trace::writing::entry_octets;

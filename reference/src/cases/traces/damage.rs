@@ -35,7 +35,7 @@ pub fn numbers_with_forms(entry: &Entry) -> Vec<(usize, Vec<Vec<u8>>)> {
     let of_piece = |piece: &Piece| match piece {
         Piece::Kind(value) => Some([forms(*value), UNKNOWN_KINDS.map(shortest).to_vec()].concat()),
         Piece::Number(field, value) => Some([forms(*value), about_room(*field)].concat()),
-        Piece::Bare(_) => None,
+        Piece::Address(_) | Piece::Octets(_) => None,
     };
     let pieces = pieces(entry, Faults::NONE);
     let all = pieces.iter().enumerate();

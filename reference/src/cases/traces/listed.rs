@@ -44,7 +44,7 @@ pub(in crate::cases) fn request() -> Request {
 }
 
 /// An entry of every kind, a policy with two rules too.
-pub(in crate::cases) fn samples() -> Vec<Entry> {
+pub(crate) fn samples() -> Vec<Entry> {
     let source = PAIR.source;
     let narrow = Rule { family: 4, source, source_length: 24, ..Rule::default() };
     let whole = Rule { family: 6, destination_length: 128, ..Rule::default() };

@@ -1,8 +1,8 @@
 // The replay's cases: traces, those that a gateway might leave, any others that are read, and others.
 pub(super) mod any_fields;
-mod damage;
+pub(super) mod damage;
 pub mod examples;
-pub(super) mod listed;
+pub(crate) mod listed;
 mod nights;
 mod piecewise;
 mod windows;
