@@ -1,4 +1,4 @@
--- Trusted. An entry of a trace: written, and read at a place of a buffer (02, E3).
+-- Trusted. An entry of a trace: written, and read at an offset of a buffer (02, E3).
 --   Entry              a kind and the values of its fields
 --   entryOctets e      how it is written
 --   entryAt s at       reading one
@@ -61,7 +61,7 @@ afterKind s (Is n next) = ofKind s next (kindOf n)
 unfoldable pub entryAt : List ℕ → ℕ → Reading Entry
 entryAt s at = afterKind s (decodedAt s at)
 
--- what is told: its kind and the place after it, or why it is refused
+-- what is told: its kind and the offset after it, or why it is refused
 abbrev pub entryStep : Reading Entry → EntryStep
 entryStep (read e slots next) = step.Entry (e .kind) next
 entryStep (refused why slots) = step.Refused why

@@ -3,7 +3,7 @@ use crate::kind::Kind;
 use fields::refusal::Refusal;
 
 pub enum EntryStep {
-    // its kind, and the place after it
+    // its kind, and the offset after it
     Entry(Kind, usize),
     Refused(Refusal),
 }

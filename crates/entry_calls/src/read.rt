@@ -13,9 +13,9 @@ pub struct EntryRead {
     // 0, or why it is refused: 20, 21, 22, and then all else is 0.
     pub number: u8,
     pub kind: u8,
-    // The place after it.
+    // The offset after it.
     pub next: usize,
-    // Its values in the order of its fields; addresses and strings by their place in the trace.
+    // Its values in the order of its fields; addresses and strings by their offsets in the trace.
     pub slots: [u64; ENTRY_SLOTS],
 }
 

@@ -16,7 +16,7 @@ pub struct EntryWritten {
     pub length: usize,
 }
 
-// Writes an entry at the front of the output. Its addresses and strings are parts of `source`, by their places there.
+// Writes an entry at the front of the output. Its addresses and strings are parts of `source`, by their offsets there.
 pub fn entry_written(
     kind: u8,
     slots: &[u64; ENTRY_SLOTS],

@@ -40,7 +40,7 @@ copies (suc n) fs = follow fs (copies n fs)
 unfoldable pub runFrom : List ℕ → ℕ → ℕ → Field
 runFrom codes i left = follow (drop i (map fieldOf codes)) (copies left (map fieldOf codes))
 
--- ---- what reading a field leaves: the place after it or why it is refused, and the slots
+-- ---- what reading a field leaves: the offset after it or why it is refused, and the slots
 
 -- what was read ends within the buffer
 abbrev pub Within : List ℕ → Step → Type 0
@@ -53,7 +53,7 @@ pub record ReadsTo (f : Field) (s : List ℕ) (at : ℕ) (slots : List ℕ) (slo
   pub told : left ≡ placed slots slot (slotsOf (readAt f s at))
   pub within : Within s r
 
--- ---- what writing a field needs, and leaves: the octets at their place, and the place after them
+-- ---- what writing a field needs, and leaves: the octets at their offset, and the offset after them
 pub record Ready (f : Field) (s slots : List ℕ) (slot : ℕ) (out : List ℕ) (at : ℕ) : Type 0 where
   pub told : slot + width f ≤ length slots
   pub fitting : fitsIn f s (drop slot slots) ≡ true

@@ -1,8 +1,8 @@
--- Trusted. What reading a field at a place of a buffer comes to (02, E3).
---   readAt f s at          reading the field f at the place `at` of the buffer s
---   read v slots next      the value, what the reader tells of it in numbers (Slots.antt), and the place after it
+-- Trusted. What reading a field at an offset of a buffer comes to (02, E3).
+--   readAt f s at          reading the field f at the offset `at` of the buffer s
+--   read v slots next      the value, what the reader tells of it in numbers (Slots.antt), and the offset after it
 --   refused why slots      Cut (20) or TooLarge (22), and what was told of the fields before
---   stepOf, slotsOf        what is told of a reading: the place after it or why it is refused, and the slots
+--   stepOf, slotsOf        what is told of a reading: the offset after it or why it is refused, and the slots
 -- Order of the checks: a number, length or count: 20, then 22; then the octets or the items behind it: 20.
 use Prim.Native.Nat.{ℕ, zero, suc, _+_, _-_, _*_}
 use mathlib.Core.Bool.{Bool, cond}

@@ -1,5 +1,5 @@
--- Trusted. What a reader tells of a field, and a writer is told, in numbers: a slot for a number, for the place of an
--- address in the lent buffer, for the place and the length of a string, for a list's count and then for each of its 16
+-- Trusted. What a reader tells of a field, and a writer is told, in numbers: a slot for a number, for the offset of an
+-- address in the lent buffer, for the offset and the length of a string, for a list's count and then for each of its 16
 -- places.
 --   width f            how many slots a field has
 --   valueIn f s slots  the value that the slots tell, s being the lent buffer

@@ -2,7 +2,7 @@
 use crate::refusal::Refusal;
 
 pub enum Step {
-    // the place after what was read
+    // the offset after what was read
     At(usize),
     Refused(Refusal),
 }

@@ -1,8 +1,8 @@
 -- Trusted. Numbers of a trace (02, E3), as octets and read from octets.
 --   octetsOf n       the octets of a number
---   decoded os at    the number that the octets begin with; `at` is the place of the first of them in a buffer
---   decodedAt s at   the number at a place of a buffer
---   Is v next, Bad   what was read: a number and the place after it, or nothing that is one (refused with 20)
+--   decoded os at    the number that the octets begin with; `at` is the offset of the first of them in a buffer
+--   decodedAt s at   the number at an offset of a buffer
+--   Is v next, Bad   what was read: a number and the offset after it, or nothing that is one (refused with 20)
 --
 --   300 is 2 * 128 + 44:   AC            02
 --                          1 0101100     0 0000010

@@ -8,7 +8,7 @@ ghost use Rattle.leb128.specs.Leb128.{decodedAt, octetsOf};
 ghost use Rattle.leb128.specs.Within.{readWithin, Within};
 
 pub enum Decoded {
-    // the number, and the place after it
+    // the number, and the offset after it
     Is(u64, usize),
     // cut, not in the shortest form, or past 64 bits
     Bad,
@@ -63,7 +63,7 @@ pub fn number_size(n: u64) -> usize
     1 + number_size(n / 128)
 }
 
-// Writes `n` at `at`, and returns the place after it.
+// Writes `n` at `at`, and returns the offset after it.
 pub fn put_number(out: &mut [u8], at: usize, n: u64) -> usize
     requires { ⌜ at + length (octetsOf n) ≤ length (now out) ⌝ }
     ensures { λ r. ⌜ r ≡ at + length (octetsOf n) ⌝ }

@@ -1,4 +1,4 @@
-// One entry, read at a place of a lent buffer. Its values go to lent slots, in the order of its fields.
+// One entry, read at an offset of a lent buffer. Its values go to lent slots, in the order of its fields.
 use entries::kind::Kind;
 use entries::kind::Known;
 use entries::kind::kind_of;

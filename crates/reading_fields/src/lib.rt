@@ -1,4 +1,4 @@
-// One field, read at a place of a lent buffer. What is read goes to lent slots, from `slot` on.
+// One field, read at an offset of a lent buffer. What is read goes to lent slots, from `slot` on.
 pub mod filling;
 
 use fields::codes::ADDRESS;
@@ -34,7 +34,7 @@ fn read_limited(s: &[u8], at: usize, most: u64, slots: &mut [u64], slot: usize) 
     }
 }
 
-// Sixteen octets as they stand: their place.
+// Sixteen octets as they stand: their offset.
 fn read_address(s: &[u8], at: usize, slots: &mut [u64], slot: usize) -> Step
     requires { ⌜ at ≤ length (now s) ⌝ }
     requires { ⌜ slot + 1 ≤ length (now slots) ⌝ }
@@ -47,7 +47,7 @@ fn read_address(s: &[u8], at: usize, slots: &mut [u64], slot: usize) -> Step
     Step::At(at + ADDRESS_OCTETS)
 }
 
-// A length and as many octets: their place, and the length.
+// A length and as many octets: their offset, and the length.
 fn read_string(s: &[u8], at: usize, slots: &mut [u64], slot: usize) -> Step
     requires { ⌜ slot + 2 ≤ length (now slots) ⌝ }
     ensures { λ r. ⌜ ReadsTo string (now (s .entry)) at (now (slots .entry)) slot (now (slots .exit)) r ⌝ }

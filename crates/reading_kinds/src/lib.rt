@@ -1,4 +1,4 @@
-// The fields of a kind of entry, read at a place of a lent buffer. What is read goes to lent slots.
+// The fields of a kind of entry, read at an offset of a lent buffer. What is read goes to lent slots.
 pub mod tables;
 
 use crate::tables::ADD_IPSEC;

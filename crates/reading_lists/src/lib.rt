@@ -1,4 +1,4 @@
-// A list of what a table says, read at a place of a lent buffer. What is read goes to lent slots, from `slot` on.
+// A list of what a table says, read at an offset of a lent buffer. What is read goes to lent slots, from `slot` on.
 use fields::codes::LIST_MOST;
 use fields::codes::LIST_PLACES;
 use fields::refusal::Refusal;

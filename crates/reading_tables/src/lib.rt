@@ -1,4 +1,4 @@
-// A table of fields, read at a place of a lent buffer. What is read goes to lent slots, from `slot` on.
+// A table of fields, read at an offset of a lent buffer. What is read goes to lent slots, from `slot` on.
 use fields::codes::width_of;
 use fields::step::Step;
 use reading_fields::read_field;

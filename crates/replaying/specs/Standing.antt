@@ -1,4 +1,4 @@
--- Inner. Where a replay stands lies within what the window holds: what keeps the program's places in range.
+-- Inner. Where a replay stands lies within what the window holds: what keeps the program's offsets in range.
 use Prim.Native.Nat.{_≤_}
 use mathlib.Core.Path.{_≡_}
 use Rattle.replaying.specs.declared.state.State.{State}

@@ -64,7 +64,7 @@ abbrev pub refilled : State → ℕ → ℕ → State
 refilled s kept len =
     state len 0 (s .next) (eqb len kept) (s .offset) (s .ordinal) (s .turn) (s .entry) (s .going)
 
--- a turn for t, with this entry and the place after it
+-- a turn for t, with this entry and the offset after it
 abbrev pub turning : State → Turn → ℕ → Slots → State
 turning s t next e = state (s .len) (s .at) next (s .ended) (s .offset) (s .ordinal) t e (s .going)
 

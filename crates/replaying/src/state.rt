@@ -18,7 +18,7 @@ pub enum Turn {
 }
 
 pub struct State {
-    // what the window holds, the first octet of it that is not used, and the place after the entry that is looked at
+    // what the window holds, the first octet of it that is not used, and the offset after the entry that is looked at
     pub len: usize,
     pub at: usize,
     pub next: usize,
@@ -52,7 +52,7 @@ pub fn begin() -> State
     }
 }
 
-// The state in a turn, with the entry that it is for and the place after that.
+// The state in a turn, with the entry that it is for and the offset after that.
 pub fn in_turn(s: State, turn: Turn, next: usize, entry: Slots) -> State
     ensures { λ r. ⌜ r ≡ turning s turn next entry ⌝ }
 {

@@ -18,13 +18,13 @@ ghost use Rattle.fields.specs.Codes.{fieldOf};
 ghost use Rattle.fields.specs.Writing.{roomIn};
 
 // Whether a part lies within what is lent.
-fn lies_within(length: usize, place: u64, size: u64) -> bool
-    ensures { λ r. ⌜ r ≡ leb (place + size) length ⌝ }
+fn lies_within(length: usize, offset: u64, size: u64) -> bool
+    ensures { λ r. ⌜ r ≡ leb (offset + size) length ⌝ }
 {
-    if place as usize > length {
+    if offset as usize > length {
         return false;
     }
-    size as usize <= length - place as usize
+    size as usize <= length - offset as usize
 }
 
 fn address_room(slots: &[u64], slot: usize, source: &[u8], room: Room) -> Room

@@ -14,7 +14,7 @@ ghost use Rattle.entries.specs.Slots.{entrySlots};
 ghost use Rattle.windows.specs.Windows.{nextIn, refusedIn, Within};
 
 pub enum Next {
-    // its kind, and the place after it
+    // its kind, and the offset after it
     Entry(Kind, usize),
     Refused(Refusal),
     // more octets are wanted

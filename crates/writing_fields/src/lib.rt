@@ -1,4 +1,4 @@
-// One field, written into an output from a place on. The values fit, and there is room (`sizing_fields`).
+// One field, written into an output from an offset on. The values fit, and there is room (`sizing_fields`).
 use fields::codes::ADDRESS;
 use fields::codes::STRING;
 use leb128::put_number;
@@ -11,14 +11,14 @@ ghost use Rattle.fields.specs.Codes.{fieldOf, Ready, Puts};
 ghost use Rattle.fields.specs.Writing.{octetsIn};
 
 // A part of what is lent.
-fn put_part(out: &mut [u8], at: usize, source: &[u8], place: u64, size: usize) -> usize
-    requires { ⌜ (place + size ≤ length (now source)) × (at + size ≤ length (now out)) ⌝ }
+fn put_part(out: &mut [u8], at: usize, source: &[u8], offset: u64, size: usize) -> usize
+    requires { ⌜ (offset + size ≤ length (now source)) × (at + size ≤ length (now out)) ⌝ }
     ensures { λ r. ⌜ (
-        let octets = take size (drop place (now (source .entry))) in
+        let octets = take size (drop offset (now (source .entry))) in
         Puts octets (now (out .entry)) at (now (out .exit)) r
         ) ⌝ }
 {
-    let from = place as usize;
+    let from = offset as usize;
     let end = from + size;
     copy_octets(out, at, &source[from..end]);
     at + size

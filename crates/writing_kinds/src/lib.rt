@@ -1,4 +1,4 @@
-// The fields of a kind of entry, written into an output from a place on. The values fit, and there is room
+// The fields of a kind of entry, written into an output from an offset on. The values fit, and there is room
 // (`sizing_kinds`).
 use entries::kind::Kind;
 use reading_kinds::tables::ADD_IPSEC;

@@ -1,4 +1,4 @@
-// A table of fields, written into an output from a place on. The values fit, and there is room (`sizing_tables`).
+// A table of fields, written into an output from an offset on. The values fit, and there is room (`sizing_tables`).
 use fields::codes::LIST_PLACES;
 use fields::codes::width_of;
 use leb128::put_number;

@@ -12,6 +12,6 @@ pub lies-within-spec : {M : Type 1} → statement M
 lies-within-spec =
     tie.close
     (tie.spec
-    (λ c. let a = c .before .args in sym (lt-leb (a .place + a .size) (a .length) (omega arith)))
+    (λ c. let a = c .before .args in sym (lt-leb (a .offset + a .size) (a .length) (omega arith)))
     (λ c. search needs)
     (λ c. within-rest _ _ _ (c .if1 .left)))

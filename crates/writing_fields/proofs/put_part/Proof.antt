@@ -22,8 +22,8 @@ put-part-spec =
     (λ c.
     let s = c .before .before .before .before .before .before .before in
     let a = s .args in
-    let e : a .place + a .size - a .place ≡ a .size = omega arith in
+    let e : a .offset + a .size - a .offset ≡ a .size = omega arith in
     record {
-      place = rw (part-length (a .source .now) (a .place) (a .size) (s .pre .0));
+      place = rw (part-length (a .source .now) (a .offset) (a .size) (s .pre .0));
       written = c .before .before .copy-octets .ensures ∙ rw e;
     }))
