@@ -109,6 +109,7 @@ fn replied(reply: &Reply) -> Vec<(&'static str, u64)> {
         ("left_off", reply.left_off().into()),
         ("payloads", reply.payloads().into()),
         ("offset", reply.offset().into()),
+        ("ordinal", reply.ordinal().into()),
         ("length", reply.length().into()),
     ]
 }
@@ -127,6 +128,7 @@ fn reading(body: &[u8], reading: &Reading) -> Told {
     let mut fields: Vec<(&str, u64)> = vec![
         ("number", u8::from(reading.number()).into()),
         ("offset", reading.offset().into()),
+        ("ordinal", reading.ordinal().into()),
         ("payloads", seen.tally.payloads.into()),
         ("unknown_payloads", seen.tally.unknown_payloads.into()),
         ("unknown_notifies", seen.tally.unknown_notifies.into()),
@@ -169,6 +171,7 @@ fn assessed(assessed: &Assessment) -> Told {
         ("outcome", outcome.into()),
         ("payloads", assessed.payloads().into()),
         ("offset", assessed.offset().into()),
+        ("ordinal", assessed.ordinal().into()),
         ("tally", assessed.tally().into()),
     ];
     Told { fields, octets: vec![], tables: None }

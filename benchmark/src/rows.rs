@@ -145,7 +145,7 @@ fn refusals() -> Vec<Row> {
         refused(5, "refused 5: MOBIKE not agreed", || {
             changed(|of| of.gateway.ike[0].agreed.mobike = Flag::NO)
         }),
-        refused(6, "refused 6: malformed at the first payload", || {
+        refused(61, "refused 61: malformed at the first payload", || {
             handling(NOTIFY, chains::malformed())
         }),
         refused(7, "refused 7: an unknown critical payload", || handling(200, vec![0, 0x80, 0, 4])),

@@ -102,6 +102,7 @@ fn handled(handling: &Handling, count: bool) -> Told {
         ("left_off", reply.left_off as u64),
         ("payloads", reply.payloads as u64),
         ("offset", reply.offset as u64),
+        ("ordinal", reply.ordinal as u64),
         ("length", reply.length as u64),
     ];
     let octets = vec![reply.handed_out.octets.to_vec(), handled.output];
@@ -122,6 +123,7 @@ fn reading(body: &[u8], reading: &Reading) -> Told {
     let mut fields: Vec<(&str, u64)> = vec![
         ("number", outcome.number.into()),
         ("offset", outcome.offset as u64),
+        ("ordinal", outcome.ordinal as u64),
         ("payloads", outcome.payloads as u64),
         ("unknown_payloads", outcome.unknown_payloads as u64),
         ("unknown_notifies", outcome.unknown_notifies as u64),
@@ -155,6 +157,7 @@ fn assessed(assessed: Assessed) -> Told {
         ("outcome", assessed.outcome.into()),
         ("payloads", assessed.payloads.into()),
         ("offset", assessed.offset.into()),
+        ("ordinal", assessed.ordinal.into()),
         ("tally", assessed.tally.into()),
     ];
     Told { fields, octets: vec![], tables: None }

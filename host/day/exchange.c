@@ -5,7 +5,7 @@
 #include <string.h>
 
 #include "address.h"
-#include "words.h"
+#include "unmavreth_words.h"
 
 exchange exchange_new(const day *d, uint32_t id, unmavreth_pair packet, uint16_t payloads)
 {
@@ -56,13 +56,20 @@ static void print_part(const char *what, unmavreth_part part)
     printf("\n");
 }
 
+// A fault of the chain, which is told with its payload.
+static bool is_fault(uint8_t number)
+{
+    return (number >= UNMAVRETH_BAD_CHAIN_LENGTH && number <= UNMAVRETH_OCTETS_AFTER_END) ||
+           number == UNMAVRETH_UNKNOWN_CRITICAL;
+}
+
 static void print_reply(const unmavreth_reply *r, const message *request)
 {
-    printf("  Gateway answers %u: %s", r->number, number_words(r->number));
-    if (r->number == UNMAVRETH_MALFORMED || r->number == UNMAVRETH_UNKNOWN_CRITICAL)
-        printf(", at offset %u", r->offset);
-    printf("\n    update %u: %s; list %u: %s; addresses left off %u; payloads %u\n", r->update, update_words(r->update),
-           r->list, list_words(r->list), r->left_off, r->payloads);
+    printf("  Gateway answers %u: %s", r->number, unmavreth_number_words(r->number));
+    if (is_fault(r->number))
+        printf(", at offset %u, payload %u from 0", r->offset, r->ordinal);
+    printf("\n    update %u: %s; list %u: %s; addresses left off %u; payloads %u\n", r->update,
+           unmavreth_update_words(r->update), r->list, unmavreth_list_words(r->list), r->left_off, r->payloads);
     unmavreth_part cookie = {request->octets, 0};
     unmavreth_cookie(&cookie, request->octets, request->length, r->cookie, r->cookie_len);
     print_part("cookie handed out", cookie);
@@ -79,9 +86,9 @@ static void print_response(const message *m)
 
 static void print_assessment(const unmavreth_assessment *a)
 {
-    printf("  Display's end answers %u: %s\n", a->number, number_words(a->number));
-    printf("    outcome %u: %s; payloads %u, unknown %u\n", a->outcome, outcome_words(a->outcome), a->payloads,
-           (unsigned)a->tally);
+    printf("  Display's end answers %u: %s\n", a->number, unmavreth_number_words(a->number));
+    printf("    outcome %u: %s; payloads %u, unknown %u\n", a->outcome, unmavreth_outcome_words(a->outcome),
+           a->payloads, (unsigned)a->tally);
 }
 
 // What the display is handed out of the response: the cookie that came back and both NAT detection values, as parts of
@@ -110,6 +117,7 @@ static void check_answers(checks *c, const exchange *x, const unmavreth_reply *r
     check_number(c, "the update", r->update, x->update);
     check_number(c, "the list", r->list, x->list);
     check_number(c, "the offset", r->offset, x->offset);
+    check_number(c, "the ordinal", r->ordinal, x->ordinal);
     check_number(c, "the count of payloads", r->payloads, x->payloads);
     check_number(c, "the display's number", a->number, UNMAVRETH_DONE);
     check_number(c, "the display's outcome", a->outcome, x->outcome);

@@ -27,7 +27,7 @@ typedef struct exchange {
     unmavreth_pair packet;
     sent sent;
     uint8_t number, update, list, outcome;
-    uint16_t offset, payloads;
+    uint16_t offset, ordinal, payloads;
     tables after;
 } exchange;
 

@@ -4,7 +4,7 @@
 #include <stdio.h>
 #include <string.h>
 
-#include "words.h"
+#include "unmavreth_words.h"
 
 enum { HEADER = 4, NOTIFY_HEADER = 8, CRITICAL = 0x80, OCTETS_A_LINE = 16, NAME = 40 };
 
@@ -30,7 +30,7 @@ static void name_payload(char name[NAME], uint8_t type, const uint8_t *octets, s
 {
     if (type == UNMAVRETH_NOTIFY_PAYLOAD && size >= NOTIFY_HEADER) {
         unsigned notify = number_at(octets + 6);
-        const char *known = notify_name((uint16_t)notify);
+        const char *known = unmavreth_notify_words((uint16_t)notify);
         if (known != NULL)
             snprintf(name, NAME, "%s", known);
         else

@@ -5,7 +5,7 @@
 #include "address.h"
 #include "records.h"
 #include "scenes.h"
-#include "words.h"
+#include "unmavreth_words.h"
 
 enum { RULES = 3 };
 
@@ -34,7 +34,7 @@ static void set_policy(day *d)
     rules.rules[1] = rule_of("198.51.100.0", 25, GATEWAY, 32);
     rules.rules[2] = rule_of("2001:db8:b05::", 48, "2001:db8::1", 128);
     uint8_t number = gateway_set_policy(&d->gateway, RULES, &rules);
-    printf("  Set the policy, answer %u: %s\n", number, number_words(number));
+    printf("  Set the policy, answer %u: %s\n", number, unmavreth_number_words(number));
     for (size_t i = 0; i < d->gateway.policy.count; i++)
         print_rule(&d->gateway.policy.rules[i]);
     check_number(&d->checks, "setting the policy", number, UNMAVRETH_DONE);

@@ -32,8 +32,9 @@ void says_the_malformed(day *d)
     // The display sent a whole cookie. That none comes back is no reason to close where an error is told.
     x.sent = (sent){.cookie = {1, 2, 3, 4, 5, 6, 7, 8}, .cookie_octets = COOKIE_OCTETS};
     x.sent.request = message_of(UNMAVRETH_NOTIFY_PAYLOAD, octets, sizeof octets);
-    x.number = UNMAVRETH_MALFORMED;
+    x.number = UNMAVRETH_BAD_CHAIN_LENGTH;
     x.offset = 8;
+    x.ordinal = 1;
     x.outcome = UNMAVRETH_OUTCOME_FAILED;
     play(d, &x);
 }
@@ -49,6 +50,7 @@ void says_the_critical(day *d)
     x.sent.request = message_of(UNMAVRETH_NOTIFY_PAYLOAD, octets, sizeof octets);
     x.number = UNMAVRETH_UNKNOWN_CRITICAL;
     x.offset = 8;
+    x.ordinal = 1;
     x.outcome = UNMAVRETH_OUTCOME_FAILED;
     play(d, &x);
 }

@@ -46,7 +46,11 @@ enum unmavreth_number {
     UNMAVRETH_BODY_TOO_LONG = 3,
     UNMAVRETH_NO_SUCH_RECORD = 4,
     UNMAVRETH_MOBIKE_NOT_AGREED = 5,
-    UNMAVRETH_MALFORMED = 6,
+    UNMAVRETH_BAD_CHAIN_LENGTH = 61, // under 4 octets left where a payload is due, or a length under 4 or past the end
+    UNMAVRETH_BAD_NOTIFY = 62,       // a Notify under 8 octets, an SPI past its length, or one where its type has none
+    UNMAVRETH_BAD_DATA_SIZE = 63,    // data of a size that its notify type does not have
+    UNMAVRETH_REPEATED = 64,         // a repeated or contradictory notification
+    UNMAVRETH_OCTETS_AFTER_END = 65, // octets after the end of the chain
     UNMAVRETH_UNKNOWN_CRITICAL = 7,  // a payload of an unknown type with its critical bit set
     UNMAVRETH_ADDRESSES_ALTERED = 8, // NO_NATS_ALLOWED is not the packet's addresses and ports
     UNMAVRETH_NOT_ACCEPTABLE = 9,    // no rule of the policy matches the packet's pair
@@ -376,24 +380,29 @@ UNMAVRETH_AT(unmavreth_seen, list, 24);
 typedef struct unmavreth_reading {
     uint8_t number;
     uint8_t critical; // with 7, the type of that payload, else 0
-    uint16_t offset;  // with 6 and 7, where the payload begins, else 0
+    uint16_t offset;  // with 61 to 65 and 7, where the payload (with 65 the first of the octets) begins, else 0
+    uint16_t ordinal; // with 61 to 65 and 7, how many payloads stand before it, else 0
     unmavreth_seen seen;
 } unmavreth_reading;
-UNMAVRETH_SIZE(unmavreth_reading, 78);
+UNMAVRETH_SIZE(unmavreth_reading, 80);
 UNMAVRETH_AT(unmavreth_reading, number, 0);
 UNMAVRETH_AT(unmavreth_reading, critical, 1);
 UNMAVRETH_AT(unmavreth_reading, offset, 2);
-UNMAVRETH_AT(unmavreth_reading, seen, 4);
+UNMAVRETH_AT(unmavreth_reading, ordinal, 4);
+UNMAVRETH_AT(unmavreth_reading, seen, 6);
 
 // Reads any octets as a chain of payloads, the first of type `first`. Numbers, in the order of the checks:
 //    3  the body has over 4,096 octets
-//    6  malformed                                           } whichever is at the smallest offset; in one payload,
-//    7  a payload of an unknown type with its critical bit  } 6 comes before 7
+//   61  under 4 octets left where a payload is due; a length under 4 or past the end
+//   62  a Notify under 8 octets, or with an SPI past its length; one of the notify types above with an SPI
+//   63  one of the notify types above with data of another size
+//   64  a second UPDATE_SA_ADDRESSES, NO_ADDITIONAL_ADDRESSES, COOKIE2, NO_NATS_ALLOWED or
+//       NAT_DETECTION_DESTINATION_IP; NO_ADDITIONAL_ADDRESSES together with an address, told at the later
+//   65  octets after the last payload
+//    7  a payload of an unknown type with its critical bit
+//         Of 61 to 65 and 7, whichever is at the smallest offset; at one payload the first in this order.
 //    0  read whole: `seen` says what is in it
-// With 3, 6 and 7 every field of `seen` is 0. Malformed is: under 4 octets left where a payload is due; a length under
-// 4 or past the end; octets after the last payload; a Notify under 8 octets, or with an SPI past its length; one of the
-// notify types above with an SPI, or with data of another size; a second UPDATE_SA_ADDRESSES, NO_ADDITIONAL_ADDRESSES,
-// COOKIE2, NO_NATS_ALLOWED or NAT_DETECTION_DESTINATION_IP; NO_ADDITIONAL_ADDRESSES together with an address.
+// With 3, 61 to 65 and 7 every field of `seen` is 0.
 unmavreth_reading unmavreth_read(uint8_t first, const uint8_t *body, size_t body_size);
 
 // A part of a body: where it starts and how many octets it has.
@@ -438,13 +447,14 @@ typedef struct unmavreth_reply {
     uint8_t list;        // enum unmavreth_list; none with every number but 0
     uint8_t first;       // the type of the response's first payload: 41, or 0 if the response is empty
     uint16_t left_off;   // how many addresses of a list that was kept were over sixteen
-    uint16_t payloads;   // of the request; 0 with 1 to 7
-    uint16_t offset;     // with 6 and 7, where the payload begins, else 0
-    uint16_t cookie;     // offset of the request's COOKIE2; 0 if there is none, and with 1 to 7
+    uint16_t payloads;   // of the request; 0 with 1 to 5, 61 to 65 and 7
+    uint16_t offset;     // as in unmavreth_reading
+    uint16_t ordinal;    // likewise
+    uint16_t cookie;     // offset of the request's COOKIE2; 0 if there is none, and with 1 to 5, 61 to 65 and 7
     uint16_t cookie_len; // its length, 0 likewise
     uint16_t length;     // octets of the response
 } unmavreth_reply;
-UNMAVRETH_SIZE(unmavreth_reply, 16);
+UNMAVRETH_SIZE(unmavreth_reply, 18);
 UNMAVRETH_AT(unmavreth_reply, number, 0);
 UNMAVRETH_AT(unmavreth_reply, update, 1);
 UNMAVRETH_AT(unmavreth_reply, list, 2);
@@ -452,9 +462,10 @@ UNMAVRETH_AT(unmavreth_reply, first, 3);
 UNMAVRETH_AT(unmavreth_reply, left_off, 4);
 UNMAVRETH_AT(unmavreth_reply, payloads, 6);
 UNMAVRETH_AT(unmavreth_reply, offset, 8);
-UNMAVRETH_AT(unmavreth_reply, cookie, 10);
-UNMAVRETH_AT(unmavreth_reply, cookie_len, 12);
-UNMAVRETH_AT(unmavreth_reply, length, 14);
+UNMAVRETH_AT(unmavreth_reply, ordinal, 10);
+UNMAVRETH_AT(unmavreth_reply, cookie, 12);
+UNMAVRETH_AT(unmavreth_reply, cookie_len, 14);
+UNMAVRETH_AT(unmavreth_reply, length, 16);
 
 // Handles one decrypted INFORMATIONAL request for an IKE SA of which our end is the original responder.
 //   spi, id                      the gateway's SPI of the IKE SA, and the request's message ID
@@ -471,9 +482,9 @@ UNMAVRETH_AT(unmavreth_reply, length, 14);
 //    4  no IKE record has this SPI
 //    5  MOBIKE was not agreed for it
 //         With 1 to 5 every field of every place and every octet of the output stay as they were; `length` is 0.
-//    6  malformed                     } as in unmavreth_read
+//   61 to 65  malformed               } as in unmavreth_read
 //    7  an unknown critical payload   }
-//         With 6 and 7 every field of every place stays as it was. The response is INVALID_SYNTAX, or
+//         With these every field of every place stays as it was. The response is INVALID_SYNTAX, or with 7
 //         UNSUPPORTED_CRITICAL_PAYLOAD with the payload's type; no COOKIE2.
 //    8  a new update (its ID exceeds the update mark) whose NO_NATS_ALLOWED is not the packet's addresses and ports
 //    9  a new update, and no rule of the policy matches the packet's pair
@@ -549,7 +560,8 @@ typedef struct unmavreth_assessment {
     uint8_t number;
     uint8_t outcome;   // enum unmavreth_outcome; 0 with every number but 0
     uint16_t payloads; // of the response; 0 with every number but 0
-    uint16_t offset;   // with 6 and 7, where the payload begins, else 0
+    uint16_t offset;   // as in unmavreth_reading
+    uint16_t ordinal;  // likewise
     uint32_t tally;    // what was unknown in it: a cookie that was not sent too, errors not; 0 with every number but 0
     uint16_t cookie;   // where the data of the response's COOKIE2 begins; 0: none, as with every number but 0
     uint16_t cookie_len;
@@ -559,6 +571,7 @@ UNMAVRETH_AT(unmavreth_assessment, number, 0);
 UNMAVRETH_AT(unmavreth_assessment, outcome, 1);
 UNMAVRETH_AT(unmavreth_assessment, payloads, 2);
 UNMAVRETH_AT(unmavreth_assessment, offset, 4);
+UNMAVRETH_AT(unmavreth_assessment, ordinal, 6);
 UNMAVRETH_AT(unmavreth_assessment, tally, 8);
 UNMAVRETH_AT(unmavreth_assessment, cookie, 12);
 UNMAVRETH_AT(unmavreth_assessment, cookie_len, 14);
@@ -567,7 +580,7 @@ UNMAVRETH_AT(unmavreth_assessment, cookie_len, 14);
 // Numbers, in the order of the checks:
 //    1  `sent` has not 0 or 8 to 64 octets
 //    3  the body has over 4,096 octets
-//    6  malformed                     } as in unmavreth_read
+//   61 to 65  malformed               } as in unmavreth_read
 //    7  an unknown critical payload   }
 //    0  read whole. The outcome is the first of these that holds: close (a cookie was sent, and another one came
 //       back, or none and no error either); the first error as NAT seen, unacceptable or failed; accepted.

@@ -4,9 +4,10 @@ use crate::calls::Refusal;
 use crate::chain::{self, Class};
 use crate::cookie;
 use crate::faults::{Fault, Faults};
+use crate::flaws;
 use crate::notify::NotifyType;
 use crate::outcome::Place;
-use crate::reader::{self, Answer};
+use crate::reader::{self, Answer, Reading};
 use crate::summary::Summary;
 
 /// What a response that was read means, with its number.
@@ -26,8 +27,10 @@ pub struct Assessed<'a> {
     /// The verdict's number; 0 with refusals.
     pub outcome: u8,
     pub payloads: u16,
-    /// Told with 6 and 7.
+    /// Told with 61 to 65 and 7.
     pub offset: u16,
+    /// The payload's, told with these too.
+    pub ordinal: u16,
     pub tally: u32,
     /// The cookie that came back.
     pub cookie: Place<'a>,
@@ -43,6 +46,7 @@ impl Assessed<'_> {
             ("outcome", self.outcome.to_string()),
             ("payloads", self.payloads.to_string()),
             ("offset", self.offset.to_string()),
+            ("ordinal", self.ordinal.to_string()),
             ("tally", self.tally.to_string()),
             ("cookie", self.cookie.show()),
             ("cookie handed out", self.handed_out.show()),
@@ -68,13 +72,12 @@ fn judge<'a>(sent: &[u8], first: u8, body: &'a [u8], faults: Faults) -> Assessed
     let answer = reading.answer;
     let too_long_first = answer == Answer::BodyTooLong && faults.on(Fault::BodyBeforeSent);
     if !may_be_sent(sent.len(), faults) && !too_long_first {
-        return Assessed { number: Refusal::Argument as u8, ..Assessed::default() };
+        let told = faults.on(Fault::BadSentOrdinal);
+        let ordinal = if told { reading.ordinal as u16 } else { 0 };
+        return Assessed { number: Refusal::Argument as u8, ordinal, ..Assessed::default() };
     }
     if answer != Answer::Read {
-        let (number, offset) = (answer.number(), answer.offset());
-        let kept = faults.on(Fault::RefusalTally);
-        let tally = if kept { unknown_before(first, body, offset, faults) } else { 0 };
-        return Assessed { number, offset: offset as u16, tally, ..Assessed::default() };
+        return refused(&reading, first, body, faults);
     }
     let summary = &reading.summary;
     let verdict = verdict(sent, summary, faults);
@@ -85,6 +88,24 @@ fn judge<'a>(sent: &[u8], first: u8, body: &'a [u8], faults: Faults) -> Assessed
     let cookie = if untold { Place::default() } else { Place::of(summary.cookie) };
     let outcome = verdict as u8;
     Assessed { outcome, payloads, tally, cookie, ..Assessed::default() }
+}
+
+/// With 3, 61 to 65 and 7.
+fn refused<'a>(reading: &Reading, first: u8, body: &[u8], faults: Faults) -> Assessed<'a> {
+    let (number, offset) = (reading.answer.number(faults), reading.answer.offset());
+    let ordinal = reading.ordinal as u16;
+    let unsplit = faults.on(Fault::AssessedUnsplit);
+    let untold = faults.on(Fault::AssessedNoOrdinal);
+    let counted = faults.on(Fault::AssessedFlawedCount);
+    let tallied = faults.on(Fault::RefusalTally);
+    Assessed {
+        number: if unsplit { flaws::unsplit(number) } else { number },
+        offset: offset as u16,
+        ordinal: if untold { 0 } else { ordinal },
+        payloads: if counted { ordinal } else { 0 },
+        tally: if tallied { unknown_before(first, body, offset, faults) } else { 0 },
+        ..Assessed::default()
+    }
 }
 
 fn verdict(sent: &[u8], summary: &Summary, faults: Faults) -> Verdict {
@@ -194,14 +215,14 @@ mod tests {
     /// All but the cookie.
     fn assessed(sent: &[u8], notifications: &[(u16, &[u8])], unknown: usize) -> Assessed<'static> {
         let (first, body) = response(notifications, unknown);
-        let Assessed { number, outcome, payloads, offset, tally, .. } =
+        let Assessed { number, outcome, payloads, offset, ordinal, tally, .. } =
             assess(sent, first, &body, Faults::NONE);
-        Assessed { number, outcome, payloads, offset, tally, ..Assessed::default() }
+        Assessed { number, outcome, payloads, offset, ordinal, tally, ..Assessed::default() }
     }
 
     fn verdict_of(sent: &[u8], notifications: &[(u16, &[u8])]) -> u8 {
         let assessed = assessed(sent, notifications, 0);
-        assert_eq!((assessed.number, assessed.offset), (0, 0));
+        assert_eq!((assessed.number, assessed.offset, assessed.ordinal), (0, 0, 0));
         assert_eq!(usize::from(assessed.payloads), notifications.len());
         assessed.outcome
     }
@@ -277,16 +298,23 @@ mod tests {
 
     #[test]
     fn refusals_give_0() {
-        let refused = |number, offset| Assessed { number, offset, ..Assessed::default() };
+        let refused =
+            |number, offset, ordinal| Assessed { number, offset, ordinal, ..Assessed::default() };
         fn assess<'a>(sent: &[u8], first: u8, body: &'a [u8]) -> Assessed<'a> {
             super::assess(sent, first, body, Faults::NONE)
         }
         for size in [1, 7, 65, 66, 300] {
-            assert_eq!(assess(&vec![1; size], 41, &[0; 4097]), refused(1, 0));
+            assert_eq!(assess(&vec![1; size], 41, &[0; 4097]), refused(1, 0, 0));
+            assert_eq!(assess(&vec![1; size], 33, &[41, 0, 0, 4, 0]), refused(1, 0, 0));
         }
-        assert_eq!(assess(&[1; 64], 200, &[0; 4097]), refused(3, 0));
-        assert_eq!(assess(&SENT, 200, &[41, 0, 0, 4, 0, 0, 0, 7, 0, 0, 0]), refused(6, 4));
-        assert_eq!(assess(&NONE, 200, &[201, 0, 0, 4, 0, 0x80, 0, 4]), refused(7, 4));
-        assert_eq!(assess(&NONE, 0, &[0; 4096]), refused(6, 0));
+        assert_eq!(assess(&[1; 64], 200, &[0; 4097]), refused(3, 0, 0));
+        assert_eq!(assess(&SENT, 33, &[41, 0, 0, 4, 0]), refused(61, 4, 1));
+        assert_eq!(assess(&SENT, 200, &[41, 0, 0, 4, 0, 0, 0, 7, 0, 0, 0]), refused(62, 4, 1));
+        assert_eq!(assess(&NONE, 200, &[201, 0, 0, 4, 0, 0x80, 0, 4]), refused(7, 4, 1));
+        assert_eq!(assess(&NONE, 0, &[0; 4096]), refused(65, 0, 0));
+        let (first, body) = response(&[(40, &[]), (COOKIE2, &SENT[..7])], 0);
+        assert_eq!(assess(&SENT, first, &body), refused(63, 8, 1));
+        let (first, body) = response(&[(40, &[]), (COOKIE2, &SENT), (COOKIE2, &SENT)], 0);
+        assert_eq!(assess(&SENT, first, &body), refused(64, 24, 2));
     }
 }

@@ -30,6 +30,8 @@ impl Class {
 /// A payload whose length keeps it inside the body.
 #[derive(Debug, Clone, Copy)]
 pub struct Payload<'a> {
+    /// How many payloads come before it.
+    pub ordinal: usize,
     pub offset: usize,
     pub payload_type: u8,
     pub flags: u8,
@@ -44,8 +46,8 @@ pub enum End {
     Complete,
     /// Type 0 with octets after it; the offset of the first.
     Leftover { offset: usize },
-    /// A payload is announced, but under 4 octets are left for its header.
-    HeaderCut { offset: usize },
+    /// A payload is announced, but under 4 octets are left for its header; how many.
+    HeaderCut { offset: usize, left: usize },
     /// The header's length is under 4 or past the end of the body.
     BadLength { offset: usize, payload_type: u8, flags: u8 },
 }
@@ -64,7 +66,7 @@ pub fn split(first: u8, body: &[u8]) -> Chain<'_> {
     while payload_type != NO_NEXT_PAYLOAD {
         let rest = &body[offset..];
         let &[next, flags, high, low, ..] = rest else {
-            let end = End::HeaderCut { offset };
+            let end = End::HeaderCut { offset, left: rest.len() };
             return Chain { payloads, end };
         };
         let length = usize::from(u16::from_be_bytes([high, low]));
@@ -72,7 +74,8 @@ pub fn split(first: u8, body: &[u8]) -> Chain<'_> {
             let end = End::BadLength { offset, payload_type, flags };
             return Chain { payloads, end };
         }
-        payloads.push(Payload { offset, payload_type, flags, octets: &rest[..length] });
+        let (ordinal, octets) = (payloads.len(), &rest[..length]);
+        payloads.push(Payload { ordinal, offset, payload_type, flags, octets });
         payload_type = next;
         offset += length;
     }

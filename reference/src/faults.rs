@@ -42,6 +42,28 @@ pub enum Fault {
     AddressAtPlace0,
     OtherFamilyRead,
     PastEndNoFamily,
+    MalformedUnsplit,
+    NumbersExchanged,
+    ShortNotify61,
+    LongSpi61,
+    ForbiddenSpi63,
+    Contradiction63,
+    Leftover61,
+    CutHeader65,
+    NumberBeforeOffset,
+    SpiLast,
+    RepetitionBeforeSize,
+    OrdinalOneTooHigh,
+    PayloadsFrom1,
+    PayloadOrdinalOctet,
+    NotifyOrdinal,
+    OrdinalOfEarlier,
+    MissingLastOrdinal,
+    LeftoverLastOrdinal,
+    CriticalNoOrdinal,
+    ReadOrdinal,
+    LongBodyOrdinal,
+    FlawedCount,
 
     SourceTailOnly,
     Spi32Bits,
@@ -210,6 +232,12 @@ pub enum Fault {
     RefusedCookieTold,
     FlawedCookieHandedOut,
     ServedCountCut,
+    RequestUnsplit,
+    RequestNoOrdinal,
+    RequestFlawedCount,
+    RefusedOrdinalTold,
+    UnfitOrdinal,
+    SyntaxNumberWritten,
 
     AnySequence,
     DoneIsSound,
@@ -241,6 +269,10 @@ pub enum Fault {
     CloseUntallied,
     CameBackUntold,
     CameBackRefused,
+    AssessedUnsplit,
+    AssessedNoOrdinal,
+    AssessedFlawedCount,
+    BadSentOrdinal,
 
     NoNatsFirst,
     DestinationFirst,
@@ -368,6 +400,7 @@ pub enum Fault {
     PairsUpperCase,
     LastLineUnended,
     EmptyTraceLine,
+    ReplayUnsplit,
 
     NatValuesTurned,
     WrittenNotShortest,
@@ -404,7 +437,7 @@ pub enum Fault {
     PlaceWraps,
 }
 
-const OF_READER: [(Fault, &str); 38] = [
+const OF_READER: [(Fault, &str); 60] = [
     (Fault::LastFlaw, "last-flaw"),
     (Fault::CriticalSkipped, "critical-skipped"),
     (Fault::CriticalKnown, "critical-known"),
@@ -443,6 +476,28 @@ const OF_READER: [(Fault, &str); 38] = [
     (Fault::AddressAtPlace0, "address-at-place-0"),
     (Fault::OtherFamilyRead, "other-family-read"),
     (Fault::PastEndNoFamily, "past-end-no-family"),
+    (Fault::MalformedUnsplit, "malformed-unsplit"),
+    (Fault::NumbersExchanged, "numbers-exchanged"),
+    (Fault::ShortNotify61, "short-notify-61"),
+    (Fault::LongSpi61, "long-spi-61"),
+    (Fault::ForbiddenSpi63, "forbidden-spi-63"),
+    (Fault::Contradiction63, "contradiction-63"),
+    (Fault::Leftover61, "leftover-61"),
+    (Fault::CutHeader65, "cut-header-65"),
+    (Fault::NumberBeforeOffset, "number-before-offset"),
+    (Fault::SpiLast, "spi-last"),
+    (Fault::RepetitionBeforeSize, "repetition-before-size"),
+    (Fault::OrdinalOneTooHigh, "ordinal-one-too-high"),
+    (Fault::PayloadsFrom1, "payloads-from-1"),
+    (Fault::PayloadOrdinalOctet, "payload-ordinal-octet"),
+    (Fault::NotifyOrdinal, "notify-ordinal"),
+    (Fault::OrdinalOfEarlier, "ordinal-of-earlier"),
+    (Fault::MissingLastOrdinal, "missing-last-ordinal"),
+    (Fault::LeftoverLastOrdinal, "leftover-last-ordinal"),
+    (Fault::CriticalNoOrdinal, "critical-no-ordinal"),
+    (Fault::ReadOrdinal, "read-ordinal"),
+    (Fault::LongBodyOrdinal, "long-body-ordinal"),
+    (Fault::FlawedCount, "flawed-count"),
 ];
 
 const OF_TABLES: [(Fault, &str); 88] = [
@@ -536,7 +591,7 @@ const OF_TABLES: [(Fault, &str); 88] = [
     (Fault::AskedCountCut, "asked-count-cut"),
 ];
 
-const OF_REQUESTS: [(Fault, &str); 78] = [
+const OF_REQUESTS: [(Fault, &str); 84] = [
     (Fault::MarkWhenApplied, "mark-when-applied"),
     (Fault::OneMark, "one-mark"),
     (Fault::ListAppended, "list-appended"),
@@ -615,6 +670,12 @@ const OF_REQUESTS: [(Fault, &str); 78] = [
     (Fault::RefusedCookieTold, "refused-cookie-told"),
     (Fault::FlawedCookieHandedOut, "flawed-cookie-handed-out"),
     (Fault::ServedCountCut, "served-count-cut"),
+    (Fault::RequestUnsplit, "request-unsplit"),
+    (Fault::RequestNoOrdinal, "request-no-ordinal"),
+    (Fault::RequestFlawedCount, "request-flawed-count"),
+    (Fault::RefusedOrdinalTold, "refused-ordinal-told"),
+    (Fault::UnfitOrdinal, "unfit-ordinal"),
+    (Fault::SyntaxNumberWritten, "syntax-number-written"),
 ];
 
 const OF_ORDERS: [(Fault, &str); 8] = [
@@ -628,7 +689,7 @@ const OF_ORDERS: [(Fault, &str); 8] = [
     (Fault::FirstMarkIgnored, "first-mark-ignored"),
 ];
 
-const OF_ASSESS: [(Fault, &str); 21] = [
+const OF_ASSESS: [(Fault, &str); 25] = [
     (Fault::SentShort, "sent-short"),
     (Fault::Sent65, "sent-65"),
     (Fault::BodyBeforeSent, "body-before-sent"),
@@ -650,6 +711,10 @@ const OF_ASSESS: [(Fault, &str); 21] = [
     (Fault::CloseUntallied, "close-untallied"),
     (Fault::CameBackUntold, "came-back-untold"),
     (Fault::CameBackRefused, "came-back-refused"),
+    (Fault::AssessedUnsplit, "assessed-unsplit"),
+    (Fault::AssessedNoOrdinal, "assessed-no-ordinal"),
+    (Fault::AssessedFlawedCount, "assessed-flawed-count"),
+    (Fault::BadSentOrdinal, "bad-sent-ordinal"),
 ];
 
 const OF_WRITER: [(Fault, &str); 35] = [
@@ -713,7 +778,7 @@ const OF_ROUND_TRIPS: [(Fault, &str); 20] = [
     (Fault::PlainNeedsUpdate, "plain-needs-update"),
 ];
 
-const OF_TRACES: [(Fault, &str); 69] = [
+const OF_TRACES: [(Fault, &str); 70] = [
     (Fault::NotShortestRead, "not-shortest-read"),
     (Fault::TenthOctetUntested, "tenth-octet-untested"),
     (Fault::ElevenOctetsRead, "eleven-octets-read"),
@@ -783,6 +848,7 @@ const OF_TRACES: [(Fault, &str); 69] = [
     (Fault::PairsUpperCase, "pairs-upper-case"),
     (Fault::LastLineUnended, "last-line-unended"),
     (Fault::EmptyTraceLine, "empty-trace-line"),
+    (Fault::ReplayUnsplit, "replay-unsplit"),
 ];
 
 const OF_ENTRIES: [(Fault, &str); 33] = [

@@ -1,8 +1,10 @@
 // The request handler: what a request gives back and writes, and what it does to the tables.
 use crate::cookie::{self, hand_out};
 use crate::faults::{Fault, Faults};
+use crate::flaws::{self, Flaw};
 use crate::notifications::first_type;
 use crate::outcome::Place;
+use crate::reader;
 use crate::reply::{Handled, Reply};
 use crate::request::{Failed, Passed, Request};
 use crate::response::{self, Standing};
@@ -15,12 +17,11 @@ pub fn handle<'a>(request: &'a Request, tables: &mut Tables, faults: Faults) -> 
             if faults.on(Fault::OtherListServed) {
                 serve_with_any_list(request, tables);
             }
-            (Reply { number: refusal as u8, ..Reply::default() }, vec![])
+            let ordinal = ordinal_of_refused(request, faults);
+            (Reply { number: refusal as u8, ordinal, ..Reply::default() }, vec![])
         }
         Err(Failed::Flawed(flaw)) => {
-            let (number, offset) = (flaw.cause.answer(), flaw.offset);
-            let response = response::to_flawed(request, flaw, faults);
-            (Reply { number, offset, ..Reply::default() }, response)
+            (told_flawed(flaw, faults), response::to_flawed(request, flaw, faults))
         }
         Ok(passed) => serve(request, &passed, tables, faults),
     };
@@ -39,11 +40,35 @@ pub fn handle<'a>(request: &'a Request, tables: &mut Tables, faults: Faults) -> 
     Handled { reply, output }
 }
 
+/// What is told of a chain's flaw.
+fn told_flawed(flaw: Flaw, faults: Faults) -> Reply<'static> {
+    let number = flaw.cause.number(faults);
+    let unsplit = faults.on(Fault::RequestUnsplit);
+    let untold = faults.on(Fault::RequestNoOrdinal);
+    let counted = faults.on(Fault::RequestFlawedCount);
+    Reply {
+        number: if unsplit { flaws::unsplit(number) } else { number },
+        offset: flaw.offset,
+        ordinal: if untold { 0 } else { flaw.ordinal },
+        payloads: if counted { flaw.ordinal } else { 0 },
+        ..Reply::default()
+    }
+}
+
+/// 0; only `refused-ordinal-told` reads the chain of a request that is refused before.
+fn ordinal_of_refused(request: &Request, faults: Faults) -> usize {
+    if faults.on(Fault::RefusedOrdinalTold) {
+        reader::read(request.first, &request.body, faults).ordinal
+    } else {
+        0
+    }
+}
+
 /// Whether a fault tells the cookie with this number, which is one of a refusal.
 fn takes_cookie_of_refused(number: u8, faults: Faults) -> bool {
     match number {
         1..=5 => faults.on(Fault::RefusedCookieTold),
-        6 | 7 => faults.on(Fault::FlawedCookieHandedOut),
+        7 | 61..=65 => faults.on(Fault::FlawedCookieHandedOut),
         _ => false,
     }
 }
@@ -104,7 +129,8 @@ fn standing(request: &Request, place: usize, tables: &Tables, faults: Faults) ->
 fn told_unfit<'a>(reply: Reply<'a>, unfit: Unfit, faults: Faults) -> Reply<'a> {
     let payloads = if faults.on(Fault::UnfitCount) { 0 } else { reply.payloads };
     let cookie = if faults.on(Fault::UnfitCookie) { Place::default() } else { reply.cookie };
-    Reply { number: unfit as u8, payloads, cookie, ..reply }
+    let ordinal = if faults.on(Fault::UnfitOrdinal) { payloads } else { 0 };
+    Reply { number: unfit as u8, payloads, cookie, ordinal, ..reply }
 }
 
 #[cfg(test)]

@@ -25,6 +25,7 @@ pub mod opening;
 pub mod opening_both;
 pub mod opening_both_faults;
 pub mod orders;
+pub mod ordinal;
 pub mod outcome;
 pub mod plain;
 pub mod policy;

@@ -20,6 +20,8 @@ pub struct Place<'a> {
 pub struct Outcome<'a> {
     pub number: u8,
     pub offset: usize,
+    /// Of the payload that 61 to 65 and 7 are about, else 0.
+    pub ordinal: usize,
     /// The type of the payload that 7 is about, else 0.
     pub critical_type: u8,
     pub payloads: usize,
@@ -51,8 +53,9 @@ impl<'a> Outcome<'a> {
         let summary = &reading.summary;
         let cookie = Place::of(summary.cookie);
         let mut outcome = Outcome {
-            number: reading.answer.number(),
+            number: reading.answer.number(faults),
             offset: reading.answer.offset(),
+            ordinal: reading.ordinal,
             critical_type: reading.critical_type,
             payloads: summary.payloads,
             unknown_payloads: summary.unknown_payloads,
@@ -94,6 +97,7 @@ impl<'a> Outcome<'a> {
         let numbers = [
             ("number", usize::from(self.number)),
             ("offset", self.offset),
+            ("ordinal", self.ordinal),
             ("critical type", usize::from(self.critical_type)),
             ("payloads", self.payloads),
             ("unknown payloads", self.unknown_payloads),

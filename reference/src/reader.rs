@@ -16,11 +16,11 @@ pub enum Answer {
 }
 
 impl Answer {
-    pub fn number(self) -> u8 {
+    pub fn number(self, faults: Faults) -> u8 {
         match self {
             Answer::Read => 0,
             Answer::BodyTooLong => 3,
-            Answer::Flawed(flaw) => flaw.cause.answer(),
+            Answer::Flawed(flaw) => flaw.cause.number(faults),
         }
     }
 
@@ -35,6 +35,8 @@ impl Answer {
 #[derive(Debug)]
 pub struct Reading<'a> {
     pub answer: Answer,
+    /// That of the payload that 61 to 65 and 7 are about, else 0.
+    pub ordinal: usize,
     /// The type of the payload that 7 is about, else 0.
     pub critical_type: u8,
     /// Empty unless the chain was read.
@@ -43,33 +45,42 @@ pub struct Reading<'a> {
 
 impl Reading<'_> {
     fn refused(answer: Answer) -> Self {
-        Reading { answer, critical_type: 0, summary: Summary::default() }
+        Reading { answer, ordinal: 0, critical_type: 0, summary: Summary::default() }
     }
 }
 
 pub fn read(first: u8, body: &[u8], faults: Faults) -> Reading<'_> {
     let limit = if faults.on(Fault::LongBody) { MAX_BODY + 1 } else { MAX_BODY };
-    if body.len() > limit {
-        return Reading::refused(Answer::BodyTooLong);
-    }
     let chain = chain::split(first, body);
+    let unflawed_ordinal = |fault| if faults.on(fault) { chain.payloads.len() } else { 0 };
+    if body.len() > limit {
+        let ordinal = unflawed_ordinal(Fault::LongBodyOrdinal);
+        return Reading { ordinal, ..Reading::refused(Answer::BodyTooLong) };
+    }
     match flaws::told(&chain, faults) {
         Some(flaw) => {
             let mut reading = Reading::refused(Answer::Flawed(flaw));
+            reading.ordinal = flaw.ordinal;
             reading.critical_type = critical::told_type(flaw, &chain, faults);
             if faults.on(Fault::FlawedCookieTold) {
                 reading.summary.cookie = cookie::of_refused(first, body, faults);
             }
+            if faults.on(Fault::FlawedCount) {
+                reading.summary.payloads = flaw.ordinal;
+            }
             reading
         }
-        None => Reading { summary: summarise(&chain, faults), ..Reading::refused(Answer::Read) },
+        None => {
+            let ordinal = unflawed_ordinal(Fault::ReadOrdinal);
+            let summary = summarise(&chain, faults);
+            Reading { ordinal, summary, ..Reading::refused(Answer::Read) }
+        }
     }
 }
 
 #[cfg(test)]
 mod tests {
     use super::*;
-    use crate::flaws::Cause;
     use crate::summary::Part;
 
     const UPDATE: [u8; 8] = [0, 0, 0, 8, 0, 0, 0x40, 0x10];
@@ -80,9 +91,10 @@ mod tests {
         body
     }
 
-    fn answer(first: u8, body: &[u8]) -> (u8, usize) {
-        let reading = read(first, body, Faults::NONE);
-        (reading.answer.number(), reading.answer.offset())
+    /// Number, offset and ordinal.
+    fn answer(first: u8, body: &[u8]) -> (u8, usize, usize) {
+        let Reading { answer, ordinal, .. } = read(first, body, Faults::NONE);
+        (answer.number(Faults::NONE), answer.offset(), ordinal)
     }
 
     #[test]
@@ -94,7 +106,7 @@ mod tests {
 
     #[test]
     fn row_b_missing_payload() {
-        assert_eq!(answer(41, &[]), (6, 0));
+        assert_eq!(answer(41, &[]), (61, 0, 0));
     }
 
     #[test]
@@ -107,13 +119,12 @@ mod tests {
 
     #[test]
     fn row_d_octet_after_the_end() {
-        assert_eq!(answer(41, &[&UPDATE[..], &[0xff]].concat()), (6, 8));
+        assert_eq!(answer(41, &[&UPDATE[..], &[0xff]].concat()), (65, 8, 1));
     }
 
     #[test]
     fn row_e_cookie_of_7() {
-        let flaw = Flaw { offset: 0, cause: Cause::DataSize };
-        assert_eq!(read(41, &cookie(7), Faults::NONE).answer, Answer::Flawed(flaw));
+        assert_eq!(answer(41, &cookie(7)), (63, 0, 0));
     }
 
     #[test]
@@ -126,7 +137,7 @@ mod tests {
 
     #[test]
     fn row_g_unknown_critical() {
-        assert_eq!(answer(200, &[0, 0x80, 0, 4]), (7, 0));
+        assert_eq!(answer(200, &[0, 0x80, 0, 4]), (7, 0, 0));
     }
 
     #[test]
@@ -159,24 +170,95 @@ mod tests {
     #[test]
     fn smaller_offset_comes_before_number() {
         let critical_then_cut = [41, 0x80, 0, 4, 0, 0, 0, 7, 0, 0, 0];
-        assert_eq!(answer(200, &critical_then_cut), (7, 0));
+        assert_eq!(answer(200, &critical_then_cut), (7, 0, 0));
+        let critical_last = [200, 0, 0, 4, 0, 0x80, 0, 4];
+        assert_eq!(answer(33, &critical_last), (7, 4, 1));
+        let size_then_cut = [&[41, 0, 0, 9, 0, 0, 0x40, 0x10, 0][..], &[0; 3]].concat();
+        assert_eq!(answer(41, &size_then_cut), (63, 0, 0));
     }
 
     #[test]
-    fn in_one_payload_6_comes_before_7() {
-        assert_eq!(answer(200, &[0, 0x80, 0, 3]), (6, 0));
-        assert_eq!(answer(200, &[0, 0x80, 0, 5]), (6, 0));
+    fn in_one_payload_61_comes_before_7() {
+        assert_eq!(answer(200, &[0, 0x80, 0, 3]), (61, 0, 0));
+        assert_eq!(answer(200, &[0, 0x80, 0, 5]), (61, 0, 0));
+        assert_eq!(answer(33, &[200, 0, 0, 4, 0, 0x80, 0, 3]), (61, 4, 1));
+    }
+
+    #[test]
+    fn each_sort_of_flaw_has_its_number() {
+        let only = |content: &[u8]| {
+            let body = [&[0, 0, 0, 4 + content.len() as u8], content].concat();
+            answer(41, &body).0
+        };
+        assert_eq!(answer(41, &[0; 3]).0, 61);
+        assert_eq!(answer(41, &[0, 0, 0, 3]).0, 61);
+        assert_eq!(answer(41, &[0, 0, 0, 5]).0, 61);
+        assert_eq!(only(&[]), 62);
+        assert_eq!(only(&[0, 0, 0x40]), 62);
+        // SPIs: past the length, and of types that have none, whatever the data.
+        assert_eq!(only(&[0, 1, 0x40, 0x13]), 62);
+        assert_eq!(only(&[0, 1, 0x40, 0x0c, 9]), 62);
+        assert_eq!(only(&[0, 1, 0x40, 0x10, 9]), 62);
+        assert_eq!(only(&[0, 1, 0x40, 0x10, 9, 9]), 62);
+        assert_eq!(only(&[0, 0, 0x40, 0x10, 9]), 63);
+        assert_eq!(answer(0, &[0]), (65, 0, 0));
+    }
+
+    /// Notifications by the low octet of their type, their SPI size and what follows.
+    fn notifications(all: &[(u8, u8, &[u8])]) -> Vec<u8> {
+        let mut body = Vec::new();
+        for (place, (low, spi_size, rest)) in all.iter().enumerate() {
+            let next = if place + 1 < all.len() { 41 } else { 0 };
+            body.extend([next, 0, 0, 8 + rest.len() as u8, 0, *spi_size, 0x40, *low]);
+            body.extend_from_slice(rest);
+        }
+        body
+    }
+
+    #[test]
+    fn in_one_payload_the_lowest_number_is_told() {
+        let (update, cookie2, none, address) = (0x10, 0x11, 0x0f, 0x0d);
+        let second = |low, spi_size, rest: &[u8]| {
+            let first: &[u8] = if low == cookie2 { &[1; 8] } else { &[] };
+            answer(41, &notifications(&[(low, 0, first), (low, spi_size, rest)]))
+        };
+        assert_eq!(second(update, 0, &[]), (64, 8, 1));
+        assert_eq!(second(update, 0, &[1]), (63, 8, 1));
+        assert_eq!(second(update, 1, &[1]), (62, 8, 1));
+        assert_eq!(second(update, 1, &[]), (62, 8, 1));
+        assert_eq!(second(cookie2, 0, &[1; 8]), (64, 16, 1));
+        assert_eq!(second(cookie2, 0, &[1; 7]), (63, 16, 1));
+        assert_eq!(second(cookie2, 1, &[1; 9]), (62, 16, 1));
+        let both = |one, two| answer(41, &notifications(&[(none, 0, &[]), one, two]));
+        assert_eq!(both((0x13, 0, &[]), (address, 0, &[1; 4])), (64, 16, 2));
+        assert_eq!(both((0x13, 0, &[]), (address, 0, &[1; 5])), (63, 16, 2));
+        assert_eq!(both((0x13, 0, &[]), (address, 4, &[1; 8])), (62, 16, 2));
     }
 
     #[test]
     fn missing_payload_is_told_where_it_would_begin() {
         let body = [&[33, 0, 16, 0][..], &[0; 4092]].concat();
-        assert_eq!(answer(33, &body), (6, 4096));
+        assert_eq!(answer(33, &body), (61, 4096, 1));
+        assert_eq!(answer(33, &[33, 0, 0, 4].repeat(1024)), (61, 4096, 1024));
+    }
+
+    #[test]
+    fn of_octets_after_the_end_the_payloads_before_are_told() {
+        let body = |payloads: usize, after: usize| {
+            let mut body = [33, 0, 0, 4].repeat(payloads);
+            body[4 * payloads - 4] = 0;
+            body.resize(4 * payloads + after, 33);
+            body
+        };
+        assert_eq!(answer(33, &body(1, 1)), (65, 4, 1));
+        assert_eq!(answer(33, &body(256, 9)), (65, 1024, 256));
+        assert_eq!(answer(33, &body(1023, 4)), (65, 4092, 1023));
     }
 
     #[test]
     fn too_long_comes_before_everything() {
-        assert_eq!(answer(0, &[0; 4097]), (3, 0));
-        assert_eq!(answer(0, &[0; 4096]), (6, 0));
+        assert_eq!(answer(0, &[0; 4097]), (3, 0, 0));
+        assert_eq!(answer(33, &[33, 0, 0, 4].repeat(1025)), (3, 0, 0));
+        assert_eq!(answer(0, &[0; 4096]), (65, 0, 0));
     }
 }

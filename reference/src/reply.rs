@@ -11,8 +11,10 @@ pub struct Reply<'a> {
     pub list: u8,
     pub left_off: usize,
     pub payloads: usize,
-    /// Told with 6 and 7.
+    /// Told with 61 to 65 and 7.
     pub offset: usize,
+    /// The payload's, told with these too.
+    pub ordinal: usize,
     pub cookie: Place<'a>,
     /// The cookie as it is handed out for that place.
     pub handed_out: Place<'a>,
@@ -67,6 +69,7 @@ impl<'a> Handled<'a> {
             ("left off", reply.left_off.to_string()),
             ("payloads", reply.payloads.to_string()),
             ("offset", reply.offset.to_string()),
+            ("ordinal", reply.ordinal.to_string()),
             ("cookie", reply.cookie.show()),
             ("cookie handed out", reply.handed_out.show()),
             ("response's first type", reply.first.to_string()),

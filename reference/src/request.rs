@@ -39,7 +39,7 @@ pub struct Passed<'a> {
 pub enum Failed {
     /// 1 to 5.
     Refused(Refusal),
-    /// 6 or 7.
+    /// 61 to 65 or 7.
     Flawed(Flaw),
 }
 
@@ -50,7 +50,8 @@ impl From<Refusal> for Failed {
 }
 
 impl Request {
-    /// Checks 1 to 7 in number order, 6 and 7 as the reader tells them.
+    /// Checks 1 to 7 in number order, 61 to 65 in the place of 6, and these and 7 as the reader tells
+    /// them.
     pub fn check(&self, tables: &Tables, faults: Faults) -> Result<Passed<'_>, Failed> {
         let list = list_length::check(tables, User::Handler, faults);
         self.check_arguments(list, faults)?;

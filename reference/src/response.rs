@@ -12,8 +12,9 @@ use crate::summary::{Part, Summary};
 /// Notifications without an SPI: their types and data.
 type Notifications<'a> = Vec<(NotifyType, &'a [u8])>;
 
-/// The error of 6 or 7.
+/// The error of 61 to 65, which is one, or of 7.
 pub fn to_flawed(request: &Request, flaw: Flaw, faults: Faults) -> Vec<u8> {
+    let number = [flaw.cause.number(faults)];
     let payload_type = match flaw.cause {
         Cause::UnknownCritical { payload_type } => Some([payload_type]),
         _ => None,
@@ -23,6 +24,9 @@ pub fn to_flawed(request: &Request, flaw: Flaw, faults: Faults) -> Vec<u8> {
             vec![(NotifyType::UNSUPPORTED_CRITICAL_PAYLOAD, &[])]
         }
         Some(data) => vec![(NotifyType::UNSUPPORTED_CRITICAL_PAYLOAD, data)],
+        None if faults.on(Fault::SyntaxNumberWritten) => {
+            vec![(NotifyType::INVALID_SYNTAX, &number)]
+        }
         None => vec![(NotifyType::INVALID_SYNTAX, &[])],
     };
     if faults.on(Fault::FlawedCookie) {

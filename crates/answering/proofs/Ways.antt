@@ -40,7 +40,8 @@ module _ (policy : Policy) (q : Asked) (m : Marks) (r : Reading) (read : r ≡ r
     unfolding coreResponse
     refused-response = rw (← read, ne-eqb (r .number) 0 broken)
 
-    pub refused-result : (reply : Reply) → reply ≡ errorReply (r .number) (r .offset) (toldOf (chainError r))
+    pub refused-result : (reply : Reply)
+        → reply ≡ errorReply (r .number) (r .offset) (r .ordinal) (toldOf (chainError r))
         → unchangedAnswer reply m ≡ coreAnswer policy q m
     unfolding coreAnswer
     refused-result reply re = rw (← read, ne-eqb (r .number) 0 broken, re)

@@ -57,7 +57,7 @@ asked id pair nat-source nat-destination first body =
     }
 
 -- 01, the numbers 6 and 7: "INVALID_SYNTAX (7)", "UNSUPPORTED_CRITICAL_PAYLOAD (1), data: its type"; they "copy no
--- COOKIE2".
+-- COOKIE2". 02, E4, of 61 to 65 in 6's place: "The wire response stays."
 unfoldable pub chainError : Reading → List Notification
 chainError r =
     cond (eqb (r .number) (numberOf UnknownCritical))
@@ -98,7 +98,7 @@ wholeAnswer policy q m =
 abbrev pub brokenAnswer : Asked → Marks → CoreAnswer
 brokenAnswer q m =
     let r = reading (q .first) (q .body) in
-    unchangedAnswer (errorReply (r .number) (r .offset) (toldOf (chainError r))) m
+    unchangedAnswer (errorReply (r .number) (r .offset) (r .ordinal) (toldOf (chainError r))) m
 
 -- The reply, and what changes in the record.
 unfoldable pub coreAnswer : Policy → Asked → Marks → CoreAnswer

@@ -27,10 +27,10 @@ ghost use Rattle.replying.specs.Reply.{errorReply};
 ghost use Rattle.answering.specs.Core.{chainError, coreAnswer, coreResponse};
 ghost use Rattle.answering.specs.Packet.{askedBy};
 
-// A malformed chain or an unknown critical payload: the error, and nothing else.
+// A malformed chain, of any of the numbers 61 to 65, or an unknown critical payload: the error, and nothing else.
 pub fn refuse_chain(r: Reading, out: &mut [u8]) -> Reply
     requires { ⌜ responseRoom ≤ length (now out) ⌝ }
-    ensures { λ p. ⌜ p ≡ errorReply (r .number) (r .offset) (toldOf (chainError r)) ⌝ }
+    ensures { λ p. ⌜ p ≡ errorReply (r .number) (r .offset) (r .ordinal) (toldOf (chainError r)) ⌝ }
     ensures { λ _. ⌜ now (out .exit) ≡ placed (now (out .entry)) 0 (chained (chainError r) 0) ⌝ }
 {
     let none = [0u8; 0];
@@ -42,10 +42,10 @@ pub fn refuse_chain(r: Reading, out: &mut [u8]) -> Reply
             &critical,
             &none,
         );
-        return error_reply(r.number, r.offset, response);
+        return error_reply(r.number, r.offset, r.ordinal, response);
     }
     let response = put_error(out, NotifyType::INVALID_SYNTAX, &none, &none);
-    error_reply(r.number, r.offset, response)
+    error_reply(r.number, r.offset, r.ordinal, response)
 }
 
 // One request that passed checks 1 to 5, by the marks of the record that it means.

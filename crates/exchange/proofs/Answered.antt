@@ -1,15 +1,17 @@
--- A written request, answered: never 6 or 7, and where the responder says done the initiator accepts its response.
-use Prim.Native.Nat.{ℕ, _+_, _-_}
+-- A written request, answered: never 61 to 65 or 7, and where the responder says done the initiator accepts its
+-- response.
+use Prim.Native.Nat.{ℕ, _+_, _-_, _<_}
 use mathlib.Core.Path.{_≡_, refl, ap, _∙_}
 use mathlib.Core.List.{List, [], zipWith}
 use mathlib.Core.Bool.{Bool, true, false, cond, _&&_, not}
 use native.Mathlib.Omega.{arith}
 use native.Mathlib.Decide.{ℕ-discrete}
-use borrow.Author.Tests.{eq-eqb, ne-eqb, eqb-false, not-true}
-use lib.Dec.{eqb}
+use borrow.Author.Tests.{eq-eqb, ne-eqb, eqb-false, ltb-true, not-true}
+use lib.Dec.{eqb, ltb}
 use lib.ListN.{length, getD, replicate}
 use Rattle.octets.specs.Limits.{addressesMost, addressOctets, natOctets}
 use Rattle.octets.specs.Lists.{sameAt}
+use Rattle.octets.specs.Numbers.{numberOf}
 use Rattle.octets.proofs.Small.{both}
 use Rattle.address.specs.Address.{noPair}
 use Rattle.policy.specs.declared.rules.Policy.{Policy}
@@ -18,7 +20,10 @@ use Rattle.records.specs.declared.ike.IkeRecord.{IkeRecord}
 use Rattle.records.specs.declared.ike.Marks.{Marks}
 use Rattle.records.specs.declared.ipsec.IpsecRecord.{IpsecRecord}
 use Rattle.writing.specs.Notify.{firstType}
-use Rattle.reader.specs.Chain.{reading}
+use Rattle.payload.specs.declared.payload.Fault.{Fault}
+use Rattle.payload.specs.declared.payload.Fault.the-variants.{ChainLength, NotifyShape, DataSize}
+use Rattle.payload.specs.declared.payload.Fault.the-variants.{Conflict, Leftover, Critical}
+use Rattle.reader.specs.Chain.{faultNumber, reading}
 use Rattle.answering.specs.Core.{cookieIn, decisionOn, coreAnswer, coreResponse}
 use Rattle.responding.specs.Respond.{wantsNats, responseTo}
 use Rattle.verdict.specs.declared.update.Verdict.the-variants as verdict
@@ -37,17 +42,26 @@ use Rattle.exchange.specs.Exchange.{Accepted, Understood, AllUnderstood}
 use Rattle.exchange.proofs.Asked.{all-below, sized-at}
 use Rattle.exchange.proofs.FirstTrip.{given-back, fits-written, number-zero}
 
--- The numbers that the first five checks and the decision give are others than 6 and 7.
+-- The numbers that the first five checks and the decision give are no fault's: all are under 61, and none is 7.
 abbrev Other : ℕ → Type 0
-Other n = (n ≡ 6 → ⊥) × (n ≡ 7 → ⊥)
+Other n = (f : Fault) → n ≡ numberOf (faultNumber f) → ⊥
 
 abbrev isOther : ℕ → Bool
-isOther n = not (eqb n 6) && not (eqb n 7)
+isOther n = ltb n 61 && not (eqb n 7)
 
 others : (n : ℕ) → isOther n ≡ true → Other n
-others n e =
-    let b = both (not (eqb n 6)) (not (eqb n 7)) e in
-    (eqb-false n 6 (not-true _ (b .0)), eqb-false n 7 (not-true _ (b .1)))
+others n e = go (ltb-true n 61 (b .0)) (eqb-false n 7 (not-true _ (b .1)))
+  where
+    b : (ltb n 61 ≡ true) × (not (eqb n 7) ≡ true)
+    b = both (ltb n 61) (not (eqb n 7)) e
+
+    go : n < 61 → (n ≡ 7 → ⊥) → Other n
+    go l s ChainLength z = omega arith
+    go l s NotifyShape z = omega arith
+    go l s DataSize z = omega arith
+    go l s Conflict z = omega arith
+    go l s Leftover z = omega arith
+    go l s (Critical payloadType) z = s z
 
 -- A response that says done is a request for the NAT values, if they are wanted, and the cookie.
 module _ (wanted : Bool) (nat-source nat-destination cookie : List ℕ) where
@@ -137,7 +151,7 @@ module _ (q : Draft) (z : Sized q) (fits : requestFits q ≡ true) (policy : Pol
     unfolding coreAnswer
     core-fine =
         rw (eq-eqb (reading (r .asks .first) (r .asks .body) .number) 0 (back .number))
-        (verdict-of Other (omega arith) (omega arith) (omega arith) (decisionOn policy (r .asks) m .verdict))
+        (verdict-of Other (others 0 refl) (others 8 refl) (others 9 refl) (decisionOn policy (r .asks) m .verdict))
 
     module _ (s : length (r .asks .nat-source) ≡ natOctets) (d : length (r .asks .nat-destination) ≡ natOctets) where
       core-accepted : coreAnswer policy (r .asks) m .reply .number ≡ 0
@@ -171,14 +185,13 @@ module _ (q : Draft) (z : Sized q) (fits : requestFits q ≡ true) (policy : Pol
             let p = passed _ _ _ r e in
             rw (eq-eqb early 0 e)
             (record {
-              not-malformed = o .0;
-              not-critical = o .1;
+              no-fault = o;
               accepted =
                   core-accepted (marksIn (meant ike (r .spi))) (p .nat-source) (p .nat-destination);
             })
         go (no n) =
             let o = others early (early-passes _ _ _ r isOther refl refl) in
-            rw (ne-eqb early 0 n) (record { not-malformed = o .0; not-critical = o .1; accepted = λ e. absurd (n e) })
+            rw (ne-eqb early 0 n) (record { no-fault = o; accepted = λ e. absurd (n e) })
 
 pub all-understood : AllUnderstood
 all-understood q room z e policy ike ipsec r c =

@@ -14,7 +14,7 @@ use Rattle.octets.specs.Limits.{bodyMost, requestRoom}
 use Rattle.findings.specs.Seen.{nothingSeen}
 use Rattle.values.specs.Values.{addressesIn}
 use Rattle.writing.specs.Notify.{firstType}
-use Rattle.reader.specs.Chain.{Whole, scanned, answer, reading}
+use Rattle.reader.specs.Chain.{ends, Whole, scanned, answer, reading}
 use Rattle.asking.specs.Draft.{Draft, requested, requestOctets}
 use Rattle.asking.specs.Fits.{requestFits}
 use Rattle.requests.proofs.Longest.{room-exact}
@@ -39,7 +39,7 @@ module _ (q : Draft) (z : Sized q) (fits : requestFits q ≡ true) where
       (refl, refl) in
       let seen = scanned nothingSeen (notifyChain 0 (requested q)) .seen in
       let same : givenBy Body seen ≡ askedFor q = found .values ∙ leads .gives in
-      let read : reading (firstType (requested q) 0) Body ≡ answer Whole seen =
+      let read : reading (firstType (requested q) 0) Body ≡ answer ends Whole seen =
       rw (
         le-ltb bodyMost (length Body) (omega (arith, room-exact .enough q fits)),
         chain-of (requested q) (leads .fits) [],

@@ -7,8 +7,10 @@
 use Prim.Native.Nat.{ℕ}
 use mathlib.Core.Path.{_≡_}
 use mathlib.Core.List.{List}
-use Rattle.octets.specs.declared.number.Number.the-variants.{Done, Malformed, UnknownCritical}
+use Rattle.octets.specs.declared.number.Number.the-variants.{Done}
 use Rattle.octets.specs.Numbers.{numberOf}
+use Rattle.payload.specs.declared.payload.Fault.{Fault}
+use Rattle.reader.specs.Chain.{faultNumber}
 use Rattle.values.specs.Values.{partOf}
 use Rattle.policy.specs.declared.rules.Policy.{Policy}
 use Rattle.records.specs.declared.ike.IkeRecord.{IkeRecord}
@@ -36,11 +38,10 @@ pub record Accepted (sent response : List ℕ) (a : Assessment) : Type 0 where
   pub tally : a .tally ≡ 0
   pub cookie : partOf response (a .cookie) (a .«cookie_len») ≡ sent
 
--- The request is never answered 6 or 7. Where the responder says done, its response, handed to the initiator with its
--- first type and beside the cookie that was sent, is accepted.
+-- The request is never answered with a fault's number, 61 to 65 or 7. Where the responder says done, its response,
+-- handed to the initiator with its first type and beside the cookie that was sent, is accepted.
 pub record Understood (q : Draft) (reply : Reply) (response : List ℕ) : Type 0 where
-  pub not-malformed : reply .number ≡ numberOf Malformed → ⊥
-  pub not-critical : reply .number ≡ numberOf UnknownCritical → ⊥
+  pub no-fault : (f : Fault) → reply .number ≡ numberOf (faultNumber f) → ⊥
   pub accepted : reply .number ≡ numberOf Done
       → Accepted (q .cookie) response (assessment (q .cookie) (reply .first) response)
 

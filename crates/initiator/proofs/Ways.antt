@@ -1,7 +1,6 @@
 -- The three ways out of an assessment, in terms of what was read, and its payload count.
 use Prim.Native.Nat.{ℕ, _≤_}
 use mathlib.Core.Path.{_≡_, refl, sym, _∙_}
-use mathlib.Core.Logic.{_⊎_, inl, inr}
 use mathlib.Core.List.{List}
 use mathlib.Core.Bool.{Bool, true, false, cond, not}
 use native.Mathlib.Omega.{arith}
@@ -18,7 +17,7 @@ use Rattle.reader.specs.Chain.{count, chainAt, reading}
 use Rattle.reader.specs.declared.read.Reading.{Reading}
 use Rattle.reader.proofs.Count.{promised}
 use Rattle.reader.proofs.Errors.{errors-among}
-use Rattle.reader.proofs.Refused.{broken-number}
+use Rattle.reader.proofs.Refused.{broken-of}
 use Rattle.asking.specs.Fits.{cookieFits}
 use Rattle.initiator.specs.Response.{responseChecks, offsetTold, refusal, wholeAssessment, assessment, AssessedAs}
 use Rattle.initiator.specs.declared.response.Assessment.{Assessment}
@@ -55,13 +54,18 @@ module _ (sent : List ℕ) (first : ℕ) (body : List ℕ) where
       go : (b : Bool) → ltb bodyMost (length body) ≡ b → ⊥
       go true e = omega (arith, n, long e)
       go false e =
-          absurd (not-bad (broken-number first body (ltb-false bodyMost (length body) e) (λ z. omega (arith, n, z))))
-        where
-          not-bad : (reading first body .number ≡ 6) ⊎ (reading first body .number ≡ 7) → ⊥
-          not-bad (inl six) = omega (arith, n, six)
-          not-bad (inr seven) = omega (arith, n, seven)
+          broken-of (λ (k : ℕ). k ≡ numberOf BadArgument → ⊥)
+          (record {
+            chain-length = λ z. omega arith;
+            notify = λ z. omega arith;
+            data-size = λ z. omega arith;
+            repeated = λ z. omega arith;
+            octets-after-end = λ z. omega arith;
+            critical = λ z. omega arith;
+          })
+          first body (ltb-false bodyMost (length body) e) (λ z. omega (arith, n, z)) n
 
-  pub unfit : cookieFits (length sent) ≡ false → refusal (numberOf BadArgument) 0 ≡ assessment sent first body
+  pub unfit : cookieFits (length sent) ≡ false → refusal (numberOf BadArgument) 0 0 ≡ assessment sent first body
   unfolding assessment
   unfit f = rw (f, ne-eqb (numberOf BadArgument) (reading first body .number) (λ e. never-bad (sym e)))
 
@@ -73,7 +77,7 @@ module _ (sent : List ℕ) (first : ℕ) (body : List ℕ) where
       number : checked ≡ r .number
       number = rw read (number-read fits)
 
-      pub broken : (r .number ≡ 0 → ⊥) → refusal (r .number) (r .offset) ≡ assessment sent first body
+      pub broken : (r .number ≡ 0 → ⊥) → refusal (r .number) (r .offset) (r .ordinal) ≡ assessment sent first body
       unfolding assessment
       broken n = rw (number, ← read, ne-eqb (r .number) 0 n, eq-eqb (r .number) (r .number) refl)
 

@@ -75,8 +75,8 @@ tallyOf sent got t =
     t .«unknown_payloads» + (t .«unknown_notifies» - t .errors)
     + cond (eqb (length sent) 0) (cond (eqb (length got) 0) 0 1) 0
 
--- 01: "after checks 1, 3, 6, 7 (which write nothing here)". 6 and 7 are found by reading, which tells the first fault
--- in the body: one line, whose number is the reading's.
+-- 01: "after checks 1, 3, 6, 7 (which write nothing here)"; 02, E4: "61 to 65 take 6's place in the order". These and 7
+-- are found by reading, which tells the first fault in the body: one line, whose number is the reading's.
 abbrev pub faultGiven : Reading → Check
 faultGiven r = record { fails = not (eqb (r .number) 0); number = r .number }
 
@@ -91,14 +91,19 @@ responseChecks sent first body =
 abbrev pub offsetTold : ℕ → Reading → ℕ
 offsetTold number r = cond (eqb number (r .number)) (r .offset) 0
 
+-- 02, E4: "also give the payload's ordinal from 0 (...; else 0)", likewise
+abbrev pub ordinalTold : ℕ → Reading → ℕ
+ordinalTold number r = cond (eqb number (r .number)) (r .ordinal) 0
+
 -- 01: "refusals give 0"; the cookie is "empty ... with answers 1 to 7".
-abbrev pub refusal : ℕ → ℕ → Assessment
-refusal number offset =
+abbrev pub refusal : ℕ → ℕ → ℕ → Assessment
+refusal number offset ordinal =
     record {
       number = number;
       outcome = noOutcome;
       payloads = 0;
       offset = offset;
+      ordinal = ordinal;
       tally = 0;
       cookie = 0;
       «cookie_len» = 0;
@@ -113,6 +118,7 @@ wholeAssessment sent got s =
       outcome = outcomeNumber (outcomeOf sent got (s .tally));
       payloads = s .tally .payloads;
       offset = 0;
+      ordinal = 0;
       tally = tallyOf sent got (s .tally);
       cookie = s .cookie;
       «cookie_len» = s .«cookie_len»;
@@ -125,7 +131,7 @@ assessment sent first body =
     let number = firstFailed (responseChecks sent first body) in
     cond (eqb number 0)
     (wholeAssessment sent (partOf body (r .seen .cookie) (r .seen .«cookie_len»)) (r .seen))
-    (refusal number (offsetTold number r))
+    (refusal number (offsetTold number r) (ordinalTold number r))
 
 -- What is promised of a response: the assessment as defined, and 01's "The answer counts the payloads read, and that
 -- count equals the number of payloads in the chain".

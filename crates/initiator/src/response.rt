@@ -31,6 +31,7 @@ pub struct Assessment {
     pub outcome: u8,
     pub payloads: u16,
     pub offset: u16,
+    pub ordinal: u16,
     pub tally: u32,
     pub cookie: u16,
     pub cookie_len: u16,
@@ -125,14 +126,15 @@ pub fn tally_of(sent: &[u8], got: &[u8], t: Tally) -> u32
     unknown
 }
 
-pub fn refuse(number: u8, offset: u16) -> Assessment
-    ensures { λ r. ⌜ r ≡ refusal number offset ⌝ }
+pub fn refuse(number: u8, offset: u16, ordinal: u16) -> Assessment
+    ensures { λ r. ⌜ r ≡ refusal number offset ordinal ⌝ }
 {
     Assessment {
         number,
         outcome: NO_OUTCOME,
         payloads: 0,
         offset,
+        ordinal,
         tally: 0,
         cookie: 0,
         cookie_len: 0,
@@ -154,12 +156,13 @@ pub fn assess(sent: &[u8], first: u8, body: &[u8]) -> Assessment
                 outcome: outcome_number(outcome_of(sent, got, t)),
                 payloads: t.payloads,
                 offset: 0,
+                ordinal: 0,
                 tally: tally_of(sent, got, t),
                 cookie: seen.cookie,
                 cookie_len: seen.cookie_len,
             };
         }
-        return refuse(r.number, r.offset);
+        return refuse(r.number, r.offset, r.ordinal);
     }
-    refuse(number_of(Number::BadArgument), 0)
+    refuse(number_of(Number::BadArgument), 0, 0)
 }

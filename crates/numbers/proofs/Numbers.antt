@@ -5,7 +5,9 @@ use mathlib.Core.Logic.{inl, inr, ⊎-elim}
 use mathlib.Core.List.{List, [], _∷_}
 use native.Mathlib.Omega.{arith}
 use native.Mathlib.Decide.{ℕ-discrete}
-use borrow.Author.Tests.{eq-eqb, ne-eqb}
+use borrow.Author.Tests.{eq-eqb}
+use mathlib.Core.Bool.{false}
+use lib.Dec.{eqb}
 use lib.ListN.{length, getD}
 use Rattle.octets.specs.declared.number.Number.the-variants.{Done}
 use Rattle.policy.specs.declared.rules.Policy.{Policy}
@@ -14,9 +16,11 @@ use Rattle.tables.specs.Tables.{Tables}
 use Rattle.writing.specs.Notify.{Notification, firstType, chained}
 use Rattle.answering.specs.Core.{chainError, decisionOn}
 use Rattle.checking.specs.Checks.{Request}
-use Rattle.reader.proofs.Refused.{broken-number}
+use Rattle.reader.specs.Chain.{reading}
+use Rattle.reader.proofs.Refused.{OfEach, broken-of}
 use Rattle.checking.proofs.Checks.{passed, early-of}
-use Rattle.numbers.specs.Numbers.{same, none, NumberRow, numberRow, numberRows, Some, Gives, AsTheTable}
+use Rattle.numbers.specs.Numbers.{same, none, syntaxError, NumberRow, numberRow, numberRows}
+use Rattle.numbers.specs.Numbers.{Some, Gives, AsTheTable}
 use Rattle.numbers.proofs.Decisions.{Decides, done, refused, decides}
 use Rattle.numbers.proofs.Cores.{chainNumber}
 use Rattle.numbers.proofs.Ways.{early, entry, ComesTo, refused-early, refused-chain, decided-here}
@@ -68,18 +72,32 @@ module _ (policy : Policy) (t : Tables) (q : Request) where
   chain-row : early t q ≡ 0 → (chainNumber q ≡ 0 → ⊥) → Found
   unfolding chainError
   chain-row e n =
-      let c = refused-chain policy t q e n in
-      ⊎-elim
-      (λ six. at 6 (omega arith) c six (rw (ne-eqb (chainNumber q) 7 (omega arith))) refl)
-      (λ seven. at 7 (omega arith) c seven (rw (eq-eqb (chainNumber q) 7 seven)) refl)
-      (broken-number (q .asks .first) (q .asks .body) (passed _ _ _ q e .short) n)
+      broken-of (λ (k : ℕ). chainNumber q ≡ k → Found)
+      (record {
+        chain-length = λ f. malformed 6 (omega arith) f refl refl refl;
+        notify = λ f. malformed 7 (omega arith) f refl refl refl;
+        data-size = λ f. malformed 8 (omega arith) f refl refl refl;
+        repeated = λ f. malformed 9 (omega arith) f refl refl refl;
+        octets-after-end = λ f. malformed 10 (omega arith) f refl refl refl;
+        critical = λ f. at 11 (omega arith) c f (rw (eq-eqb (chainNumber q) 7 f)) refl;
+      })
+      (q .asks .first) (q .asks .body) (passed _ _ _ q e .short) n refl
+    where
+      c : ComesTo policy t q (chainNumber q) (chainError (reading (q .asks .first) (q .asks .body))) t
+      c = refused-chain policy t q e n
+
+      malformed : (k : ℕ) → k < length numberRows → chainNumber q ≡ rowAt k .number → eqb (rowAt k .number) 7 ≡ false
+          → syntaxError q ≡ rowAt k .response q → t ≡ rowAt k .tables q t → Found
+      malformed k l f other o s =
+          let seven : eqb (chainNumber q) 7 ≡ false = rw f other in
+          at k l c f (rw seven o) s
 
   whole-row : early t q ≡ 0 → chainNumber q ≡ 0
       → Decides policy q (marksIn (entry t q)) (decisionOn policy (q .asks) (marksIn (entry t q))) → Found
   whole-row e w (done c) = at 0 (omega arith) (decided-here policy t q e w c) refl refl refl
   whole-row e w (refused v which r) =
       let c = decided-here policy t q e w (r .comes) in
-      ⊎-elim (λ f. at 8 (omega arith) c (rw f) (rw f) refl) (λ f. at 9 (omega arith) c (rw f) (rw f) refl) which
+      ⊎-elim (λ f. at 12 (omega arith) c (rw f) (rw f) refl) (λ f. at 13 (omega arith) c (rw f) (rw f) refl) which
 
   found : Found
   found = go (ℕ-discrete (early t q) 0) (ℕ-discrete (chainNumber q) 0)

@@ -1,5 +1,5 @@
--- Trusted. 01's table "The numbers given back", as far as it speaks of requests: for each number the response and the
--- tables after it.
+-- Trusted. 01's table "The numbers given back", as far as it speaks of requests, with 02's 61 to 65 in the place of its
+-- 6: for each number the response and the tables after it.
 --   applies, replaces       whether an update counts, and a list replaces the kept one
 --   unknownIn               what a request adds to the tally
 --   same, tallyAndMark, asSteps                             the column "Tables"
@@ -16,7 +16,9 @@ use lib.Dec.{leb}
 use lib.ListN.{length, set}
 use Rattle.octets.specs.declared.number.Number.{Number}
 use Rattle.octets.specs.declared.number.Number.the-variants.{Done, BadArgument, OutputTooShort, BodyTooLong}
-use Rattle.octets.specs.declared.number.Number.the-variants.{NoSuchRecord, MobikeNotAgreed, Malformed, UnknownCritical}
+use Rattle.octets.specs.declared.number.Number.the-variants.{NoSuchRecord, MobikeNotAgreed, UnknownCritical}
+use Rattle.octets.specs.declared.number.Number.the-variants.{BadChainLength, BadNotify, BadDataSize}
+use Rattle.octets.specs.declared.number.Number.the-variants.{Repeated, OctetsAfterEnd}
 use Rattle.octets.specs.declared.number.Number.the-variants.{AddressesAltered, NotAcceptable}
 use Rattle.octets.specs.Limits.{addressesMost}
 use Rattle.octets.specs.Numbers.{numberOf}
@@ -88,7 +90,7 @@ asSteps q t =
 abbrev pub none : Request → List Notification
 none q = []
 
--- "INVALID_SYNTAX (7)": "Answers 6 and 7 copy no COOKIE2."
+-- "INVALID_SYNTAX (7)": "Answers 6 and 7 copy no COOKIE2." 02, E4: "The wire response stays."
 abbrev pub syntaxError : Request → List Notification
 syntaxError q = notification invalidSyntax [] ∷ []
 
@@ -126,7 +128,11 @@ numberRows =
     ∷ numberRow BodyTooLong none same
     ∷ numberRow NoSuchRecord none same
     ∷ numberRow MobikeNotAgreed none same
-    ∷ numberRow Malformed syntaxError same
+    ∷ numberRow BadChainLength syntaxError same
+    ∷ numberRow BadNotify syntaxError same
+    ∷ numberRow BadDataSize syntaxError same
+    ∷ numberRow Repeated syntaxError same
+    ∷ numberRow OctetsAfterEnd syntaxError same
     ∷ numberRow UnknownCritical unsupportedCritical same
     ∷ numberRow AddressesAltered (errorThenCookie unexpectedNatDetected) tallyAndMark
     ∷ numberRow NotAcceptable (errorThenCookie unacceptableAddresses) tallyAndMark

@@ -1,11 +1,15 @@
--- Trusted. The numbers that a call gives, by name: 01, "The numbers given back".
+-- Trusted. The numbers that a call gives, by name: 01, "The numbers given back", and 02, E4: "Split 6 everywhere into
+-- 61 (chain lengths), 62 (Notify lengths or SPI), 63 (data size), 64 (repeated or contradictory notification), and 65
+-- (octets after the end)".
 --
---   Number     an enum, as `octets/src/number.rt` declares it: a name for each line of 01's table
---   numberOf   01's number for it
+--   Number     an enum, as `octets/src/number.rt` declares it: a name for each number
+--   numberOf   the number for it
 use Prim.Native.Nat.{ℕ}
 use Rattle.octets.specs.declared.number.Number.{Number}
 use Rattle.octets.specs.declared.number.Number.the-variants.{Done, BadArgument, OutputTooShort, BodyTooLong}
-use Rattle.octets.specs.declared.number.Number.the-variants.{NoSuchRecord, MobikeNotAgreed, Malformed}
+use Rattle.octets.specs.declared.number.Number.the-variants.{NoSuchRecord, MobikeNotAgreed}
+use Rattle.octets.specs.declared.number.Number.the-variants.{BadChainLength, BadNotify, BadDataSize}
+use Rattle.octets.specs.declared.number.Number.the-variants.{Repeated, OctetsAfterEnd}
 use Rattle.octets.specs.declared.number.Number.the-variants.{UnknownCritical, AddressesAltered, NotAcceptable}
 use Rattle.octets.specs.declared.number.Number.the-variants.{Full, SpiInUse, BadPolicy}
 
@@ -16,7 +20,11 @@ numberOf OutputTooShort = 2
 numberOf BodyTooLong = 3
 numberOf NoSuchRecord = 4
 numberOf MobikeNotAgreed = 5
-numberOf Malformed = 6
+numberOf BadChainLength = 61
+numberOf BadNotify = 62
+numberOf BadDataSize = 63
+numberOf Repeated = 64
+numberOf OctetsAfterEnd = 65
 numberOf UnknownCritical = 7
 numberOf AddressesAltered = 8
 numberOf NotAcceptable = 9

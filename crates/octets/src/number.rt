@@ -2,7 +2,7 @@
 ghost use mathlib.Core.Path.{_≡_};
 ghost use Rattle.octets.specs.Numbers.{numberOf};
 
-// In the order of 01's table.
+// In the order of 01's table, with 02's 61 to 65 in the place of its 6.
 pub enum Number {
     Done,
     BadArgument,
@@ -10,7 +10,11 @@ pub enum Number {
     BodyTooLong,
     NoSuchRecord,
     MobikeNotAgreed,
-    Malformed,
+    BadChainLength,
+    BadNotify,
+    BadDataSize,
+    Repeated,
+    OctetsAfterEnd,
     UnknownCritical,
     AddressesAltered,
     NotAcceptable,
@@ -30,7 +34,11 @@ pub fn number_of(n: Number) -> u8
         Number::BodyTooLong => 3,
         Number::NoSuchRecord => 4,
         Number::MobikeNotAgreed => 5,
-        Number::Malformed => 6,
+        Number::BadChainLength => 61,
+        Number::BadNotify => 62,
+        Number::BadDataSize => 63,
+        Number::Repeated => 64,
+        Number::OctetsAfterEnd => 65,
         Number::UnknownCritical => 7,
         Number::AddressesAltered => 8,
         Number::NotAcceptable => 9,

@@ -2,7 +2,7 @@
 use borrow.Author.Tests.{le-ltb}
 use native.Mathlib.Omega.{arith}
 use Prim.Native.Nat.{ℕ, _≤_}
-use mathlib.Core.Path.{_≡_}
+use mathlib.Core.Path.{_≡_, _∙_}
 use mathlib.Core.List.{List}
 use lib.ListN.{length, replicate}
 use Rattle.octets.specs.Limits.{bodyMost}
@@ -11,6 +11,7 @@ use Rattle.findings.specs.State.{seenOf}
 use Rattle.findings.proofs.Stored.{nothing}
 use Rattle.reader.specs.Chain.{chainAt, scanned, reading}
 use Rattle.reader.specs.Ends.{readingOf, Ends, Scanning}
+use Rattle.reader.proofs.Ordinal.{ordinal-told}
 
 pub begins : (body : List ℕ) → length body ≤ bodyMost → Scanning body 0 (seenOf (replicate stateSize 0))
 begins body h = rw (nothing .seen) (omega arith)
@@ -19,4 +20,4 @@ pub scanned-whole : (first : ℕ) (body : List ℕ) (number : ℕ) (t : List ℕ
     → Ends number t (scanned (seenOf (replicate stateSize 0)) (chainAt body first 0))
     → readingOf number t ≡ reading first body
 unfolding reading
-scanned-whole first body number t h w = rw (le-ltb _ _ h, ← nothing .seen) (w .told)
+scanned-whole first body number t h w = rw (le-ltb _ _ h) (rw (nothing .seen) at (w .told) ∙ ordinal-told first body)

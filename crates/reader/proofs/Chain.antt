@@ -113,30 +113,41 @@ module _ (payloadType : ℕ) (body : List ℕ) (at : ℕ) where
       steps-enough left (suc (length body - (at + n))) body next (at + n) (w .1) (omega arith) (omega arith))
       (payloadAt payloadType body at) (found-within payloadType body at inside))
 
--- Every notification of a chain has data that fits.
-abbrev pub AllFit : Chain → Type 0
-AllFit ends = Unit {0}
-AllFit (faulty f at) = Unit {0}
-AllFit (payload at content rest) = DataFits content × AllFit rest
+-- A chain's payloads begin at `least` or behind it, each behind the one before, and every notification has data that
+-- fits.
+abbrev pub Formed : ℕ → Chain → Type 0
+Formed least ends = Unit {0}
+Formed least (faulty f at) = least ≤ at
+Formed least (payload at content rest) = (least ≤ at) × DataFits content × Formed (suc at) rest
 
-steps-fit : (k : ℕ) (body : List ℕ) (payloadType at : ℕ) → at ≤ length body → AllFit (chain k body payloadType at)
+formed-less : (least more : ℕ) (ch : Chain) → least ≤ more → Formed more ch → Formed least ch
+formed-less least more ends l h = tt
+formed-less least more (faulty f at) l h = omega arith
+formed-less least more (payload at content rest) l h = (omega (arith, h .0), h .1, h .2)
+
+steps-form : (k : ℕ) (body : List ℕ) (payloadType at : ℕ) → at ≤ length body → Formed at (chain k body payloadType at)
 unfolding chain
-steps-fit zero body payloadType at inside = tt
-steps-fit (suc k) body payloadType at inside =
+steps-form zero body payloadType at inside = tt
+steps-form (suc k) body payloadType at inside =
     go (eqb payloadType 0) (payloadAt payloadType body at) (found-within payloadType body at inside)
-    (λ n l. steps-fit k body (getD body at 0) (at + n) l)
+    (λ n l. steps-form k body (getD body at 0) (at + n) l)
   where
-    end : (b : Bool) → AllFit (cond b ends (faulty Leftover at))
+    end : (b : Bool) → Formed at (cond b ends (faulty Leftover at))
     end true = tt
-    end false = tt
+    end false = omega arith
 
     go : (b : Bool) (x : Found) → OfFound (Within body at) x
-        → ((n : ℕ) → at + n ≤ length body → AllFit (chain k body (getD body at 0) (at + n)))
-        → AllFit (cond b (chainEnd body at) (link (chain k body (getD body at 0)) at x))
+        → ((n : ℕ) → at + n ≤ length body → Formed (at + n) (chain k body (getD body at 0) (at + n)))
+        → Formed at (cond b (chainEnd body at) (link (chain k body (getD body at 0)) at x))
     go true x w r = end (eqb at (length body))
-    go false (Payload n content) (one w) r = (w .2, r n (w .1))
-    go false (Faulty f) none r = tt
+    go false (Payload n content) (one w) r = (
+      omega arith,
+      w .2,
+      formed-less (suc at) (at + n) (chain k body (getD body at 0) (at + n)) (omega (arith, w .0))
+          (r n (w .1)),
+    )
+    go false (Faulty f) none r = omega arith
 
-pub chain-fits : (body : List ℕ) (payloadType at : ℕ) → at ≤ length body → AllFit (chainAt body payloadType at)
+pub chain-formed : (body : List ℕ) (payloadType at : ℕ) → at ≤ length body → Formed at (chainAt body payloadType at)
 unfolding chainAt
-chain-fits body payloadType at inside = steps-fit (suc (length body - at)) body payloadType at inside
+chain-formed body payloadType at inside = steps-form (suc (length body - at)) body payloadType at inside

@@ -1,5 +1,5 @@
 -- What every payload that fits keeps true of what was seen is true of what a reading hands out.
-use Prim.Native.Nat.{ℕ, _+_}
+use Prim.Native.Nat.{ℕ, suc, _+_}
 use mathlib.Core.List.{List}
 use mathlib.Core.Bool.{Bool, true, false, cond}
 use native.Mathlib.Omega.{arith}
@@ -15,16 +15,16 @@ use Rattle.findings.specs.declared.seen.Seen.{Seen}
 use Rattle.reader.specs.Chain.{Scan, Chain, ends, faulty, payload, chainAt, Outcome, Whole, Broken}
 use Rattle.reader.specs.Chain.{stopped, scanned, answer, refused, reading}
 use Rattle.reader.specs.declared.read.Reading.{Reading}
-use Rattle.reader.proofs.Chain.{DataFits, AllFit, chain-fits}
+use Rattle.reader.proofs.Chain.{DataFits, Formed, chain-formed}
 
 module _ (P : Seen → Type 0) (start : P nothingSeen)
     (step : (s : Seen) (content : Content) (at : ℕ) → P s → DataFits content → P (contentNoted s content at)) where
-  scan-kept : (s : Seen) (ch : Chain) → P s → AllFit ch → P (scanned s ch .seen)
+  scan-kept : (s : Seen) (ch : Chain) (least : ℕ) → P s → Formed least ch → P (scanned s ch .seen)
   unfolding scanned
-  scan-kept s ends h f = h
-  scan-kept s (faulty e at) h f = h
-  scan-kept s (payload at content rest) h f =
-      go (conflicts s content) (scan-kept more rest (step s content (at + notifyHeader) h (f .0)) (f .1))
+  scan-kept s ends least h f = h
+  scan-kept s (faulty e at) least h f = h
+  scan-kept s (payload at content rest) least h f =
+      go (conflicts s content) (scan-kept more rest (suc at) (step s content (at + notifyHeader) h (f .1)) (f .2))
     where
       more : Seen
       more = contentNoted s content (at + notifyHeader)
@@ -36,22 +36,25 @@ module _ (P : Seen → Type 0) (start : P nothingSeen)
       go true r = h
       go false r = r
 
-  answer-kept : (o : Outcome) (s : Seen) → P s → P (answer o s .seen)
-  answer-kept Whole s h = h
-  answer-kept (Broken f at) s h = start
+  answer-kept : (ch : Chain) (o : Outcome) (s : Seen) → P s → P (answer ch o s .seen)
+  answer-kept ch Whole s h = h
+  answer-kept ch (Broken f at) s h = start
 
   pub kept : (first : ℕ) (body : List ℕ) → P (reading first body .seen)
   unfolding reading
   kept first body = go (ltb bodyMost (length body))
     where
+      ch : Chain
+      ch = chainAt body first 0
+
       found : Scan
-      found = scanned nothingSeen (chainAt body first 0)
+      found = scanned nothingSeen ch
 
       told : Reading
-      told = answer (found .outcome) (found .seen)
+      told = answer ch (found .outcome) (found .seen)
 
-      go : (b : Bool) → P (cond b (refused (numberOf BodyTooLong) 0 0) told .seen)
+      go : (b : Bool) → P (cond b (refused (numberOf BodyTooLong) 0 0 0) told .seen)
       go true = start
       go false =
-          answer-kept (found .outcome) (found .seen)
-          (scan-kept nothingSeen (chainAt body first 0) start (chain-fits body first 0 (omega arith)))
+          answer-kept ch (found .outcome) (found .seen)
+          (scan-kept nothingSeen ch 0 start (chain-formed body first 0 (omega arith)))

@@ -15,7 +15,7 @@ use Rattle.payload.specs.declared.payload.Fault.the-variants.{ChainLength, Noti
 use Rattle.payload.specs.declared.payload.Fault.the-variants.{Conflict, Leftover, Critical}
 use Rattle.findings.specs.Seen.{nothingSeen}
 use Rattle.findings.specs.declared.seen.Seen.{Seen}
-use Rattle.reader.specs.Chain.{Scan, Outcome, Whole, Broken, chainAt, stopped, scanned, faultNumber}
+use Rattle.reader.specs.Chain.{Scan, Chain, Outcome, Whole, Broken, chainAt, stopped, scanned, faultNumber}
 use Rattle.reader.specs.Chain.{answer, refused, reading}
 
 -- no fault has the number 0
@@ -27,22 +27,25 @@ faults-told Conflict = omega arith
 faults-told Leftover = omega arith
 faults-told (Critical t) = omega arith
 
-told-whole : (o : Outcome) (s : Seen) → answer o s .number ≡ numberOf Done
-    → stopped o s ≡ stopped Whole (answer o s .seen)
-told-whole Whole s e = refl
-told-whole (Broken f at) s e = absurd (omega (arith, faults-told f))
+told-whole : (ch : Chain) (o : Outcome) (s : Seen) → answer ch o s .number ≡ numberOf Done
+    → stopped o s ≡ stopped Whole (answer ch o s .seen)
+told-whole ch Whole s e = refl
+told-whole ch (Broken f at) s e = absurd (omega (arith, faults-told f))
 
 pub read-whole : (first : ℕ) (body : List ℕ) → reading first body .number ≡ numberOf Done
     → scanned nothingSeen (chainAt body first 0) ≡ stopped Whole (reading first body .seen)
 unfolding reading
 read-whole first body = go (ltb bodyMost (length body))
   where
+    ch : Chain
+    ch = chainAt body first 0
+
     found : Scan
-    found = scanned nothingSeen (chainAt body first 0)
+    found = scanned nothingSeen ch
 
     told : Bool → Reading
-    told long = cond long (refused (numberOf BodyTooLong) 0 0) (answer (found .outcome) (found .seen))
+    told long = cond long (refused (numberOf BodyTooLong) 0 0 0) (answer ch (found .outcome) (found .seen))
 
     go : (long : Bool) → told long .number ≡ numberOf Done → found ≡ stopped Whole (told long .seen)
     go true e = absurd (omega arith)
-    go false e = told-whole (found .outcome) (found .seen) e
+    go false e = told-whole ch (found .outcome) (found .seen) e

@@ -3,6 +3,7 @@ use findings::seen::Seen;
 use findings::seen::nothing_seen;
 use findings::state::CRITICAL;
 use findings::state::OFFSET;
+use findings::state::PAYLOADS;
 use findings::state::STATE_SIZE;
 use findings::state::State;
 use findings::state::seen_of;
@@ -23,26 +24,28 @@ ghost use Rattle.findings.specs.State.{seenOf};
 ghost use Rattle.reader.specs.Chain.{chainAt, stopped, Broken, scanned, faultNumber, refused, ReadAs};
 ghost use Rattle.reader.specs.Ends.{readingOf, Ends, Scanning};
 
-// What a reading gives: 01's number, the offset of a fault, and what the payloads said.
+// What a reading gives: its number, the offset of a fault, how many payloads stand before it, and what the payloads
+// said.
 #[repr(C)]
 pub struct Reading {
     pub number: u8,
     // The type of a payload that gives 7.
     pub critical: u8,
     pub offset: u16,
+    pub ordinal: u16,
     pub seen: Seen,
 }
 
-// The number that 01 gives a fault.
+// The number of a fault.
 pub fn fault_number(f: Fault) -> Number
     ensures { λ r. ⌜ r ≡ faultNumber f ⌝ }
 {
     match f {
-        Fault::ChainLength => Number::Malformed,
-        Fault::NotifyShape => Number::Malformed,
-        Fault::DataSize => Number::Malformed,
-        Fault::Conflict => Number::Malformed,
-        Fault::Leftover => Number::Malformed,
+        Fault::ChainLength => Number::BadChainLength,
+        Fault::NotifyShape => Number::BadNotify,
+        Fault::DataSize => Number::BadDataSize,
+        Fault::Conflict => Number::Repeated,
+        Fault::Leftover => Number::OctetsAfterEnd,
         Fault::Critical(_) => Number::UnknownCritical,
     }
 }
@@ -88,19 +91,21 @@ pub fn scan_from(payload_type: u8, body: &[u8], at: usize, state: &mut State) ->
 }
 
 // A refusal, which tells nothing of what was seen.
-pub fn refuse(number: u8, critical: u8, offset: u16) -> Reading
-    ensures { λ r. ⌜ r ≡ refused number critical offset ⌝ }
+pub fn refuse(number: u8, critical: u8, offset: u16, ordinal: u16) -> Reading
+    ensures { λ r. ⌜ r ≡ refused number critical offset ordinal ⌝ }
 {
     let seen = nothing_seen();
     Reading {
         number,
         critical,
         offset,
+        ordinal,
         seen,
     }
 }
 
-// The reading that a scan with this number and these numbers comes to.
+// The reading that a scan with this number and these numbers comes to. A payload is counted once it is known to have no
+// fault, so that with a refusal the payloads counted are those before the faulty one.
 fn reading_of(number: u8, state: &State) -> Reading
     requires { ⌜ length (now state) ≡ stateSize ⌝ }
     ensures { λ r. ⌜ r ≡ readingOf number (now (state .entry)) ⌝ }
@@ -110,13 +115,19 @@ fn reading_of(number: u8, state: &State) -> Reading
             number,
             critical: 0,
             offset: 0,
+            ordinal: 0,
             seen: seen_of(state),
         };
     }
     if number == number_of(Number::UnknownCritical) {
-        return refuse(number, (state[CRITICAL] % 256) as u8, state[OFFSET]);
+        return refuse(
+            number,
+            (state[CRITICAL] % 256) as u8,
+            state[OFFSET],
+            state[PAYLOADS],
+        );
     }
-    refuse(number, 0, state[OFFSET])
+    refuse(number, 0, state[OFFSET], state[PAYLOADS])
 }
 
 // Reads octets that are not too many as a chain that begins with a payload of type `first`. The handler, whose checks
@@ -135,7 +146,7 @@ pub fn read(first: u8, body: &[u8]) -> Reading
     ensures { λ r. ⌜ ReadAs first (now (body .entry)) r ⌝ }
 {
     if BODY_MOST < body.len() {
-        return refuse(number_of(Number::BodyTooLong), 0, 0);
+        return refuse(number_of(Number::BodyTooLong), 0, 0, 0);
     }
     let mut state = [0u16; STATE_SIZE];
     let number = scan_from(first, body, 0, &mut state);

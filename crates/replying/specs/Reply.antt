@@ -3,7 +3,7 @@
 --
 --   Reply             all that a call gives back but the tables and the output
 --   refusalReply      the reply of 1 to 5: the number alone
---   errorReply        the reply of 6 and 7: the number, the offset, and what is told of the response
+--   errorReply        the reply of 61 to 65 and 7: number, offset, ordinal, and what is told of the response
 --   decidedReply      the reply of 0, 8 and 9, by the decision and by what was seen
 --   CoreAnswer        a reply, the marks after it, and where in the body the list stands that may be kept
 --   decidedAnswer     the answer by a decision
@@ -25,9 +25,9 @@ use Rattle.replying.specs.declared.reply.Reply.{Reply}
 use Rattle.replying.specs.declared.reply.CoreAnswer.{CoreAnswer}
 
 -- "6 and 7 tell the payload's offset, other answers 0"; "other numbers: none, none"; the count "is 0 with answers 1 to
--- 7"; the cookie is "empty ... with answers 1 to 7".
-abbrev pub errorReply : ℕ → ℕ → Response → Reply
-errorReply number offset response =
+-- 7"; the cookie is "empty ... with answers 1 to 7". 02, E4: "also give the payload's ordinal".
+abbrev pub errorReply : ℕ → ℕ → ℕ → Response → Reply
+errorReply number offset ordinal response =
     record {
       number = number;
       update = effectNumber None;
@@ -36,13 +36,14 @@ errorReply number offset response =
       «left_off» = 0;
       payloads = 0;
       offset = offset;
+      ordinal = ordinal;
       cookie = 0;
       «cookie_len» = 0;
       length = response .length;
     }
 
 abbrev pub refusalReply : ℕ → Reply
-refusalReply number = errorReply number 0 noResponse
+refusalReply number = errorReply number 0 0 noResponse
 
 -- "done; tells update none, applied, stale and list none, replaced, stale"; "the answer tells how many were left off".
 abbrev pub decidedReply : Decision → Seen → Response → Reply
@@ -55,6 +56,7 @@ decidedReply d s response =
       «left_off» = d .«left_off»;
       payloads = s .tally .payloads;
       offset = 0;
+      ordinal = 0;
       cookie = s .cookie;
       «cookie_len» = s .«cookie_len»;
       length = response .length;

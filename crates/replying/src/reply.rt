@@ -27,6 +27,7 @@ pub struct Reply {
     pub left_off: u16,
     pub payloads: u16,
     pub offset: u16,
+    pub ordinal: u16,
     pub cookie: u16,
     pub cookie_len: u16,
     pub length: u16,
@@ -40,9 +41,9 @@ pub struct CoreAnswer {
     pub list: Offsets,
 }
 
-// A reply that gives a number as it is told and an offset, with an error that was written.
-pub fn error_reply(number: u8, offset: u16, response: Response) -> Reply
-    ensures { λ r. ⌜ r ≡ errorReply number offset response ⌝ }
+// A reply that gives a number as it is told, an offset and an ordinal, with an error that was written.
+pub fn error_reply(number: u8, offset: u16, ordinal: u16, response: Response) -> Reply
+    ensures { λ r. ⌜ r ≡ errorReply number offset ordinal response ⌝ }
 {
     Reply {
         number,
@@ -52,6 +53,7 @@ pub fn error_reply(number: u8, offset: u16, response: Response) -> Reply
         left_off: 0,
         payloads: 0,
         offset,
+        ordinal,
         cookie: 0,
         cookie_len: 0,
         length: response.length,
@@ -62,7 +64,7 @@ pub fn error_reply(number: u8, offset: u16, response: Response) -> Reply
 pub fn refusal(number: Number) -> Reply
     ensures { λ r. ⌜ r ≡ refusalReply (numberOf number) ⌝ }
 {
-    error_reply(number_of(number), 0, no_response())
+    error_reply(number_of(number), 0, 0, no_response())
 }
 
 // All that is told of a decision but the tables.
@@ -81,6 +83,7 @@ pub fn reply_to(d: Decision, seen: Seen, response: Response) -> Reply
         left_off: d.left_off,
         payloads: t.payloads,
         offset: 0,
+        ordinal: 0,
         cookie: seen.cookie,
         cookie_len: seen.cookie_len,
         length: response.length,

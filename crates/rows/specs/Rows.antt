@@ -1,5 +1,6 @@
 -- Trusted. 01's rows a to j, and its two whole octet strings, as one table of requests with what each must give
--- ("The rows a to j form a single table, checked by one theorem about the definitions").
+-- ("The rows a to j form a single table, checked by one theorem about the definitions"); 02, E4: "rows b, d and e now
+-- give 61, 65 and 63".
 --   Given, Result, Row      what is given, what must come of it, and both
 --   rowHolds                whether the definitions give that
 --   a to j, whole           the rows by their letters, and "Row c with a cookie, whole"
@@ -9,6 +10,7 @@ use mathlib.Core.List.{List, [], _∷_, _++_}
 use mathlib.Core.Bool.{Bool, true, false, _&&_}
 use lib.Dec.{eqb}
 use lib.ListN.{length, getD, replicate}
+use Rattle.octets.specs.declared.number.Number.{Number}
 use Rattle.octets.specs.declared.number.Number.the-variants as told
 use Rattle.octets.specs.Limits.{addressOctets, ipsecPlaces, natOctets, notifyHeader, responseRoom, rulesMost}
 use Rattle.octets.specs.Numbers.{numberOf}
@@ -69,11 +71,12 @@ pub record Given : Type 0 where
   pub mark : ℕ
   pub accepted : Bool
 
--- What must come of it: of the reply the number, the offset, the payloads and what became of the update (none, applied
--- or stale); the record's tally; the response.
+-- What must come of it: of the reply the number, the offset, the ordinal, the payloads and what became of the update
+-- (none, applied or stale); the record's tally; the response.
 pub record Result : Type 0 where
   pub number : ℕ
   pub offset : ℕ
+  pub ordinal : ℕ
   pub payloads : ℕ
   pub update : ℕ
   pub tally : ℕ
@@ -107,11 +110,12 @@ rowHolds r =
     let octets = handledResponse (policyOf (g .accepted)) ike ipsec (asksFor g) in
     eqb (h .reply .number) (must .number)
     && (eqb (h .reply .offset) (must .offset)
+    && (eqb (h .reply .ordinal) (must .ordinal)
     && (eqb (h .reply .payloads) (must .payloads)
     && (eqb (h .reply .update) (must .update)
     && (eqb (getD (h .ike) 0 noIke .unknown) (must .tally)
     && (eqb (h .reply .length) (length octets)
-    && sameList octets (must .response))))))
+    && sameList octets (must .response)))))))
 
 abbrev update : List ℕ
 update = 0 ∷ 0 ∷ 0 ∷ 8 ∷ 0 ∷ 0 ∷ 0x40 ∷ 0x10 ∷ []
@@ -130,23 +134,25 @@ eight = 1 ∷ 2 ∷ 3 ∷ 4 ∷ 5 ∷ 6 ∷ 7 ∷ 8 ∷ []
 abbrev chain : ℕ → List ℕ → Given
 chain first body = record { first = first; body = body; id = 0; mark = 0; accepted = true }
 
--- done with so many payloads, and what became of the update; malformed at an offset
+-- done with so many payloads, and what became of the update; malformed, with its number, at an offset, with an ordinal
 abbrev done : ℕ → Effect → Result
 done payloads update =
     record {
       number = numberOf told.Done;
       offset = 0;
+      ordinal = 0;
       payloads = payloads;
       update = effectNumber update;
       tally = 0;
       response = [];
     }
 
-abbrev malformedAt : ℕ → Result
-malformedAt offset =
+abbrev malformed : Number → ℕ → ℕ → Result
+malformed number offset ordinal =
     record {
-      number = numberOf told.Malformed;
+      number = numberOf number;
       offset = offset;
+      ordinal = ordinal;
       payloads = 0;
       update = effectNumber None;
       tally = 0;
@@ -157,21 +163,21 @@ malformedAt offset =
 abbrev a : Row
 a = record { given = chain 0 []; result = done 0 None }
 
--- "type 41, no body": "6 at 0"
+-- "type 41, no body": "6 at 0", now 61
 abbrev b : Row
-b = record { given = chain notifyPayload []; result = malformedAt 0 }
+b = record { given = chain notifyPayload []; result = malformed told.BadChainLength 0 0 }
 
 -- "type 41, `00 00 00 08 00 00 40 10`": "one update"
 abbrev c : Row
 c = record { given = chain notifyPayload update; result = done 1 Done }
 
--- "as c, then `FF`": "6 at 8"
+-- "as c, then `FF`": "6 at 8", now 65, after one payload
 abbrev d : Row
-d = record { given = chain notifyPayload (update ++ (0xFF ∷ [])); result = malformedAt 8 }
+d = record { given = chain notifyPayload (update ++ (0xFF ∷ [])); result = malformed told.OctetsAfterEnd 8 1 }
 
--- "COOKIE2 of 7 octets": "6"
+-- "COOKIE2 of 7 octets": "6", now 63
 abbrev e : Row
-e = record { given = chain notifyPayload (cookie 7); result = malformedAt 0 }
+e = record { given = chain notifyPayload (cookie 7); result = malformed told.BadDataSize 0 0 }
 
 -- "COOKIE2 of 64 octets": "copied"
 abbrev f : Row
@@ -182,6 +188,7 @@ f =
           record {
             number = numberOf told.Done;
             offset = 0;
+            ordinal = 0;
             payloads = 1;
             update = effectNumber None;
             tally = 0;
@@ -198,6 +205,7 @@ g =
           record {
             number = numberOf told.UnknownCritical;
             offset = 0;
+            ordinal = 0;
             payloads = 0;
             update = effectNumber None;
             tally = 0;
@@ -214,6 +222,7 @@ h =
           record {
             number = numberOf told.Done;
             offset = 0;
+            ordinal = 0;
             payloads = 1;
             update = effectNumber None;
             tally = 1;
@@ -253,6 +262,7 @@ whole =
           record {
             number = numberOf told.NotAcceptable;
             offset = 0;
+            ordinal = 0;
             payloads = 2;
             update = effectNumber None;
             tally = 0;

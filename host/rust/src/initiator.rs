@@ -53,7 +53,7 @@ pub fn write(draft: &Draft<'_>, out: &mut [u8]) -> Written {
 /// Says what the response to a request comes to, given the cookie that was sent in it, empty for none.
 ///
 /// Numbers, in the order of the checks: [`BadArgument`](Number::BadArgument) for a cookie not of 0 or 8
-/// to 64 octets, [`BodyTooLong`](Number::BodyTooLong), [`Malformed`](Number::Malformed),
+/// to 64 octets, [`BodyTooLong`](Number::BodyTooLong), one that [is malformed](Number::is_malformed) or
 /// [`UnknownCritical`](Number::UnknownCritical), [`Done`](Number::Done). With any but the last, the
 /// outcome is [`None`](Outcome::None) and the counts are 0.
 #[inline]
@@ -107,10 +107,16 @@ impl Assessment {
         self.payloads
     }
 
-    /// The offset of the payload that is malformed or critical; else 0.
+    /// The offset of the payload that is malformed or critical, or of the octets after the end; else 0.
     #[inline]
     pub fn offset(&self) -> u16 {
         self.offset
+    }
+
+    /// How many payloads stand before that; else 0.
+    #[inline]
+    pub fn ordinal(&self) -> u16 {
+        self.ordinal
     }
 
     /// How many payloads and notifications of it are unknown, a cookie that wasn't asked for too.

@@ -70,6 +70,7 @@ mod reader;
 mod records;
 mod responder;
 pub mod trace;
+mod words;
 
 pub use gateway::Gateway;
 pub use initiator::{assess, write, Draft};
@@ -82,3 +83,4 @@ pub use policy::{acceptable, set_policy};
 pub use reader::{addresses, cookie, nat_value, no_nats, read};
 pub use records::{close_ike, close_ipsec, open, open_ipsec};
 pub use responder::{handle, Request};
+pub use words::{notify_words, payload_words};

@@ -16,8 +16,16 @@ pub enum Number {
     NoSuchRecord,
     /// 5: MOBIKE was not agreed.
     MobikeNotAgreed,
-    /// 6: the chain is malformed.
-    Malformed,
+    /// 61: under 4 octets are left where a payload is due, or a length is under 4 or past the end.
+    BadChainLength,
+    /// 62: a Notify is under 8 octets, its SPI is past its length, or it has one where its type has none.
+    BadNotify,
+    /// 63: a notification's data has a size that its type does not have.
+    BadDataSize,
+    /// 64: a notification is repeated, or contradicts an earlier one.
+    Repeated,
+    /// 65: octets stand after the end of the chain.
+    OctetsAfterEnd,
     /// 7: a critical payload of a type that is not known.
     UnknownCritical,
     /// 8: the addresses were altered on the way.
@@ -45,6 +53,11 @@ impl Number {
     pub fn is_done(self) -> bool {
         self == Number::Done
     }
+
+    /// Whether a chain is malformed, 61 to 65.
+    pub fn is_malformed(self) -> bool {
+        matches!(u8::from(self), 61..=65)
+    }
 }
 
 impl From<u8> for Number {
@@ -56,7 +69,11 @@ impl From<u8> for Number {
             3 => Number::BodyTooLong,
             4 => Number::NoSuchRecord,
             5 => Number::MobikeNotAgreed,
-            6 => Number::Malformed,
+            61 => Number::BadChainLength,
+            62 => Number::BadNotify,
+            63 => Number::BadDataSize,
+            64 => Number::Repeated,
+            65 => Number::OctetsAfterEnd,
             7 => Number::UnknownCritical,
             8 => Number::AddressesAltered,
             9 => Number::NotAcceptable,
@@ -80,7 +97,11 @@ impl From<Number> for u8 {
             Number::BodyTooLong => 3,
             Number::NoSuchRecord => 4,
             Number::MobikeNotAgreed => 5,
-            Number::Malformed => 6,
+            Number::BadChainLength => 61,
+            Number::BadNotify => 62,
+            Number::BadDataSize => 63,
+            Number::Repeated => 64,
+            Number::OctetsAfterEnd => 65,
             Number::UnknownCritical => 7,
             Number::AddressesAltered => 8,
             Number::NotAcceptable => 9,

@@ -5,9 +5,10 @@ use crate::{raw, Number};
 
 /// Reads any octets as a payload chain whose first payload has the type `first`.
 ///
-/// Numbers: [`BodyTooLong`](Number::BodyTooLong), [`Malformed`](Number::Malformed),
-/// [`UnknownCritical`](Number::UnknownCritical), [`Done`](Number::Done). With any but the last, nothing
-/// is told of what was seen.
+/// Numbers: [`BodyTooLong`](Number::BodyTooLong); one that [is malformed](Number::is_malformed) or
+/// [`UnknownCritical`](Number::UnknownCritical), whichever is at the smallest offset, and at one payload
+/// the lowest of 61 to 64, then 7; [`Done`](Number::Done). With any but the last, nothing is told of what
+/// was seen.
 #[inline]
 pub fn read(first: u8, body: &[u8]) -> Reading {
     // SAFETY: start and length are those of a slice that outlives the call.
@@ -72,10 +73,16 @@ impl Reading {
         self.critical
     }
 
-    /// The offset of the payload that is malformed or critical; else 0.
+    /// The offset of the payload that is malformed or critical, or of the octets after the end; else 0.
     #[inline]
     pub fn offset(&self) -> u16 {
         self.offset
+    }
+
+    /// How many payloads stand before that; else 0.
+    #[inline]
+    pub fn ordinal(&self) -> u16 {
+        self.ordinal
     }
 
     /// What the payloads say; nothing unless the chain was read.

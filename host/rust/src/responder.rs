@@ -29,7 +29,7 @@ pub struct Request<'a> {
 /// | Number | Response | Tables |
 /// |---|---|---|
 /// | [`BadArgument`](Number::BadArgument), [`OutputTooShort`](Number::OutputTooShort), [`BodyTooLong`](Number::BodyTooLong), [`NoSuchRecord`](Number::NoSuchRecord), [`MobikeNotAgreed`](Number::MobikeNotAgreed) | none | as they were |
-/// | [`Malformed`](Number::Malformed), [`UnknownCritical`](Number::UnknownCritical) | the error | as they were |
+/// | [malformed](Number::is_malformed), [`UnknownCritical`](Number::UnknownCritical) | the error | as they were |
 /// | [`AddressesAltered`](Number::AddressesAltered), [`NotAcceptable`](Number::NotAcceptable) | the error, then the cookie | tally and update mark |
 /// | [`Done`](Number::Done) | both NAT detection values if the request has both kinds, then the cookie | tally, update, list |
 ///
@@ -111,10 +111,16 @@ impl Reply {
         self.payloads
     }
 
-    /// The offset of the payload that is malformed or critical; else 0.
+    /// The offset of the payload that is malformed or critical, or of the octets after the end; else 0.
     #[inline]
     pub fn offset(&self) -> u16 {
         self.offset
+    }
+
+    /// How many payloads stand before that; else 0.
+    #[inline]
+    pub fn ordinal(&self) -> u16 {
+        self.ordinal
     }
 
     /// COOKIE2's data as a part of the request's body; empty if there is none.

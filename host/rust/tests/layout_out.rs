@@ -28,7 +28,8 @@ fn mixed() -> (u8, Vec<u8>) {
 fn every_field_of_a_reading() {
     let (first, body) = mixed();
     let reading = read(first, &body);
-    assert_eq!((reading.number(), reading.critical(), reading.offset()), (Number::Done, 0, 0));
+    assert_eq!((reading.number(), reading.critical()), (Number::Done, 0));
+    assert_eq!((reading.offset(), reading.ordinal()), (0, 0));
     let seen = reading.seen();
     let tally = Tally {
         payloads: 12,
@@ -91,8 +92,8 @@ fn every_place_of_a_list() {
 fn a_refused_reading() {
     let (first, body) = chain(&[bare(33), (200, 0x80, vec![])]);
     let reading = read(first, &body);
-    let told = (reading.number(), reading.critical(), reading.offset());
-    assert_eq!(told, (Number::UnknownCritical, 200, 4));
+    assert_eq!((reading.number(), reading.critical()), (Number::UnknownCritical, 200));
+    assert_eq!((reading.offset(), reading.ordinal()), (4, 1));
     assert_eq!(*reading.seen(), Seen::default());
 }
 
@@ -114,7 +115,8 @@ fn every_field_of_a_record_and_a_reply() {
     let reply = gateway.handle(&Request { id: 0x0a0b_0c0d, ..request(&came) }, &mut [0; 128]);
     assert_eq!((reply.number(), reply.first(), reply.length()), (Number::Done, 41, 17));
     assert_eq!((reply.update(), reply.list()), (Effect::Applied, Effect::Applied));
-    assert_eq!((reply.left_off(), reply.payloads(), reply.offset()), (2, 21, 0));
+    assert_eq!((reply.left_off(), reply.payloads()), (2, 21));
+    assert_eq!((reply.offset(), reply.ordinal()), (0, 0));
     assert_eq!(reply.cookie(&came.1), COOKIE);
     let record = IkeRecord {
         spi: 7,
@@ -139,8 +141,9 @@ fn a_refused_reply() {
     let mut came = chain(&[bare(33), bare(34), notify(UPDATE, &[])]);
     came.1[8 + 3] = 7;
     let reply = gateway().handle(&request(&came), &mut [0; 128]);
-    assert_eq!((reply.number(), reply.first(), reply.length()), (Number::Malformed, 41, 8));
-    assert_eq!((reply.left_off(), reply.payloads(), reply.offset()), (0, 0, 8));
+    assert_eq!((reply.number(), reply.first(), reply.length()), (Number::BadNotify, 41, 8));
+    assert_eq!((reply.left_off(), reply.payloads()), (0, 0));
+    assert_eq!((reply.offset(), reply.ordinal()), (8, 2));
     assert!(reply.cookie(&came.1).is_empty());
 }
 
@@ -203,7 +206,8 @@ fn every_field_of_an_assessment() {
     let (first, body) = chain(&[notify(40, &[]), notify(40000, &[]), bare(200), bare(201)]);
     let assessed = assess(&[], first, &body);
     assert_eq!((assessed.number(), assessed.outcome()), (Number::Done, Outcome::Unacceptable));
-    assert_eq!((assessed.payloads(), assessed.offset(), assessed.tally()), (4, 0, 3));
+    assert_eq!((assessed.payloads(), assessed.tally()), (4, 3));
+    assert_eq!((assessed.offset(), assessed.ordinal()), (0, 0));
     assert!(assessed.cookie(&body).is_empty());
     let (first, body) = chain(&[notify(COOKIE2, &[9; 8]), bare(33)]);
     assert_eq!(assess(&[9; 8], first, &body).cookie(&body), [9; 8]);
@@ -212,6 +216,7 @@ fn every_field_of_an_assessment() {
     let (first, mut body) = chain(&[bare(200), bare(201)]);
     body[7] = 3;
     let assessed = assess(&[], first, &body);
-    assert_eq!((assessed.number(), assessed.outcome()), (Number::Malformed, Outcome::None));
-    assert_eq!((assessed.payloads(), assessed.offset(), assessed.tally()), (0, 4, 0));
+    assert_eq!((assessed.number(), assessed.outcome()), (Number::BadChainLength, Outcome::None));
+    assert_eq!((assessed.payloads(), assessed.tally()), (0, 0));
+    assert_eq!((assessed.offset(), assessed.ordinal()), (4, 1));
 }

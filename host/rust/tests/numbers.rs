@@ -19,8 +19,9 @@ fn any_octet_has_a_meaning() {
     for octet in 0..=255 {
         let number = Number::from(octet);
         assert_eq!(u8::from(number), octet);
-        let has_a_name = octet <= 12 || (20..=22).contains(&octet);
-        assert_eq!(number == Number::Other(octet), !has_a_name);
+        let given = matches!(octet, 0..=5 | 7..=12 | 20..=22 | 61..=65);
+        assert_eq!(number == Number::Other(octet), !given);
+        assert_eq!(number.is_malformed(), (61..=65).contains(&octet));
         assert_eq!(number.is_done(), octet == 0);
         assert_eq!(Effect::from(octet) == Effect::Other(octet), octet > 2);
         assert_eq!(Outcome::from(octet) == Outcome::Other(octet), octet > 5);
@@ -31,8 +32,42 @@ fn any_octet_has_a_meaning() {
 fn reading() {
     assert_eq!(read(0, &[]).number(), Number::Done);
     assert_eq!(read(0, &[0; 4097]).number(), Number::BodyTooLong);
-    assert_eq!(read(41, &[]).number(), Number::Malformed);
+    assert_eq!(read(41, &[]).number(), Number::BadChainLength);
     assert_eq!(read(200, &[0, 0x80, 0, 4]).number(), Number::UnknownCritical);
+}
+
+/// What is told of a chain with a fault: the number, the offset and the ordinal, of a reading, of a reply
+/// and of an assessment alike.
+fn faulty(chain: &(u8, Vec<u8>)) -> (Number, u16, u16) {
+    let reading = read(chain.0, &chain.1);
+    let reply = gateway().handle(&request(chain), &mut [0; 128]);
+    let assessed = assess(&[], chain.0, &chain.1);
+    let told = (reading.number(), reading.offset(), reading.ordinal());
+    assert_eq!((reply.number(), reply.offset(), reply.ordinal()), told);
+    assert_eq!((assessed.number(), assessed.offset(), assessed.ordinal()), told);
+    assert_eq!((reply.first(), reply.length(), reply.payloads()), (41, 8, 0));
+    told
+}
+
+#[test]
+fn each_fault_has_its_number_and_its_ordinal() {
+    let cookie = notify(COOKIE2, &[9; 8]);
+    let mut cut = chain(&[bare(33), cookie.clone()]);
+    cut.1.pop();
+    assert_eq!(faulty(&cut), (Number::BadChainLength, 4, 1));
+    // A Notify of 7 octets, and one of 3: a length of the chain comes before one of a Notify.
+    let mut short = chain(&[bare(33), bare(34), (41, 0, vec![0, 0, 0x40])]);
+    assert_eq!(faulty(&short), (Number::BadNotify, 8, 2));
+    short.1[8 + 3] = 3;
+    assert_eq!(faulty(&short), (Number::BadChainLength, 8, 2));
+    // A second COOKIE2, of 7 octets, then of 8: a size comes before a repetition.
+    let seven = chain(&[cookie.clone(), notify(COOKIE2, &[1; 7])]);
+    assert_eq!(faulty(&seven), (Number::BadDataSize, 16, 1));
+    let second = chain(&[cookie.clone(), bare(33), notify(COOKIE2, &[1; 8]), (200, 0x80, vec![])]);
+    assert_eq!(faulty(&second), (Number::Repeated, 20, 2));
+    let mut after = chain(&[cookie, bare(33), bare(34)]);
+    after.1.push(0xff);
+    assert_eq!(faulty(&after), (Number::OctetsAfterEnd, 24, 3));
 }
 
 /// As `gateway`, with every place of the IKE table in use, and of the IPsec list not.
@@ -258,10 +293,10 @@ fn requests_refused_1_to_5() {
 }
 
 #[test]
-fn requests_refused_6_to_9() {
+fn requests_refused_by_their_chain_and_by_8_and_9() {
     let cut = (41, vec![0, 0, 0]);
     let response = vec![0, 0, 0, 8, 0, 0, 0, 7];
-    assert_eq!(refused(request(&cut), 128), (Number::Malformed, true, response));
+    assert_eq!(refused(request(&cut), 128), (Number::BadChainLength, true, response));
     let critical = (200, vec![0, 0x80, 0, 4]);
     let response = vec![0, 0, 0, 9, 0, 0, 0, 1, 200];
     assert_eq!(refused(request(&critical), 128), (Number::UnknownCritical, true, response));
@@ -305,7 +340,7 @@ fn judging() {
     };
     assert_eq!(assess(&[1; 7], 0, &[]).number(), Number::BadArgument);
     assert_eq!(assess(&COOKIE, 0, &[0; 4097]).number(), Number::BodyTooLong);
-    assert_eq!(assess(&COOKIE, 41, &[]).number(), Number::Malformed);
+    assert_eq!(assess(&COOKIE, 41, &[]).number(), Number::BadChainLength);
     assert_eq!(assess(&[], 200, &[0, 0x80, 0, 4]).number(), Number::UnknownCritical);
     assert_eq!(assessed(&COOKIE, &[]), Outcome::Close);
     assert_eq!(assessed(&COOKIE, &[notify(COOKIE2, &[1; 9])]), Outcome::Close);

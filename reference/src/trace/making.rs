@@ -4,6 +4,7 @@ use crate::address::AddressPair;
 use crate::agreed::Agreed;
 use crate::calls::Call;
 use crate::faults::{Fault, Faults};
+use crate::flaws;
 use crate::handler::handle;
 use crate::opening_both::Opening;
 use crate::policy::{self, RuleList};
@@ -71,7 +72,9 @@ impl Request {
             output: vec![0; output],
         };
         let reply = handle(&request, tables, faults).reply;
-        Answer { number: reply.number, update: reply.update, list: reply.list }
+        let unsplit = faults.on(Fault::ReplayUnsplit);
+        let number = if unsplit { flaws::unsplit(reply.number) } else { reply.number };
+        Answer { number, update: reply.update, list: reply.list }
     }
 }
 

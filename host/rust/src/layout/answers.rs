@@ -11,6 +11,7 @@ pub struct Reply {
     pub(crate) left_off: u16,
     pub(crate) payloads: u16,
     pub(crate) offset: u16,
+    pub(crate) ordinal: u16,
     pub(crate) cookie: u16,
     pub(crate) cookie_len: u16,
     pub(crate) length: u16,
@@ -33,6 +34,7 @@ pub struct Assessment {
     pub(crate) outcome: u8,
     pub(crate) payloads: u16,
     pub(crate) offset: u16,
+    pub(crate) ordinal: u16,
     pub(crate) tally: u32,
     pub(crate) cookie: u16,
     pub(crate) cookie_len: u16,
@@ -46,12 +48,12 @@ pub(crate) struct Part {
     pub(crate) octets: usize,
 }
 
-laid_out!(Reply, size 16, align 2, {
-    number: 0, update: 1, list: 2, first: 3, left_off: 4, payloads: 6, offset: 8, cookie: 10,
-    cookie_len: 12, length: 14,
+laid_out!(Reply, size 18, align 2, {
+    number: 0, update: 1, list: 2, first: 3, left_off: 4, payloads: 6, offset: 8, ordinal: 10,
+    cookie: 12, cookie_len: 14, length: 16,
 });
 laid_out!(Written, size 4, align 2, { number: 0, first: 1, length: 2 });
 laid_out!(Assessment, size 16, align 4, {
-    number: 0, outcome: 1, payloads: 2, offset: 4, tally: 8, cookie: 12, cookie_len: 14,
+    number: 0, outcome: 1, payloads: 2, offset: 4, ordinal: 6, tally: 8, cookie: 12, cookie_len: 14,
 });
 laid_out!(Part, size 16, align 8, { start: 0, octets: 8 });

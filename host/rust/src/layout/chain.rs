@@ -64,6 +64,7 @@ pub struct Reading {
     pub(crate) number: u8,
     pub(crate) critical: u8,
     pub(crate) offset: u16,
+    pub(crate) ordinal: u16,
     pub(crate) seen: Seen,
 }
 
@@ -94,7 +95,7 @@ laid_out!(Seen, size 74, align 2, {
     tally: 0, update: 10, no_additional: 11, nat_source: 12, nat_destination: 14, no_nats: 16,
     no_nats_len: 18, cookie: 20, cookie_len: 22, list: 24,
 });
-laid_out!(Reading, size 78, align 2, { number: 0, critical: 1, offset: 2, seen: 4 });
+laid_out!(Reading, size 80, align 2, { number: 0, critical: 1, offset: 2, ordinal: 4, seen: 6 });
 laid_out!(Ask, size 8, align 2, {
     update: 0, no_nats: 1, nat_source: 2, nat_destination: 3, no_additional: 4, count: 6,
 });

@@ -16,9 +16,7 @@ pub fn random(rng: &mut Rng) -> Case {
         0 => any_chain(rng, sent),
         1 => {
             let mut chain = answering(rng, &sent);
-            let critical = rng.one_in(4);
-            let damage = if critical { Damage::UnknownCritical } else { rng.pick(&Damage::all()) };
-            damage.apply(rng, &mut chain);
+            Damage::any(rng).apply(rng, &mut chain);
             Case::of(sent, chain.assemble())
         }
         2 => {

@@ -24,23 +24,31 @@ pub enum Damage {
 impl Damage {
     /// Every kind, those of single notify types for each of these.
     pub fn all() -> Vec<Damage> {
-        let mut all = vec![
-            Damage::HeaderCut,
-            Damage::LengthUnder4,
-            Damage::LengthPastEnd,
-            Damage::NotifyUnder8,
-            Damage::SpiPastLength,
-            Damage::Leftover,
-            Damage::EarlyEnd,
-            Damage::Contradiction,
-            Damage::UnknownCritical,
-        ];
+        Self::by_number().concat()
+    }
+
+    /// Those that alone give 61 to 65 and 7.
+    fn by_number() -> [Vec<Damage>; 6] {
         let sized =
             NotifyType::KNOWN.iter().filter(|&&known| known != NotifyType::MOBIKE_SUPPORTED);
-        all.extend(sized.map(|&known| Damage::DataSize(known)));
-        all.extend(NotifyType::KNOWN.map(Damage::Spi));
-        all.extend(NotifyType::ONCE.map(Damage::Repetition));
-        all
+        [
+            vec![Damage::HeaderCut, Damage::LengthUnder4, Damage::LengthPastEnd],
+            [
+                &[Damage::NotifyUnder8, Damage::SpiPastLength],
+                &NotifyType::KNOWN.map(Damage::Spi)[..],
+            ]
+            .concat(),
+            sized.map(|&known| Damage::DataSize(known)).collect(),
+            [&[Damage::Contradiction], &NotifyType::ONCE.map(Damage::Repetition)[..]].concat(),
+            vec![Damage::Leftover, Damage::EarlyEnd],
+            vec![Damage::UnknownCritical],
+        ]
+    }
+
+    /// Each number as often as another.
+    pub fn any(rng: &mut Rng) -> Damage {
+        let number = rng.below(6);
+        rng.pick(&Self::by_number()[number])
     }
 
     pub fn apply(self, rng: &mut Rng, chain: &mut ChainDraft) {

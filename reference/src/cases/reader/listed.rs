@@ -1,7 +1,7 @@
 // The cases every run begins with: the papers' rows, single flaws, boundary sizes and types.
 use super::damage::Damage;
 use super::draft::{ChainDraft, Draft};
-use super::{atoms, well_formed, Case};
+use super::{atoms, told, well_formed, Case};
 use crate::notify::NotifyType;
 use crate::reader::MAX_BODY;
 use crate::rng::Rng;
@@ -28,6 +28,7 @@ pub fn all() -> Vec<Case> {
         first_types(),
         spi_sizes(),
         cookies_alike(),
+        told::all(),
     ]
     .concat()
 }

@@ -5,6 +5,7 @@ pub(super) mod draft;
 pub(super) mod listed;
 pub(super) mod mutation;
 mod noise;
+mod told;
 pub(super) mod well_formed;
 
 use crate::cases::seeded::{Kinded, Seeded};
@@ -75,9 +76,23 @@ pub(super) fn random(rng: &mut Rng) -> Case {
 
 fn damaged(rng: &mut Rng, flaws: usize) -> Case {
     let mut chain = well_formed::chain(rng);
-    let kinds = Damage::all();
     for _ in 0..flaws {
-        rng.pick(&kinds).apply(rng, &mut chain);
+        Damage::any(rng).apply(rng, &mut chain);
     }
     chain.assemble()
+}
+
+#[cfg(test)]
+mod tests {
+    use super::*;
+    use crate::cases::seeded::met;
+    use crate::faults::Faults;
+    use crate::reader::read;
+
+    #[test]
+    fn random_cases_meet_every_answer_often() {
+        met::assert_often(&[0, 3, 7, 61, 62, 63, 64, 65], |Case { first, body }| {
+            read(first, &body, Faults::NONE).answer.number(Faults::NONE)
+        });
+    }
 }

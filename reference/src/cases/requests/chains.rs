@@ -15,9 +15,7 @@ pub fn chain(rng: &mut Rng, pair: &AddressPair, old: &AddressPair) -> reader::Ca
         0 => reader::random(rng),
         1 => {
             let mut chain = asking(rng, pair, old);
-            let critical = rng.one_in(4);
-            let damage = if critical { Damage::UnknownCritical } else { rng.pick(&Damage::all()) };
-            damage.apply(rng, &mut chain);
+            Damage::any(rng).apply(rng, &mut chain);
             chain.assemble()
         }
         2 => {

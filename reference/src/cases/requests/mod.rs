@@ -52,7 +52,8 @@ mod tests {
     #[test]
     fn random_cases_meet_every_answer_often() {
         let done = (0..3).flat_map(|update| (0..3).map(move |list| (0, update, list)));
-        let refused = (1..=9).map(|number| (number, 0, 0));
+        let numbers = (1..=5).chain(61..=65).chain(7..=9);
+        let refused = numbers.map(|number| (number, 0, 0));
         let answers: Vec<_> = done.chain(refused).collect();
         met::assert_often(&answers, |Case { mut tables, request }| {
             let reply = handle(&request, &mut tables, Faults::NONE).reply;

@@ -66,7 +66,10 @@ pub fn all() -> Vec<Example> {
     let (moved_ike, moved_ipsec) =
         (format!("ike 7 {OTHER_PRINTED}"), format!("ipsec 9 {OTHER_PRINTED}"));
     let done = ["0 0 none none", "1 0 none none"];
-    let examples: [(Vec<u8>, &[&str]); 17] = [
+    let none = ["1 61 none none", "2 62 none none", "3 63 none none", "4 64 none none"];
+    let none = [&none[..], &["5 65 none none", "6 7 none none"]].concat();
+    let refused_lines = [&done[..1], &none, &[&ike, &ipsec]].concat();
+    let examples: [(Vec<u8>, &[&str]); 18] = [
         (from_hex("02 07"), &["0 4 none none"]),
         (vec![], &[]),
         (opening(), &[done[0], &ike, &ipsec]),
@@ -87,12 +90,27 @@ pub fn all() -> Vec<Example> {
         // Of an opening, a family of 5 and an SPI of 0 are the call's to refuse.
         (with_octet(opening(), 3, 5), &["0 1 none none"]),
         (with_octet(opening(), 1, 0), &["0 1 none none"]),
+        (each_flaw(), &refused_lines),
     ];
     let example = |(trace, lines): (Vec<u8>, &[&str])| Example {
         trace,
         printed: lines.iter().map(|line| format!("{line}\n")).collect(),
     };
     examples.map(example).into()
+}
+
+/// Requests whose chains give 61 to 65 and 7.
+fn each_flaw() -> Vec<u8> {
+    let chains = [
+        (41, ""),
+        (41, "00000007000040"),
+        (41, "0000000f00004011 01020304050607"),
+        (41, "2900000800004010 0000000800004010"),
+        (41, "0000000800004010 ff"),
+        (100, "00800004"),
+    ];
+    let requests = chains.map(|(first, body)| request(5, first, &from_hex(body)));
+    [opening(), requests.concat()].concat()
 }
 
 fn with_octet(mut octets: Vec<u8>, place: usize, octet: u8) -> Vec<u8> {

@@ -10,6 +10,7 @@ struct CAssessed {
     outcome: u8,
     payloads: u16,
     offset: u16,
+    ordinal: u16,
     tally: u32,
     cookie: u16,
     cookie_len: u16,
@@ -17,7 +18,8 @@ struct CAssessed {
 
 const _: () = assert!(size_of::<CAssessed>() == 16);
 const _: () = assert!(offset_of!(CAssessed, payloads) == 2 && offset_of!(CAssessed, tally) == 8);
-const _: () = assert!(offset_of!(CAssessed, cookie_len) == 14);
+const _: () =
+    assert!(offset_of!(CAssessed, ordinal) == 6 && offset_of!(CAssessed, cookie_len) == 14);
 
 #[link(name = "host", kind = "static")]
 extern "C" {
@@ -35,8 +37,9 @@ pub fn assess<'a>(sent: &[u8], first: u8, body: &'a [u8]) -> Assessed<'a> {
     // SAFETY: each start and length are those of a slice that outlives the call.
     let assessed =
         unsafe { unmavreth_assess(sent.as_ptr(), sent.len(), first, body.as_ptr(), body.len()) };
-    let CAssessed { number, outcome, payloads, offset, tally, cookie, cookie_len } = assessed;
+    let CAssessed { number, outcome, payloads, offset, ordinal, tally, cookie, cookie_len } =
+        assessed;
     let handed_out = hand_out(body, cookie, cookie_len);
     let cookie = Place::in_body(body, usize::from(cookie), usize::from(cookie_len));
-    Assessed { number, outcome, payloads, offset, tally, cookie, handed_out }
+    Assessed { number, outcome, payloads, offset, ordinal, tally, cookie, handed_out }
 }

@@ -39,6 +39,7 @@ struct CReading {
     number: u8,
     critical_type: u8,
     offset: u16,
+    ordinal: u16,
     seen: CSeen,
 }
 
@@ -51,8 +52,9 @@ const _: () = assert!(size_of::<CSeen>() == 74);
 const _: () = assert!(offset_of!(CSeen, update) == 10 && offset_of!(CSeen, nat_source) == 12);
 const _: () = assert!(offset_of!(CSeen, list) == 24 && size_of::<COffsets>() == 50);
 const _: () = assert!(offset_of!(COffsets, offsets) == 2 && offset_of!(COffsets, families) == 34);
-const _: () = assert!(size_of::<CReading>() == 78 && offset_of!(CReading, critical_type) == 1);
-const _: () = assert!(offset_of!(CReading, offset) == 2 && offset_of!(CReading, seen) == 4);
+const _: () = assert!(size_of::<CReading>() == 80 && offset_of!(CReading, critical_type) == 1);
+const _: () = assert!(offset_of!(CReading, offset) == 2 && offset_of!(CReading, ordinal) == 4);
+const _: () = assert!(offset_of!(CReading, seen) == 6);
 const _: () = assert!(size_of::<AddressPair>() == 38);
 const _: () = assert!(offset_of!(AddressPair, source_port) == 34);
 const _: () = assert!(size_of::<CAddressList>() == 272 && size_of::<Address>() == 17);
@@ -94,6 +96,7 @@ fn outcome(body: &[u8], reading: CReading, no_nats_pair: AddressPair) -> Outcome
     Outcome {
         number: reading.number,
         offset: usize::from(reading.offset),
+        ordinal: usize::from(reading.ordinal),
         critical_type: reading.critical_type,
         payloads: usize::from(seen.payloads),
         unknown_payloads: usize::from(seen.unknown_payloads),

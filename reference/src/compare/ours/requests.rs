@@ -18,12 +18,14 @@ struct CReply {
     left_off: u16,
     payloads: u16,
     offset: u16,
+    ordinal: u16,
     cookie: u16,
     cookie_len: u16,
     length: u16,
 }
 
-const _: () = assert!(size_of::<CReply>() == 16 && offset_of!(CReply, left_off) == 4);
+const _: () = assert!(size_of::<CReply>() == 18 && offset_of!(CReply, left_off) == 4);
+const _: () = assert!(offset_of!(CReply, ordinal) == 10 && offset_of!(CReply, cookie) == 12);
 
 #[link(name = "host", kind = "static")]
 extern "C" {
@@ -88,6 +90,7 @@ fn reply(reply: CReply, body: &[u8]) -> Reply<'_> {
         left_off: usize::from(reply.left_off),
         payloads: usize::from(reply.payloads),
         offset: usize::from(reply.offset),
+        ordinal: usize::from(reply.ordinal),
         cookie: Place::in_body(body, usize::from(reply.cookie), usize::from(reply.cookie_len)),
         handed_out: hand_out(body, reply.cookie, reply.cookie_len),
         first: reply.first,

@@ -18,15 +18,17 @@ reading-of-spec =
     (λ c. search needs)
     (λ c. search needs)
     (λ c. search needs)
-    (λ c κs. search needs)
-    (λ c.
-    let d = c .before .before .before in
-    let n = d .before in
-    rw (ne-eqb _ _ (n .before .if1 .left), eq-eqb _ _ (d .if2 .taken ∙ n .number-of .ensures)) (c .refuse .ensures))
     (λ c. search needs)
     (λ c κs. search needs)
     (λ c.
-    let d = c .before .before in
+    let d = c .before .before .before .before in
+    let n = d .before in
+    rw (ne-eqb _ _ (n .before .if1 .left), eq-eqb _ _ (d .if2 .taken ∙ n .number-of .ensures)) (c .refuse .ensures))
+    (λ c. search needs)
+    (λ c. search needs)
+    (λ c κs. search needs)
+    (λ c.
+    let d = c .before .before .before in
     let n = d .before in
     let other = ne-eqb _ _ (λ z. d .if2 .left (z ∙ sym (n .number-of .ensures))) in
     rw (ne-eqb _ _ (n .before .if1 .left), other) (c .refuse2 .ensures)))

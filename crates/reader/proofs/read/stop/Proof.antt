@@ -16,7 +16,7 @@ use Rattle.payload.specs.declared.payload.Fault.{Fault}
 use Rattle.payload.specs.declared.payload.Fault.the-variants.{ChainLength, NotifyShape, DataSize}
 use Rattle.payload.specs.declared.payload.Fault.the-variants.{Conflict, Leftover, Critical}
 use Rattle.payload.proofs.payload.Fault as fault
-use Rattle.findings.specs.Slots.{offsetSlot, criticalSlot, stateSize}
+use Rattle.findings.specs.Slots.{payloadsSlot, offsetSlot, criticalSlot, stateSize}
 use Rattle.findings.specs.State.{seenOf}
 use Rattle.reader.specs.Chain.{Broken, stopped, faultNumber}
 use Rattle.reader.specs.Ends.{readingOf, Ends}
@@ -34,6 +34,10 @@ module _ (s : List ℕ) (long : length s ≡ stateSize) (at number : ℕ) where
   there-long : length there ≡ stateSize
   there-long = simp length-set long
 
+  ordinal-kept : getD there payloadsSlot 0 ≡ seenOf s .tally .payloads
+  unfolding seenOf
+  ordinal-kept = getD-set-other s offsetSlot payloadsSlot at 0 (λ z. omega arith)
+
   critical-told : (payloadType : ℕ) → payloadType < 256 → number ≡ numberOf (faultNumber (Critical payloadType))
       → Ends number (set there criticalSlot payloadType) (stopped (Broken (Critical payloadType) at) (seenOf s))
   unfolding readingOf
@@ -46,6 +50,8 @@ module _ (s : List ℕ) (long : length s ≡ stateSize) (at number : ℕ) where
               getD-set-same there criticalSlot payloadType 0 (omega (arith, there-long)),
               getD-set-other there criticalSlot offsetSlot payloadType 0 (λ z. omega arith),
               getD-set-same s offsetSlot at 0 (omega arith),
+              getD-set-other there criticalSlot payloadsSlot payloadType 0 (λ z. omega arith),
+              ordinal-kept,
               mod-eq-of-lt small,
             );
       }
@@ -56,11 +62,11 @@ module _ (s : List ℕ) (long : length s ≡ stateSize) (at number : ℕ) where
   other-told : (f : Fault) → OneOf others (tagOf fault.the-type f) → number ≡ numberOf (faultNumber f)
       → Ends number there (stopped (Broken f at) (seenOf s))
   unfolding readingOf
-  other-told ChainLength h e = record { long = there-long; told = rw (e, offset-told) }
-  other-told NotifyShape h e = record { long = there-long; told = rw (e, offset-told) }
-  other-told DataSize h e = record { long = there-long; told = rw (e, offset-told) }
-  other-told Conflict h e = record { long = there-long; told = rw (e, offset-told) }
-  other-told Leftover h e = record { long = there-long; told = rw (e, offset-told) }
+  other-told ChainLength h e = record { long = there-long; told = rw (e, offset-told, ordinal-kept) }
+  other-told NotifyShape h e = record { long = there-long; told = rw (e, offset-told, ordinal-kept) }
+  other-told DataSize h e = record { long = there-long; told = rw (e, offset-told, ordinal-kept) }
+  other-told Conflict h e = record { long = there-long; told = rw (e, offset-told, ordinal-kept) }
+  other-told Leftover h e = record { long = there-long; told = rw (e, offset-told, ordinal-kept) }
   other-told (Critical payloadType) h e = absurd (miss others 5 tt h)
 
 pub stop-spec : {M : Type 1} → statement M

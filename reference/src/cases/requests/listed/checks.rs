@@ -46,7 +46,8 @@ fn choices() -> Vec<Vec<Choice>> {
         vec![
             on_request(|_| {}),
             on_request(|request| request.body = vec![0; MAX_BODY + 1]),
-            on_request(|request| request.body[3] = 7),
+            // The second payload is a Notify under 8 octets.
+            on_request(|request| request.body[11] = 7),
             on_request(|request| request.first = 200),
             on_request(|request| (request.first, request.body[1]) = (200, 0x80)),
         ],

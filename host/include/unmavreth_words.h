@@ -1,9 +1,12 @@
-// The library's numbers in words.
-#include "words.h"
+// The words for what Unmavreth gives back, and the names of payload and notify types, for C11 and C++11. A host that
+// tells a number to a person says what the program show_chain says: host/words/words.txt is the table of both.
+#ifndef UNMAVRETH_WORDS_H
+#define UNMAVRETH_WORDS_H
 
 #include "unmavreth.h"
 
-const char *number_words(uint8_t number)
+// A number that a call gives.
+static inline const char *unmavreth_number_words(uint8_t number)
 {
     switch (number) {
     case UNMAVRETH_DONE: return "done";
@@ -12,21 +15,26 @@ const char *number_words(uint8_t number)
     case UNMAVRETH_BODY_TOO_LONG: return "body too long";
     case UNMAVRETH_NO_SUCH_RECORD: return "no such record";
     case UNMAVRETH_MOBIKE_NOT_AGREED: return "MOBIKE not agreed";
-    case UNMAVRETH_MALFORMED: return "malformed";
     case UNMAVRETH_UNKNOWN_CRITICAL: return "unknown critical payload";
     case UNMAVRETH_ADDRESSES_ALTERED: return "addresses altered on the way";
     case UNMAVRETH_NOT_ACCEPTABLE: return "pair not acceptable";
     case UNMAVRETH_FULL: return "all places in use";
     case UNMAVRETH_SPI_IN_USE: return "SPI in use";
     case UNMAVRETH_BAD_POLICY: return "too many rules or a prefix too long";
-    case UNMAVRETH_CUT: return "cut within an entry";
+    case UNMAVRETH_CUT: return "a cut entry, or a number not shortest or past 64 bits";
     case UNMAVRETH_UNKNOWN_KIND: return "unknown kind of an entry";
     case UNMAVRETH_TOO_LARGE: return "too large for its field";
+    case UNMAVRETH_BAD_CHAIN_LENGTH: return "a payload cut short or of a length that cannot be";
+    case UNMAVRETH_BAD_NOTIFY: return "a Notify of a length or with an SPI that cannot be";
+    case UNMAVRETH_BAD_DATA_SIZE: return "notification data of a wrong size";
+    case UNMAVRETH_REPEATED: return "a repeated or contradictory notification";
+    case UNMAVRETH_OCTETS_AFTER_END: return "octets after the end";
     default: return "not a number of the library";
     }
 }
 
-const char *update_words(uint8_t update)
+// What became of an update.
+static inline const char *unmavreth_update_words(uint8_t update)
 {
     switch (update) {
     case UNMAVRETH_UPDATE_NONE: return "none";
@@ -36,7 +44,8 @@ const char *update_words(uint8_t update)
     }
 }
 
-const char *list_words(uint8_t list)
+// What became of a list of additional addresses.
+static inline const char *unmavreth_list_words(uint8_t list)
 {
     switch (list) {
     case UNMAVRETH_LIST_NONE: return "none";
@@ -46,7 +55,8 @@ const char *list_words(uint8_t list)
     }
 }
 
-const char *outcome_words(uint8_t outcome)
+// What a response comes to.
+static inline const char *unmavreth_outcome_words(uint8_t outcome)
 {
     switch (outcome) {
     case UNMAVRETH_OUTCOME_NONE: return "none";
@@ -59,7 +69,8 @@ const char *outcome_words(uint8_t outcome)
     }
 }
 
-const char *notify_name(uint16_t type)
+// The name of a notify type; NULL for one that has none here.
+static inline const char *unmavreth_notify_words(uint16_t type)
 {
     switch (type) {
     case UNMAVRETH_UNSUPPORTED_CRITICAL_PAYLOAD: return "UNSUPPORTED_CRITICAL_PAYLOAD";
@@ -75,6 +86,32 @@ const char *notify_name(uint16_t type)
     case UNMAVRETH_UPDATE_SA_ADDRESSES: return "UPDATE_SA_ADDRESSES";
     case UNMAVRETH_COOKIE2: return "COOKIE2";
     case UNMAVRETH_NO_NATS_ALLOWED: return "NO_NATS_ALLOWED";
-    default: return 0;
+    default: return NULL;
     }
 }
+
+// The name of a payload type, as RFC 7296 has it in 3.2; NULL for one that has none here.
+static inline const char *unmavreth_payload_words(uint8_t type)
+{
+    switch (type) {
+    case 33: return "Security Association";
+    case 34: return "Key Exchange";
+    case 35: return "Identification - Initiator";
+    case 36: return "Identification - Responder";
+    case 37: return "Certificate";
+    case 38: return "Certificate Request";
+    case 39: return "Authentication";
+    case 40: return "Nonce";
+    case UNMAVRETH_NOTIFY_PAYLOAD: return "Notify";
+    case 42: return "Delete";
+    case 43: return "Vendor ID";
+    case 44: return "Traffic Selector - Initiator";
+    case 45: return "Traffic Selector - Responder";
+    case 46: return "Encrypted and Authenticated";
+    case 47: return "Configuration";
+    case 48: return "Extensible Authentication";
+    default: return NULL;
+    }
+}
+
+#endif
