@@ -1,6 +1,6 @@
 // Counts the instructions of one row's call on one side, in a process of its own, and those of a whole program.
 use crate::counted::NAMES;
-use crate::rows::Side;
+use crate::side::Side;
 use std::fs::{self, File};
 use std::path::Path;
 use std::process::Command;

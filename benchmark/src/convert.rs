@@ -54,6 +54,10 @@ fn rule(of: &unmavreth::Rule) -> Rule {
     }
 }
 
+pub fn policy(of: &unmavreth::Policy) -> Policy {
+    Policy { count: of.count, rules: of.rules.each_ref().map(rule) }
+}
+
 /// Tables of their own: the second program copies those that it shares when it changes them.
 pub fn tables(
     records: &[unmavreth::IkeRecord; 32],
@@ -63,6 +67,6 @@ pub fn tables(
     let mut tables = Tables::empty();
     *tables.ike_mut() = records.each_ref().map(ike);
     tables.ipsec_mut().copy_from_slice(&list.each_ref().map(ipsec));
-    tables.policy = Policy { count: policy.count, rules: policy.rules.each_ref().map(rule) };
+    tables.policy = self::policy(policy);
     tables
 }

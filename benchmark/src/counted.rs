@@ -2,6 +2,8 @@
 //
 // What a call gives is shown to `black_box` before it is given back, so that the call isn't the last
 // thing that the function does: a jump into the library could not be told from leaving the function.
+use crate::{bit_by_bit, lean};
+use reference::address::AddressPair;
 use reference::asking::Arguments;
 use reference::assess::Assessed;
 use reference::calls::Call;
@@ -10,22 +12,31 @@ use reference::reply::Handled;
 use reference::tables::Tables;
 use std::hint::black_box;
 use unmavreth::{
-    Assessment, Draft, IkeRecord, IpsecRecord, Number, Opening, Policy, Reading, Reply, Request,
-    Written,
+    Assessment, Draft, IkeRecord, IpsecRecord, Number, Opening, Pair, Policy, Reading, Reply,
+    Request, Written,
 };
 
 /// The names that callgrind is told. With a wrong one nothing is counted, which is an error.
-pub const NAMES: [&str; 10] = [
+pub const NAMES: [&str; 19] = [
     "counted_ours_read",
     "counted_ours_handle",
     "counted_ours_open",
     "counted_ours_write",
     "counted_ours_assess",
+    "counted_ours_acceptable",
     "counted_second_read",
     "counted_second_handle",
     "counted_second_open",
     "counted_second_write",
     "counted_second_assess",
+    "counted_second_acceptable",
+    "counted_lean_read",
+    "counted_lean_handle",
+    "counted_lean_open",
+    "counted_lean_write",
+    "counted_lean_assess",
+    "counted_lean_acceptable",
+    "counted_bits_acceptable",
 ];
 
 #[inline(never)]
@@ -80,6 +91,14 @@ pub fn counted_ours_assess(sent: &[u8], first: u8, body: &[u8]) -> Assessment {
 
 #[inline(never)]
 #[no_mangle]
+pub fn counted_ours_acceptable(policy: &Policy, pair: &Pair) -> bool {
+    let accepted = unmavreth::acceptable(policy, pair);
+    black_box(&accepted);
+    accepted
+}
+
+#[inline(never)]
+#[no_mangle]
 pub fn counted_second_read(
     first: u8,
     body: &[u8],
@@ -129,4 +148,81 @@ pub fn counted_second_assess<'a>(
     let assessed = reference::assess::assess(sent, first, body, faults);
     black_box(&assessed);
     assessed
+}
+
+#[inline(never)]
+#[no_mangle]
+pub fn counted_second_acceptable(
+    policy: &reference::policy::Policy,
+    pair: &AddressPair,
+    faults: Faults,
+) -> bool {
+    let accepted = policy.accepts(pair, faults);
+    black_box(&accepted);
+    accepted
+}
+
+#[inline(never)]
+#[no_mangle]
+pub fn counted_lean_read(first: u8, body: &[u8], reading: &mut lean::Reading) {
+    lean::read(first, body, reading);
+    black_box(reading);
+}
+
+#[inline(never)]
+#[no_mangle]
+pub fn counted_lean_handle(
+    ike: &mut [IkeRecord; 32],
+    ipsec: &mut [IpsecRecord],
+    policy: &Policy,
+    request: &Request<'_>,
+    out: &mut [u8],
+) -> lean::Reply {
+    let reply = lean::handle(ike, ipsec, policy, request, out);
+    black_box(&reply);
+    reply
+}
+
+#[inline(never)]
+#[no_mangle]
+pub fn counted_lean_open(
+    ike: &mut [IkeRecord; 32],
+    ipsec: &mut [IpsecRecord],
+    opening: &Opening,
+) -> u8 {
+    let number = lean::open(ike, ipsec, opening);
+    black_box(&number);
+    number
+}
+
+#[inline(never)]
+#[no_mangle]
+pub fn counted_lean_write(draft: &Draft<'_>, out: &mut [u8]) -> lean::Written {
+    let written = lean::write(draft, out);
+    black_box(&written);
+    written
+}
+
+#[inline(never)]
+#[no_mangle]
+pub fn counted_lean_assess(sent: &[u8], first: u8, body: &[u8]) -> lean::Assessment {
+    let assessed = lean::assess(sent, first, body);
+    black_box(&assessed);
+    assessed
+}
+
+#[inline(never)]
+#[no_mangle]
+pub fn counted_lean_acceptable(policy: &Policy, pair: &Pair) -> bool {
+    let accepted = lean::acceptable(policy, pair);
+    black_box(&accepted);
+    accepted
+}
+
+#[inline(never)]
+#[no_mangle]
+pub fn counted_bits_acceptable(policy: &Policy, pair: &Pair) -> bool {
+    let accepted = bit_by_bit::acceptable(policy, pair);
+    black_box(&accepted);
+    accepted
 }

@@ -9,6 +9,13 @@ pub enum Job {
     Open(Box<OpeningBoth>),
     Write(Box<Draft<'static>>),
     Assess { first: u8, body: Vec<u8> },
+    Acceptable(Box<Asking>),
+}
+
+/// A policy, and the pair that it is asked about.
+pub struct Asking {
+    pub policy: Policy,
+    pub pair: Pair,
 }
 
 /// A request, with the tables and the output that are lent for it.
@@ -87,6 +94,22 @@ impl OpeningBoth {
     pub fn on_full() -> Self {
         OpeningBoth { gateway: full(128), opening: opening(OTHER, 81) }
     }
+}
+
+impl Asking {
+    /// Sixteen IPv6 rules with prefixes of 127 bits. The pair's source differs from theirs in these bits of
+    /// its last octet, its destination in those.
+    pub fn ipv6(source: u8, destination: u8) -> Self {
+        let [near, far] = [0x40, 0x80];
+        let rule = Rule::ipv6((ipv6(near), 127), (ipv6(far), 127));
+        let pair = Pair::ipv6((ipv6(near ^ source), 4500), (ipv6(far ^ destination), 4500));
+        Asking { policy: Policy { count: 16, rules: [rule; 16] }, pair }
+    }
+}
+
+/// An address of 2001:db8::/32 with this last octet, whose other octets differ from one another.
+fn ipv6(last: u8) -> [u8; 16] {
+    [0x20, 1, 0xd, 0xb8, 5, 6, 7, 8, 9, 10, 11, 12, 14, 15, 16, last]
 }
 
 fn opening(spi: u64, child: u32) -> Opening {

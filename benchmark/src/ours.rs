@@ -24,7 +24,8 @@ pub fn told(job: &Job) -> Told {
             let told = unmavreth::write(draft, &mut out);
             written(&told, out)
         }
-        Job::Assess { first, body } => assessed(&unmavreth::assess(&COOKIE, *first, body)),
+        Job::Assess { first, body } => assessed(body, &unmavreth::assess(&COOKIE, *first, body)),
+        Job::Acceptable(of) => Told::accepted(unmavreth::acceptable(&of.policy, &of.pair)),
     }
 }
 
@@ -38,10 +39,13 @@ pub fn counted(job: &Job) -> Told {
         Job::Handle(handling) => handled(handling, true),
         Job::Open(opening) => opened(opening, true),
         Job::Write(draft) => count_write(draft),
-        Job::Assess { first, body } => assessed(&black_box(counted_ours_assess(
-            black_box(&COOKIE),
-            black_box(*first),
-            black_box(body),
+        Job::Assess { first, body } => assessed(
+            body,
+            &black_box(counted_ours_assess(black_box(&COOKIE), black_box(*first), black_box(body))),
+        ),
+        Job::Acceptable(of) => Told::accepted(black_box(counted_ours_acceptable(
+            black_box(&of.policy),
+            black_box(&of.pair),
         ))),
     }
 }
@@ -55,20 +59,20 @@ fn count_write(draft: &Draft) -> Told {
 /// What is lent for a request or an opening. It begins where a cache line does, for how octets are
 /// copied depends on where they lie, and the heap would put it here or there.
 #[repr(align(64))]
-struct Lent {
-    ike: [IkeRecord; 32],
-    ipsec: [IpsecRecord; 128],
-    policy: Policy,
-    out: [u8; 128],
+pub struct Lent {
+    pub ike: [IkeRecord; 32],
+    pub ipsec: [IpsecRecord; 128],
+    pub policy: Policy,
+    pub out: [u8; 128],
 }
 
 impl Lent {
-    fn of(gateway: &Gateway) -> Box<Self> {
+    pub fn of(gateway: &Gateway) -> Box<Self> {
         let Gateway { ike, ipsec, policy } = gateway.clone();
         Box::new(Lent { ike: *ike, ipsec: *ipsec, policy, out: [BEFORE; 128] })
     }
 
-    fn tables(&self) -> Tables {
+    pub fn tables(&self) -> Tables {
         convert::tables(&self.ike, &self.ipsec, &self.policy)
     }
 }
@@ -156,7 +160,7 @@ fn written(written: &Written, out: Vec<u8>) -> Told {
     Told { fields, octets: vec![out], tables: None }
 }
 
-fn assessed(assessed: &Assessment) -> Told {
+fn assessed(body: &[u8], assessed: &Assessment) -> Told {
     let outcome = match assessed.outcome() {
         unmavreth::Outcome::None => 0,
         unmavreth::Outcome::Close => 1,
@@ -174,5 +178,5 @@ fn assessed(assessed: &Assessment) -> Told {
         ("ordinal", assessed.ordinal().into()),
         ("tally", assessed.tally().into()),
     ];
-    Told { fields, octets: vec![], tables: None }
+    Told { fields, octets: vec![assessed.cookie(body).to_vec()], tables: None }
 }

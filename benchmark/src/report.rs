@@ -1,10 +1,8 @@
 // The figures as markdown tables.
+use crate::figure::Figure;
 use crate::replayed::Replayed;
-use crate::rows::{Kind, Row, HANDLE_UPDATE, READ_UPDATE};
+use crate::rows::{Kind, HANDLE_UPDATE, READ_UPDATE};
 use std::fmt::Write;
-
-/// A row, with the instructions of both sides.
-type Figure = (Row, [u64; 2]);
 
 /// Instructions for reading the 112-octet chain: all, and with debug formatting stubbed.
 const PEERS: [(&str, [u64; 2]); 2] =
@@ -12,26 +10,51 @@ const PEERS: [(&str, [u64; 2]); 2] =
 
 const CAPTION: [&str; 2] = [
     "\
-Instructions of one call, counted by callgrind: of the library through its Rust interface (`host/rust`),
-with all that it calls; and of the second program (`reference/`), which is written to be plain, allocates,
-and asks at many steps whether one of its deliberate faults is on. Both on fresh tables, after one call on
-others; what a call is given is made outside of the count. All Rust is compiled by
+Instructions of one call, counted by callgrind: of the library through its Rust interface (`host/rust`), with
+all that it calls; of the lean baseline (`benchmark/src/lean`), the same calls in safe Rust without allocation,
+written for speed; and of the second program (`reference/`), which is written to be plain, allocates, and asks
+at many steps whether one of its deliberate faults is on. All on fresh tables, after one call on others; what a
+call is given is made outside of the count. All Rust is compiled by
 ",
     " at opt-level 3 with overflow checks, the second program's own profile. In every row the
-answers, the outputs and the tables of both were the same. A count is the same in every run; another
+answers, the outputs and the tables of all three were the same. A count is the same in every run; another
 processor or C library may copy octets in other steps.
 ",
 ];
 
 pub fn tables(figures: &[Figure]) -> String {
-    [calls(figures), peers(figures), by_octets(figures), by_records(figures)].join("\n")
+    let growth = [by_octets(figures), by_records(figures)];
+    [calls(figures), policy(figures), peers(figures), growth.join("\n")].join("\n")
 }
 
 fn calls(figures: &[Figure]) -> String {
     let mut text = CAPTION.join(env!("COMPILER"));
-    text += "\n| Call | Ours | Second program | Ours / second |\n|---|---:|---:|---:|\n";
-    for (row, [ours, second]) in figures.iter().filter(|(row, _)| row.kind == Kind::Call) {
-        line(&mut text, &[row.title, &grouped(*ours), &grouped(*second), &ratio(*ours, *second)]);
+    text += "\n| Call | Ours | Lean | Ours / lean | Second program |\n|---|---:|---:|---:|---:|\n";
+    for of in figures.iter().filter(|of| of.row.kind == Kind::Call) {
+        let [ours, lean, second] = [of.ours, of.lean, of.second].map(grouped);
+        line(&mut text, &[of.row.title, &ours, &lean, &ratio(of.ours, of.lean), &second]);
+    }
+    text
+}
+
+/// A ratio of wall times is that of the shortest rounds of one run, so it differs a little from run to run.
+fn policy(figures: &[Figure]) -> String {
+    let mut text = "\
+One check of the policy that accepts nothing, beside the same check bit by bit (`benchmark/src/bit_by_bit.rs`): the
+instructions, and the ratios of them and of the wall time, measured in one run by turns and not quite the same in each:
+
+| Policy | Ours | Bit by bit | Lean | Second program | Ours / bit by bit | the time | Ours / lean | the time |
+|---|---:|---:|---:|---:|---:|---:|---:|---:|
+"
+    .to_string();
+    for of in figures {
+        let Some(times) = of.times else { continue };
+        let [ours_time, bits_time, lean_time] = times.map(|time| time.as_nanos() as u64);
+        let [ours, bits, lean, second] = [of.ours, of.bits, of.lean, of.second].map(grouped);
+        let [by_bits, by_lean] = [of.bits, of.lean].map(|other| ratio(of.ours, other));
+        let [bits_time, lean_time] = [bits_time, lean_time].map(|other| ratio(ours_time, other));
+        let counts = [of.row.title, &ours, &bits, &lean, &second];
+        line(&mut text, &[&counts[..], &[&by_bits, &bits_time, &by_lean, &lean_time]].concat());
     }
     text
 }
@@ -51,7 +74,7 @@ fn peers(figures: &[Figure]) -> String {
 }
 
 fn ours_of(figures: &[Figure], key: &str) -> u64 {
-    figures.iter().find(|(row, _)| row.key == key).map_or(0, |(_, [ours, _])| *ours)
+    figures.iter().find(|of| of.row.key == key).map_or(0, |of| of.ours)
 }
 
 /// An entry's share is told by the difference of two traces, so that what a run takes once isn't in it.
@@ -77,15 +100,14 @@ difference to the trace above it for each entry that it has more, beside those o
 
 fn by_octets(figures: &[Figure]) -> String {
     let mut text = "Growth of the reader, on 4-octet payloads:\n\n".to_string();
-    text +=
-        "| Octets | Ours | an octet | Second program | an octet |\n|---:|---:|---:|---:|---:|\n";
-    for (row, [ours, second]) in figures {
-        if let Kind::ByOctets(octets) = row.kind {
-            let each = [*ours, *second].map(|count| ratio(count, octets));
-            line(
-                &mut text,
-                &[&grouped(octets), &grouped(*ours), &each[0], &grouped(*second), &each[1]],
-            );
+    text += "| Octets | Ours | an octet | Lean | an octet | Second program | an octet |\n";
+    text += "|---:|---:|---:|---:|---:|---:|---:|\n";
+    for of in figures {
+        if let Kind::ByOctets(octets) = of.row.kind {
+            let counts = [of.ours, of.lean, of.second];
+            let [ours, lean, second] = counts.map(|count| [grouped(count), ratio(count, octets)]);
+            let cells = [[grouped(octets)].to_vec(), [ours, lean, second].concat()].concat();
+            line(&mut text, &cells.iter().map(String::as_str).collect::<Vec<_>>());
         }
     }
     text
@@ -93,12 +115,12 @@ fn by_octets(figures: &[Figure]) -> String {
 
 fn by_records(figures: &[Figure]) -> String {
     let mut text = "Growth of a request (the 112-octet chain, the last of 32 IKE records, 128 IPsec records in use) with those that it moves:\n\n".to_string();
-    text +=
-        "| IPsec records moved | Ours | Second program | Ours / second |\n|---:|---:|---:|---:|\n";
-    for (row, [ours, second]) in figures {
-        if let Kind::ByRecords(records) = row.kind {
-            let ratio = ratio(*ours, *second);
-            line(&mut text, &[&grouped(records), &grouped(*ours), &grouped(*second), &ratio]);
+    text += "| IPsec records moved | Ours | Lean | Ours / lean | Second program |\n";
+    text += "|---:|---:|---:|---:|---:|\n";
+    for of in figures {
+        if let Kind::ByRecords(records) = of.row.kind {
+            let [records, ours, lean, second] = [records, of.ours, of.lean, of.second].map(grouped);
+            line(&mut text, &[&records, &ours, &lean, &ratio(of.ours, of.lean), &second]);
         }
     }
     text

@@ -1,26 +1,7 @@
 // The rows: which call each counts, on what, and what it must tell.
 use crate::chains::{self, NOTIFY, SKIPPED};
-use crate::job::{draft, Handling, Job, OpeningBoth, ELSEWHERE};
+use crate::job::{draft, Asking, Handling, Job, OpeningBoth, ELSEWHERE};
 use unmavreth::Flag;
-
-#[derive(Clone, Copy)]
-pub enum Side {
-    Ours,
-    Second,
-}
-
-impl Side {
-    pub fn name(self) -> &'static str {
-        match self {
-            Side::Ours => "ours",
-            Side::Second => "second",
-        }
-    }
-
-    pub fn named(name: &str) -> Option<Side> {
-        [Side::Ours, Side::Second].into_iter().find(|side| side.name() == name)
-    }
-}
 
 /// In which table a row stands.
 #[derive(Clone, Copy, PartialEq, Eq)]
@@ -30,6 +11,8 @@ pub enum Kind {
     ByOctets(u64),
     /// A request that moves so many IPsec records.
     ByRecords(u64),
+    /// A check of the policy, beside one bit by bit.
+    Policy,
 }
 
 /// Fields by name, with the values that they must have.
@@ -57,6 +40,7 @@ pub fn all() -> Vec<Row> {
     rows.extend(initiator());
     rows.extend([256, 512, 1024, 2048, 4096].map(by_octets));
     rows.extend([0, 32, 64, 128].map(by_records));
+    rows.extend(policy());
     rows
 }
 
@@ -193,17 +177,36 @@ fn by_records(records: u64) -> Row {
     Row { kind: Kind::ByRecords(records), ..row }
 }
 
+/// Bit 126 of an address, in its last octet.
+const BIT_126: u8 = 2;
+
+fn policy() -> [Row; 2] {
+    let asking =
+        |source, destination| move || Job::Acceptable(Box::new(Asking::ipv6(source, destination)));
+    let refused = [("acceptable", 0)];
+    let source = "16 rules of /127, IPv6: each source misses by bit 126";
+    let destination = "the same: each source matches, each destination misses by bit 126";
+    [
+        row("policy-source", source, asking(BIT_126, 0), &refused),
+        row("policy-destination", destination, asking(0, BIT_126), &refused),
+    ]
+    .map(|row| Row { kind: Kind::Policy, ..row })
+}
+
 #[cfg(test)]
 mod tests {
     use super::*;
-    use crate::{ours, second, told};
+    use crate::side::Side;
+    use crate::{ours, told};
 
     #[test]
-    fn both_sides_tell_what_is_expected() {
+    fn every_side_tells_what_is_expected() {
         for row in all() {
             let job = (row.job)();
-            let checked = told::check(&ours::told(&job), &second::told(&job), &row.expected);
-            assert_eq!(checked, Ok(()), "{}", row.key);
+            for told in Side::ALL.into_iter().filter_map(|side| side.told(&job)) {
+                let checked = told::check(&ours::told(&job), &told, &row.expected);
+                assert_eq!(checked, Ok(()), "{}", row.key);
+            }
         }
     }
 

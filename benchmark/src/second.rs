@@ -27,6 +27,10 @@ pub fn told(job: &Job) -> Told {
         Job::Assess { first, body } => {
             assessed(reference::assess::assess(&COOKIE, *first, body, NONE))
         }
+        Job::Acceptable(of) => {
+            let (policy, pair) = (convert::policy(&of.policy), convert::pair(&of.pair));
+            Told::accepted(policy.accepts(&pair, NONE))
+        }
     }
 }
 
@@ -50,6 +54,14 @@ pub fn counted(job: &Job) -> Told {
             black_box(body),
             black_box(NONE),
         ))),
+        Job::Acceptable(of) => {
+            let (policy, pair) = (convert::policy(&of.policy), convert::pair(&of.pair));
+            Told::accepted(black_box(counted_second_acceptable(
+                black_box(&policy),
+                black_box(&pair),
+                black_box(NONE),
+            )))
+        }
     }
 }
 
@@ -160,5 +172,5 @@ fn assessed(assessed: Assessed) -> Told {
         ("ordinal", assessed.ordinal.into()),
         ("tally", assessed.tally.into()),
     ];
-    Told { fields, octets: vec![], tables: None }
+    Told { fields, octets: vec![assessed.handed_out.octets.to_vec()], tables: None }
 }

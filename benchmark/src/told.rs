@@ -1,4 +1,4 @@
-// What a call told, in one form for both sides.
+// What a call told, in one form for every side.
 use crate::rows::Expected;
 use reference::tables::Tables;
 
@@ -12,19 +12,26 @@ pub struct Told {
     pub tables: Option<Tables>,
 }
 
-/// Both sides must have told the same, and what is expected.
-pub fn check(ours: &Told, second: &Told, expected: &Expected) -> Result<(), String> {
-    if ours.fields != second.fields {
-        return Err(format!("ours told {:?}, the second program {:?}", ours.fields, second.fields));
+impl Told {
+    /// Whether a pair was acceptable.
+    pub fn accepted(accepted: bool) -> Self {
+        Told { fields: vec![("acceptable", accepted.into())], octets: vec![], tables: None }
     }
-    if ours.octets != second.octets {
+}
+
+/// Both sides must have told the same, and what is expected.
+pub fn check(one: &Told, other: &Told, expected: &Expected) -> Result<(), String> {
+    if one.fields != other.fields {
+        return Err(format!("one side told {:?}, another {:?}", one.fields, other.fields));
+    }
+    if one.octets != other.octets {
         return Err("the octets differ".to_string());
     }
-    if ours.tables != second.tables {
+    if one.tables != other.tables {
         return Err("the tables differ".to_string());
     }
-    match expected.iter().find(|field| !ours.fields.contains(field)) {
-        Some((name, value)) => Err(format!("not {name} {value}, but {:?}", ours.fields)),
+    match expected.iter().find(|field| !one.fields.contains(field)) {
+        Some((name, value)) => Err(format!("not {name} {value}, but {:?}", one.fields)),
         None => Ok(()),
     }
 }

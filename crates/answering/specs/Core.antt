@@ -20,7 +20,6 @@ use Rattle.writing.specs.Notify.{Notification, chained}
 use Rattle.address.specs.declared.pair.Pair.{Pair}
 use Rattle.values.specs.Values.{partOf, noNatsSeen}
 use Rattle.findings.specs.declared.seen.Seen.{Seen}
-use Rattle.policy.specs.declared.rules.Policy.{Policy}
 use Rattle.reader.specs.Chain.{reading}
 use Rattle.reader.specs.declared.read.Reading.{Reading}
 use Rattle.records.specs.Records.{marksIn}
@@ -70,28 +69,28 @@ cookieIn body s = partOf body (s .cookie) (s .«cookie_len»)
 abbrev pub decidedResponse : Verdict → Asked → Seen → List Notification
 decidedResponse v q s = responseTo v (wantsNats s) (q .nat-source) (q .nat-destination) (cookieIn (q .body) s)
 
--- steps 1 to 3 on what was read
-abbrev pub decisionOn : Policy → Asked → Marks → Decision
-decisionOn policy q m =
+-- Steps 1 to 3 on what was read; here and below `accepted` says whether the policy accepts the request's pair.
+abbrev pub decisionOn : Bool → Asked → Marks → Decision
+decisionOn accepted q m =
     let s = reading (q .first) (q .body) .seen in
-    decided policy (noNatsSeen (q .body) s) s (q .pair) (q .id) m
+    decided accepted (noNatsSeen (q .body) s) s (q .pair) (q .id) m
 
 -- The response to a request that passed checks 1 to 5, by its reading; and its octets.
-abbrev pub coreNotifies : Policy → Asked → Marks → List Notification
-coreNotifies policy q m =
+abbrev pub coreNotifies : Bool → Asked → Marks → List Notification
+coreNotifies accepted q m =
     let r = reading (q .first) (q .body) in
     cond (eqb (r .number) (numberOf Done))
-    (decidedResponse (decisionOn policy q m .verdict) q (r .seen))
+    (decidedResponse (decisionOn accepted q m .verdict) q (r .seen))
     (chainError r)
 
-unfoldable pub coreResponse : Policy → Asked → Marks → List ℕ
-coreResponse policy q m = chained (coreNotifies policy q m) 0
+unfoldable pub coreResponse : Bool → Asked → Marks → List ℕ
+coreResponse accepted q m = chained (coreNotifies accepted q m) 0
 
 -- a chain that was read whole
-abbrev pub wholeAnswer : Policy → Asked → Marks → CoreAnswer
-wholeAnswer policy q m =
+abbrev pub wholeAnswer : Bool → Asked → Marks → CoreAnswer
+wholeAnswer accepted q m =
     let s = reading (q .first) (q .body) .seen in
-    let d = decisionOn policy q m in
+    let d = decisionOn accepted q m in
     decidedAnswer d s (toldOf (decidedResponse (d .verdict) q s))
 
 -- a chain that was not: the record stays as it is
@@ -101,9 +100,9 @@ brokenAnswer q m =
     unchangedAnswer (errorReply (r .number) (r .offset) (r .ordinal) (toldOf (chainError r))) m
 
 -- The reply, and what changes in the record.
-unfoldable pub coreAnswer : Policy → Asked → Marks → CoreAnswer
-coreAnswer policy q m =
-    cond (eqb (reading (q .first) (q .body) .number) (numberOf Done)) (wholeAnswer policy q m) (brokenAnswer q m)
+unfoldable pub coreAnswer : Bool → Asked → Marks → CoreAnswer
+coreAnswer accepted q m =
+    cond (eqb (reading (q .first) (q .body) .number) (numberOf Done)) (wholeAnswer accepted q m) (brokenAnswer q m)
 
 -- What a request comes to on its record: the reply, the record after it, and whether its IPsec records follow.
 pub record CoreResult : Type 0 where
@@ -111,7 +110,7 @@ pub record CoreResult : Type 0 where
   pub entry : IkeRecord
   pub moves : Bool
 
-abbrev pub coreResult : Policy → Asked → IkeRecord → CoreResult
-coreResult policy q r =
-    let a = coreAnswer policy q (marksIn r) in
+abbrev pub coreResult : Bool → Asked → IkeRecord → CoreResult
+coreResult accepted q r =
+    let a = coreAnswer accepted q (marksIn r) in
     record { reply = a .reply; entry = changedBy a (q .pair) (q .body) r; moves = moved a }

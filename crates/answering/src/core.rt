@@ -1,12 +1,10 @@
-// One request by the marks of the record that it means: read, decide, respond.
+// One request by the marks of the record that it means and by what was read in it: decide, respond.
 use crate::packet::Packet;
 use deciding::decide::decide;
 use notify::notify::NotifyType;
 use octets::number::Number;
 use octets::number::number_of;
-use policy::rules::Policy;
 use reader::read::Reading;
-use reader::read::read_short;
 use records::ike::Marks;
 use replying::reply::CoreAnswer;
 use replying::reply::Reply;
@@ -22,6 +20,7 @@ ghost use Prim.Native.Nat.{_≤_};
 ghost use lib.ListN.{length};
 ghost use Rattle.octets.specs.Limits.{bodyMost, natOctets, responseRoom};
 ghost use Rattle.writing.specs.Notify.{placed, chained};
+ghost use Rattle.reader.specs.Chain.{reading};
 ghost use Rattle.responding.specs.Respond.{toldOf};
 ghost use Rattle.replying.specs.Reply.{errorReply};
 ghost use Rattle.answering.specs.Core.{chainError, coreAnswer, coreResponse};
@@ -48,11 +47,13 @@ pub fn refuse_chain(r: Reading, out: &mut [u8]) -> Reply
     error_reply(r.number, r.offset, r.ordinal, response)
 }
 
-// One request that passed checks 1 to 5, by the marks of the record that it means.
+// One request that passed checks 1 to 5, by the marks of the record that it means; `accepted` says whether the policy
+// accepts its pair.
 pub fn respond_to(
-    policy: Policy,
+    accepted: bool,
     marks: Marks,
     packet: Packet,
+    read: Reading,
     nat_source: &[u8],
     nat_destination: &[u8],
     body: &[u8],
@@ -60,24 +61,23 @@ pub fn respond_to(
 ) -> CoreAnswer
     requires { ⌜ responseRoom ≤ length (now out) ⌝ }
     requires { ⌜ (length (now «nat_source») ≡ natOctets) × (length (now «nat_destination») ≡ natOctets) ⌝ }
-    requires { ⌜ length (now body) ≤ bodyMost ⌝ }
+    requires { ⌜ (length (now body) ≤ bodyMost) × (read ≡ reading (packet .first) (now body)) ⌝ }
     ensures { λ r. ⌜ (
         let asks = askedBy packet (now («nat_source» .entry)) (now («nat_destination» .entry)) (now (body .entry)) in
-        (r ≡ coreAnswer policy asks marks)
-        × (now (out .exit) ≡ placed (now (out .entry)) 0 (coreResponse policy asks marks))
+        (r ≡ coreAnswer accepted asks marks)
+        × (now (out .exit) ≡ placed (now (out .entry)) 0 (coreResponse accepted asks marks))
         ) ⌝ }
 {
-    let r = read_short(packet.first, body);
-    let seen = r.seen;
-    if r.number == number_of(Number::Done) {
+    let seen = read.seen;
+    if read.number == number_of(Number::Done) {
         let pair = packet.pair;
-        let d = decide(policy, body, seen, pair, packet.id, marks);
+        let d = decide(accepted, body, seen, pair, packet.id, marks);
         let wanted = wants_nats(seen);
         let k = cookie(body, seen);
         let verdict = d.verdict;
         let response = respond_decided(verdict, wanted, nat_source, nat_destination, k, out);
         return answer_to(d, seen, response);
     }
-    let reply = refuse_chain(r, out);
+    let reply = refuse_chain(read, out);
     unchanged(reply, marks)
 }

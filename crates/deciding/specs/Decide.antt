@@ -18,7 +18,6 @@ use Rattle.octets.specs.Limits.{addressesMost, tallyMost}
 use Rattle.address.specs.declared.pair.Pair.{Pair}
 use Rattle.findings.specs.declared.seen.Seen.{Seen}
 use Rattle.values.specs.declared.NoNats.{NoNats}
-use Rattle.policy.specs.declared.rules.Policy.{Policy}
 use Rattle.records.specs.declared.ike.Marks.{Marks}
 use Rattle.verdict.specs.Verdict.{isAccepted, verdict}
 use Rattle.verdict.specs.declared.update.Verdict.{Verdict}
@@ -89,8 +88,8 @@ updateDecided v s id m =
     (cond (not (isAccepted v)) (decision v None None 0 (marked id m))
     (listDecided s id Done (marked id m))))
 
--- Steps 1 to 3.
-unfoldable pub decided : Policy → NoNats → Seen → Pair → ℕ → Marks → Decision
-decided policy n s p id m =
+-- Steps 1 to 3; `accepted` says whether the policy accepts the pair.
+unfoldable pub decided : Bool → NoNats → Seen → Pair → ℕ → Marks → Decision
+decided accepted n s p id m =
     let unknown = s .tally .«unknown_payloads» + s .tally .«unknown_notifies» in
-    updateDecided (verdict policy n p) s id (counted unknown m)
+    updateDecided (verdict accepted n p) s id (counted unknown m)

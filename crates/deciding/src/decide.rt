@@ -3,7 +3,6 @@ use address::pair::Pair;
 use findings::seen::Seen;
 use octets::limits::ADDRESSES_MOST;
 use octets::limits::TALLY_MOST;
-use policy::rules::Policy;
 use records::ike::Marks;
 use verdict::update::Verdict;
 use verdict::update::is_accepted;
@@ -116,7 +115,7 @@ pub fn decide_list(seen: Seen, id: u32, update: Effect, marks: Marks) -> Decisio
 
 // Step 2, then step 3 unless the update was refused. The verdict is asked for only where the update is not stale.
 pub fn decide_update(
-    policy: Policy,
+    accepted: bool,
     body: &[u8],
     seen: Seen,
     pair: Pair,
@@ -124,7 +123,7 @@ pub fn decide_update(
     marks: Marks,
 ) -> Decision
     ensures { λ r. ⌜ (
-        let v = verdict policy (noNatsSeen (now (body .entry)) seen) pair in
+        let v = verdict accepted (noNatsSeen (now (body .entry)) seen) pair in
         r ≡ updateDecided v seen id marks
         ) ⌝ }
 {
@@ -132,7 +131,7 @@ pub fn decide_update(
         if marks.update_mark <= id as u64 {
             let mut received = marks;
             received.update_mark = id as u64 + 1;
-            let verdict = verdict_seen(policy, body, seen, pair);
+            let verdict = verdict_seen(accepted, body, seen, pair);
             if is_accepted(verdict) {
                 return decide_list(seen, id, Effect::Done, received);
             }
@@ -151,18 +150,18 @@ pub fn decide_update(
 
 // Steps 1 to 3 on what was seen in a body, by the marks of the record that the request means.
 pub fn decide(
-    policy: Policy,
+    accepted: bool,
     body: &[u8],
     seen: Seen,
     pair: Pair,
     id: u32,
     marks: Marks,
 ) -> Decision
-    ensures { λ r. ⌜ r ≡ decided policy (noNatsSeen (now (body .entry)) seen) seen pair id marks ⌝ }
+    ensures { λ r. ⌜ r ≡ decided accepted (noNatsSeen (now (body .entry)) seen) seen pair id marks ⌝ }
 {
     let t = seen.tally;
     let unknown = t.unknown_payloads as u32 + t.unknown_notifies as u32;
     let mut new = marks;
     new.unknown = add_tally(marks.unknown, unknown);
-    decide_update(policy, body, seen, pair, id, new)
+    decide_update(accepted, body, seen, pair, id, new)
 }

@@ -28,7 +28,7 @@ use Rattle.answering.specs.Core.{cookieIn, decisionOn, coreAnswer, coreResponse
 use Rattle.responding.specs.Respond.{wantsNats, responseTo}
 use Rattle.verdict.specs.declared.update.Verdict.the-variants as verdict
 use Rattle.checking.specs.Checks.{Request as Received}
-use Rattle.responder.specs.Handle.{meant, earlyNumber, handled, handledResponse}
+use Rattle.responder.specs.Handle.{meant, accepts, earlyNumber, handled, handledResponse}
 use Rattle.verdict.proofs.Numbers.{verdict-of, number-accepted}
 use Rattle.checking.proofs.Checks.{passed, early-passes}
 use Rattle.asking.specs.Draft.{Draft, draft, requested, requestOctets}
@@ -141,22 +141,22 @@ module _ (k : List ℕ) where
       (record { number = refl; outcome = rw (t, c, kept-open); tally = rw (t, c) (not-tallied n); cookie = c })
 
 -- What the responder makes of a written request.
-module _ (q : Draft) (z : Sized q) (fits : requestFits q ≡ true) (policy : Policy) (r : Received)
+module _ (q : Draft) (z : Sized q) (fits : requestFits q ≡ true) (r : Received)
     (first : r .asks .first ≡ firstType (requested q) 0) (body : r .asks .body ≡ requestOctets q) where
   back : GivenBack q (r .asks .first) (r .asks .body)
   back = rw (first, body) (given-back q z fits)
 
-  module _ (m : Marks) where
-    core-fine : Other (coreAnswer policy (r .asks) m .reply .number)
+  module _ (accepted : Bool) (m : Marks) where
+    core-fine : Other (coreAnswer accepted (r .asks) m .reply .number)
     unfolding coreAnswer
     core-fine =
         rw (eq-eqb (reading (r .asks .first) (r .asks .body) .number) 0 (back .number))
-        (verdict-of Other (others 0 refl) (others 8 refl) (others 9 refl) (decisionOn policy (r .asks) m .verdict))
+        (verdict-of Other (others 0 refl) (others 8 refl) (others 9 refl) (decisionOn accepted (r .asks) m .verdict))
 
     module _ (s : length (r .asks .nat-source) ≡ natOctets) (d : length (r .asks .nat-destination) ≡ natOctets) where
-      core-accepted : coreAnswer policy (r .asks) m .reply .number ≡ 0
-          → Accepted (q .cookie) (coreResponse policy (r .asks) m)
-          (assessment (q .cookie) (coreAnswer policy (r .asks) m .reply .first) (coreResponse policy (r .asks) m))
+      core-accepted : coreAnswer accepted (r .asks) m .reply .number ≡ 0
+          → Accepted (q .cookie) (coreResponse accepted (r .asks) m)
+          (assessment (q .cookie) (coreAnswer accepted (r .asks) m .reply .first) (coreResponse accepted (r .asks) m))
       unfolding coreAnswer coreResponse
       core-accepted e =
           let read = eq-eqb (reading (r .asks .first) (r .asks .body) .number) 0 (back .number) in
@@ -166,12 +166,12 @@ module _ (q : Draft) (z : Sized q) (fits : requestFits q ≡ true) (policy : Pol
           let k : cookieIn (r .asks .body) seen ≡ q .cookie = ap (λ (x : Draft). x .cookie) (back .values) in
           let cf = fitting q fits .cookie in
           let g = given-back p (reply-sized w _ _ _) (reply-fits w _ _ _ (λ e. (s, d)) cf) in
-          let done = number-accepted (decisionOn policy (r .asks) m .verdict) (rw read at e) in
+          let done = number-accepted (decisionOn accepted (r .asks) m .verdict) (rw read at e) in
           rw (read, done, k, reply-notifies w (r .asks .nat-source) (r .asks .nat-destination) (q .cookie))
           (taken (q .cookie) (firstType (requested p) 0) (length (requested p)) (requestOctets p) cf (g .number)
           (g .tally) (ap (λ (x : Draft). x .cookie) (g .values)))
 
-  module _ (ike : List IkeRecord) (ipsec : List IpsecRecord) where
+  module _ (policy : Policy) (ike : List IkeRecord) (ipsec : List IpsecRecord) where
     abbrev early : ℕ
     early = earlyNumber ike ipsec r
 
@@ -181,13 +181,13 @@ module _ (q : Draft) (z : Sized q) (fits : requestFits q ≡ true) (policy : Pol
       where
         go : Dec (early ≡ 0) → Understood q (handled policy ike ipsec r .reply) (handledResponse policy ike ipsec r)
         go (yes e) =
-            let o = core-fine (marksIn (meant ike (r .spi))) in
+            let o = core-fine (accepts policy r) (marksIn (meant ike (r .spi))) in
             let p = passed _ _ _ r e in
             rw (eq-eqb early 0 e)
             (record {
               no-fault = o;
               accepted =
-                  core-accepted (marksIn (meant ike (r .spi))) (p .nat-source) (p .nat-destination);
+                  core-accepted (accepts policy r) (marksIn (meant ike (r .spi))) (p .nat-source) (p .nat-destination);
             })
         go (no n) =
             let o = others early (early-passes _ _ _ r isOther refl refl) in
@@ -197,4 +197,4 @@ pub all-understood : AllUnderstood
 all-understood q room z e policy ike ipsec r c =
     let n = number-zero q room e in
     let w = fits-written q room (n .0) (n .1) in
-    understood q z (n .0) policy r (c .first ∙ ap (λ (x : Written). x .first) (w .0)) (c .body ∙ w .1) ike ipsec
+    understood q z (n .0) r (c .first ∙ ap (λ (x : Written). x .first) (w .0)) (c .body ∙ w .1) policy ike ipsec

@@ -8,6 +8,7 @@ use lent_ike::ike::ike_store;
 use lent_ipsec::places::ipsec_count;
 use lent_ipsec::places::ipsec_place;
 use lent_ipsec::places::ipsec_store;
+use lent_policy::rules::accepts_if;
 use lent_policy::rules::policy_of;
 use lent_policy::rules::policy_store;
 use lent_policy::rules::rules_of;
@@ -15,7 +16,6 @@ use octets::limits::IKE_PLACES;
 use octets::limits::RULES_MOST;
 use policy::rules::Policy;
 use policy::rules::Rule;
-use policy::rules::is_acceptable;
 use policy::rules::set_policy;
 use records::ike::IkeRecord;
 use records::ipsec::IpsecRecord;
@@ -133,6 +133,5 @@ pub extern "C" fn unmavreth_set_policy(
 pub extern "C" fn unmavreth_acceptable(policy: &Policy, pair: Pair) -> bool
     ensures { λ r. ⌜ r ≡ acceptable (now (policy .entry)) pair ⌝ }
 {
-    let p = policy_of(policy);
-    is_acceptable(p, pair)
+    accepts_if(policy, true, pair)
 }

@@ -1,5 +1,6 @@
-// The call that handles a request, on lent tables: what it goes by is looked up, the request handled by that, and what
-// changes in the record stored; what the record owns follows.
+// The call that handles a request, on lent tables: what it goes by is looked up, the request received by that, the lent
+// policy asked where its word counts, and the request handled; what changes in the record is stored, and what the record
+// owns follows.
 use address::pair::Pair;
 use answering::packet::packet_of;
 use checking::lookup::looked_up;
@@ -8,7 +9,7 @@ use lent_ike::ike::ike_change;
 use lent_ike::ike::ike_place;
 use lent_ipsec::places::ipsec_count;
 use lent_owned::owned::follow_if;
-use lent_policy::rules::policy_of;
+use lent_policy::rules::accepts_if;
 use octets::limits::IKE_PLACES;
 use policy::rules::Policy;
 use records::ike::IkeRecord;
@@ -16,6 +17,7 @@ use records::ipsec::IpsecRecord;
 use replying::reply::Reply;
 use replying::reply::moves;
 use responder::handle::handle_at;
+use responder::receive::received_at;
 ghost use lib.ListN.{length};
 ghost use Rattle.answering.specs.Core.{asked};
 ghost use Rattle.checking.specs.Checks.{requestOf};
@@ -50,12 +52,14 @@ pub extern "C" fn unmavreth_handle(
     let place = ike_place(ike, spi);
     let entry = ike_at(ike, place);
     let looked = looked_up(size, place, entry);
-    let rules = policy_of(policy);
     let packet = packet_of(spi, id, pair, first);
+    let received = received_at(looked, packet, nat_source, nat_destination, body, out);
+    let accepted = accepts_if(policy, received.asks, pair);
     let c = handle_at(
-        rules,
+        accepted,
         looked,
         packet,
+        received,
         nat_source,
         nat_destination,
         body,

@@ -3,10 +3,12 @@
 --                      `ipsec_at`, and for good to `ipsec_store`
 --     finds-ike, reads-ike, stores-ike       a `&mut [IkeRecord; IKE_PLACES]` to `ike_place`, to `ike_at`, and for good
 --                      to `ike_store`.        changes-ike      the same to `ike_change`, beside a `&[u8]`
---     reads-policy, reads-lent, stores-policy      a `&Policy` to `policy_of`, a `&mut Policy` to it, and for good to `policy_store`.        reads-rules      a `&[Rule; 16]` to `rules_of`
+--     reads-policy, reads-lent, stores-policy      a `&Policy` to `policy_of`, a `&mut Policy` to it, and for good to `policy_store`.        asks-policy      a `&Policy` to `accepts_if`.        reads-rules      a `&[Rule; 16]` to `rules_of`
 -- Assumes `Given`, and that the table of calls is monotone under a frame.
 use Rattle.walks.proofs.Kit.{_≡_, refl, ℕ, _<_, _^_, List, [], _∷_, length, getD, set, URA, fullShare, Place, Body, erased, w32, w64, seq, call, vunit, vint, vptr, SProp, id⊢, Lft, Share, flft, fres, Memory, Routine, Heap, Env, Calls, Loops, Atoms, Fun, Given, Item, ‵, Post, runs, lands, Seq}
 use Rattle.walks.proofs.Kit.{Step, step, _$_, move, drop, split, join, fsplit, fjoin, u8, ShrSlice, owned, nothing, Opds, FmC, Is, uint-makes, uint-vals, uint-tells, nothing-tells, u32, u64, usize, RefT, MutRef, ShrRef, ptr-vals, MutSlice, Room, slice-vals, finally, only, Triple}
+use Rattle.walks.proofs.Kit.{Bool, bool, bool-makes, bool-vals, bool-tells, vbool}
+use mathlib.Core.Bool.{_&&_}
 use mir.Syntax.{Opd as Operand}
 use denote.Struct.Laws as LL
 use Rattle.octets.specs.Limits.{ikePlaces}
@@ -14,6 +16,7 @@ use Rattle.octets.specs.Lists.{placeOf}
 use Rattle.address.specs.declared.pair.Pair.{Pair}
 use Rattle.address.proofs.pair.Pair as P
 use Rattle.address.proofs.pair.Pair.Laws as P′
+use Rattle.policy.specs.Policy.{acceptable}
 use Rattle.policy.specs.declared.rules.Policy.{Policy}
 use Rattle.policy.specs.declared.rules.Rule.{Rule}
 use Rattle.policy.proofs.rules.Policy as Y
@@ -50,6 +53,8 @@ use Rattle.lent_ipsec.proofs.places.ipsec_place as place
 use Rattle.lent_ipsec.proofs.places.ipsec_place.Symbol as place-def
 use Rattle.lent_ipsec.proofs.places.ipsec_store as store
 use Rattle.lent_ipsec.proofs.places.ipsec_store.Symbol as store-def
+use Rattle.lent_policy.proofs.rules.accepts_if as ask
+use Rattle.lent_policy.proofs.rules.accepts_if.Symbol as ask-def
 use Rattle.lent_policy.proofs.rules.policy_of as read
 use Rattle.lent_policy.proofs.rules.policy_of.Symbol as read-def
 use Rattle.lent_policy.proofs.rules.policy_store as keep
@@ -134,6 +139,31 @@ module _ {M : Type 1} {𝓤 : URA M} {H : Heap 𝓤} {A : Atoms 𝓤} {K : Type 
       pub reads-lent : (Is Kept.R (x .now) (Kept.policy-vals (x .now)) → Seq K W (‵ (MutRef erased κ Kept.R .own x (ptr-vals x)) ∷ ‵ (flft κ q) ∷ Γ) (lands C Λ E d (only (Kept.policy-vals (x .now))) rest p)) → Seq K W (‵ (MutRef erased κ Kept.R .own x (ptr-vals x)) ∷ ‵ (flft κ q) ∷ Γ) (runs C Λ E (seq (call read-def.name ops d) rest) p)
       reads-lent s = lent-ref t tt Kept.R x [] tt tt tt tt (λ ν δ. calls-for t fm read.ended (read.clauses 𝓤 H A at-mem run) known (((ν ∷ [], tt), (fullShare, tt), tt, (renamed δ x, tt), (ptr-vals x, tt)), tt) (id⊢ 𝓤 _) (os _ _)
           Kept.policy-vals (LL.tells Y.the-type Y′.the-laws) (x .now) (λ r ws. id⊢ 𝓤 _) (λ is. ref-over t tt Kept.R x $ s is))
+
+    pub asks-policy : Triple 𝓤 (C ask-def.name) (Told 𝓤 H A ask.ended (ask.clauses 𝓤 H A at-mem run)) → (z : Bool)
+        (pair : Pair) → Is P.the-row pair (LL.vals P.the-type P′.the-laws pair)
+        → ((i j : Item 𝓤) → Opds K W (i ∷ j ∷ Γ) E ops (vptr (x .ptr .0) (x .ptr .1) ∷ vbool z
+        ∷ only (LL.vals P.the-type P′.the-laws pair) ∷ []))
+        → Step K W (‵ (ShrRef erased κ Kept.R .own x (ptr-vals x)) ∷ ‵ (flft κ q) ∷ Γ)
+        (lands C Λ E d (vbool (z && acceptable (x .now) pair)) rest p)
+        (‵ (ShrRef erased κ Kept.R .own x (ptr-vals x)) ∷ ‵ (flft κ q) ∷ Γ)
+        (runs C Λ E (seq (call ask-def.name ops d) rest) p)
+    asks-policy known z pair pair-is os = step (λ s.
+        copies-ref t tt Kept.R x (bool ∷ P.the-row ∷ [])
+        (bool-makes 𝓤 H A W & LL.makes P.the-type P′.the-plain 𝓤 H A & tt) (z, (pair, tt))
+        (bool-vals z, (LL.vals P.the-type P′.the-laws pair, tt)) (refl, (pair-is, tt)) $
+        calls-for t fm ask.ended (ask.clauses 𝓤 H A at-mem run) known (
+          (
+            (κ, tt),
+            (q, tt),
+            tt,
+            (x, (z, (pair, tt))),
+            (ptr-vals x, (bool-vals z, (LL.vals P.the-type P′.the-laws pair, tt))),
+          ),
+          tt,
+        )
+        (id⊢ 𝓤 _) (os _ _) bool-vals bool-tells (z && acceptable (x .now) pair) (λ r ws. id⊢ 𝓤 _)
+        (λ _. no-token t $ move t (1 ∷ []) $ s))
 
     pub stores-policy : Triple 𝓤 (C keep-def.name) (Told 𝓤 H A keep.ended (keep.clauses 𝓤 H A at-mem run)) → (new : Policy) → Is Kept.R new (Kept.policy-vals new) → ((j : Item 𝓤) → Opds K W (j ∷ Γ) E ops (vptr (x .ptr .0) (x .ptr .1) ∷ only (Kept.policy-vals new) ∷ []))
         → ((z : Policy) → z ≡ new → Seq K W (‵ (fres (x .name) (Kept.R .coded .code z)) ∷ ‵ (flft κ q) ∷ Γ) (lands C Λ E d vunit rest p)) → Seq K W (‵ (MutRef erased κ Kept.R .own x (ptr-vals x)) ∷ ‵ (flft κ q) ∷ Γ) (runs C Λ E (seq (call keep-def.name ops d) rest) p)

@@ -8,7 +8,6 @@ use lib.ListN.{length}
 use Rattle.octets.specs.Limits.{addressesMost}
 use Rattle.writing.specs.Notify.{Notification, firstType, chained}
 use Rattle.values.specs.Values.{addressesIn}
-use Rattle.policy.specs.declared.rules.Policy.{Policy}
 use Rattle.reader.specs.Chain.{reading}
 use Rattle.records.specs.Records.{marksIn, rewritten, remarked, relisted}
 use Rattle.records.specs.declared.ike.IkeRecord.{IkeRecord}
@@ -34,25 +33,25 @@ entryBy q e u l m =
     (cond l (addressesIn (q .asks .body) list) (e .addresses)) (m .unknown) e
 
 -- number, response with what is told of it, the record after it, and whether what it owns follows
-pub record CoreComes (policy : Policy) (q : Request) (e : IkeRecord) (n : ℕ) (response : List Notification)
+pub record CoreComes (accepted : Bool) (q : Request) (e : IkeRecord) (n : ℕ) (response : List Notification)
     (after : IkeRecord) (u : Bool) : Type 0 where
-  pub number : coreResult policy (q .asks) e .reply .number ≡ n
-  pub octets : coreResponse policy (q .asks) (marksIn e) ≡ chained response 0
-  pub first : coreResult policy (q .asks) e .reply .first ≡ firstType response 0
-  pub long : coreResult policy (q .asks) e .reply .length ≡ length (chained response 0)
-  pub entry : coreResult policy (q .asks) e .entry ≡ after
-  pub moves : coreResult policy (q .asks) e .moves ≡ u
+  pub number : coreResult accepted (q .asks) e .reply .number ≡ n
+  pub octets : coreResponse accepted (q .asks) (marksIn e) ≡ chained response 0
+  pub first : coreResult accepted (q .asks) e .reply .first ≡ firstType response 0
+  pub long : coreResult accepted (q .asks) e .reply .length ≡ length (chained response 0)
+  pub entry : coreResult accepted (q .asks) e .entry ≡ after
+  pub moves : coreResult accepted (q .asks) e .moves ≡ u
 
-module _ (policy : Policy) (q : Request) (e : IkeRecord) where
+module _ (accepted : Bool) (q : Request) (e : IkeRecord) where
   pub core-refused : (chainNumber q ≡ 0 → ⊥)
-      → CoreComes policy q e (chainNumber q) (chainError (reading (q .asks .first) (q .asks .body))) e false
+      → CoreComes accepted q e (chainNumber q) (chainError (reading (q .asks .first) (q .asks .body))) e false
   unfolding coreAnswer coreResponse changedBy
   core-refused n = let g = ne-eqb (chainNumber q) 0 n in
       record { number = rw g; octets = rw g; first = rw g; long = rw g; entry = rw g; moves = rw g }
 
   pub core-decided : chainNumber q ≡ 0 → {v : Verdict} {u l : Bool} {m : Marks}
-      → Comes v u l m (decisionOn policy (q .asks) (marksIn e))
-      → CoreComes policy q e (verdictNumber v) (decidedResponse v (q .asks) (seenIn q)) (entryBy q e u l m) u
+      → Comes v u l m (decisionOn accepted (q .asks) (marksIn e))
+      → CoreComes accepted q e (verdictNumber v) (decidedResponse v (q .asks) (seenIn q)) (entryBy q e u l m) u
   unfolding coreAnswer coreResponse changedBy
   core-decided w {v} {u} {l} {m} c =
       let g = eq-eqb (chainNumber q) 0 w in

@@ -5,8 +5,6 @@ use mathlib.Core.Logic.{_⊎_, inl, inr}
 use mathlib.Core.Bool.{Bool, true, false, cond, _&&_, not}
 use lib.Dec.{leb}
 use Rattle.values.specs.Values.{noNatsSeen}
-use Rattle.policy.specs.Policy.{acceptable}
-use Rattle.policy.specs.declared.rules.Policy.{Policy}
 use Rattle.records.specs.declared.ike.Marks.{Marks}
 use Rattle.verdict.specs.Verdict.{unaltered, verdict}
 use Rattle.deciding.specs.Decide.{saysDone, effectNumber, tallied, listMarked, decision, leftOff, hasList, listDecided}
@@ -46,14 +44,14 @@ pub record Comes (v : Verdict) (u l : Bool) (m : Marks) (d : Decision) : Type 0 
   pub marks : d .marks ≡ m
 
 -- what 8 and 9 need: an update that counts, on which this is the verdict
-pub record Refuses (policy : Policy) (q : Request) (m : Marks) (v : Verdict) (d : Decision) : Type 0 where
+pub record Refuses (accepted : Bool) (q : Request) (m : Marks) (v : Verdict) (d : Decision) : Type 0 where
   pub counts : up q m ≡ true
-  pub verdict-is : verdict policy (noNatsSeen (q .asks .body) (seenIn q)) (q .asks .pair) ≡ v
+  pub verdict-is : verdict accepted (noNatsSeen (q .asks .body) (seenIn q)) (q .asks .pair) ≡ v
   pub comes : Comes v false false (marksBy q true false m) d
 
-pub data Decides (policy : Policy) (q : Request) (m : Marks) (d : Decision) : Type 0 where
-  done : Comes Accepted (up q m) (new q m) (marksBy q (up q m) (new q m) m) d → Decides policy q m d
-  refused : (v : Verdict) → (v ≡ Altered) ⊎ (v ≡ Unacceptable) → Refuses policy q m v d → Decides policy q m d
+pub data Decides (accepted : Bool) (q : Request) (m : Marks) (d : Decision) : Type 0 where
+  done : Comes Accepted (up q m) (new q m) (marksBy q (up q m) (new q m) m) d → Decides accepted q m d
+  refused : (v : Verdict) → (v ≡ Altered) ⊎ (v ≡ Unacceptable) → Refuses accepted q m v d → Decides accepted q m d
 
 -- step 3, after an update that came to `u`, which counts by `b`
 abbrev listed : Request → Bool → Bool → Effect → Marks → Decision
@@ -68,12 +66,11 @@ list-comes q true true u b m e = record { verdict-is = refl; moves = e; relists 
 list-comes q true false u b m e = record { verdict-is = refl; moves = e; relists = refl; marks = refl }
 list-comes q false y u b m e = record { verdict-is = refl; moves = e; relists = refl; marks = refl }
 
-pub decides : (policy : Policy) (q : Request) (m : Marks) → Decides policy q m (decisionOn policy (q .asks) m)
+pub decides : (accepted : Bool) (q : Request) (m : Marks) → Decides accepted q m (decisionOn accepted (q .asks) m)
 unfolding decided updateDecided listDecided verdict
-decides policy q m =
+decides accepted q m =
     go (seenIn q .update) refl (leb (m .«update_mark») (q .asks .id)) refl
-    (unaltered (noNatsSeen (q .asks .body) (seenIn q)) (q .asks .pair)) refl
-    (acceptable policy (q .asks .pair)) refl
+    (unaltered (noNatsSeen (q .asks .body) (seenIn q)) (q .asks .pair)) refl accepted
   where
     x : Bool
     x = hasList (seenIn q)
@@ -81,10 +78,10 @@ decides policy q m =
     y : Bool
     y = leb (m .«list_mark») (q .asks .id)
 
-    refuses : (v : Verdict) → seenIn q .update ≡ true → leb (m .«update_mark») (q .asks .id) ≡ true
-        → verdict policy (noNatsSeen (q .asks .body) (seenIn q)) (q .asks .pair) ≡ v
-        → Refuses policy q m v (decision v None None 0 (marksBy q true false m))
-    refuses v f g e =
+    refuses : (w : Bool) (v : Verdict) → seenIn q .update ≡ true → leb (m .«update_mark») (q .asks .id) ≡ true
+        → verdict w (noNatsSeen (q .asks .body) (seenIn q)) (q .asks .pair) ≡ v
+        → Refuses w q m v (decision v None None 0 (marksBy q true false m))
+    refuses w v f g e =
         record {
           counts = rw (f, g);
           verdict-is = e;
@@ -93,12 +90,11 @@ decides policy q m =
         }
 
     go : (a : Bool) → seenIn q .update ≡ a → (b : Bool) → leb (m .«update_mark») (q .asks .id) ≡ b
-        → (c : Bool) → unaltered (noNatsSeen (q .asks .body) (seenIn q)) (q .asks .pair) ≡ c → (e : Bool)
-        → acceptable policy (q .asks .pair) ≡ e
-        → Decides policy q m (decisionOn policy (q .asks) m)
-    go true f true g true h true k = rw (f, g, h, k) (done (rw (f, g) (list-comes q x y Done true m refl)))
-    go true f true g true h false k =
-        rw (f, g, h, k) (refused Unacceptable (inr refl) (refuses Unacceptable f g (rw (h, k))))
-    go true f true g false h e k = rw (f, g, h) (refused Altered (inl refl) (refuses Altered f g (rw h)))
-    go true f false g c h e k = rw (f, g) (done (rw (f, g) (list-comes q x y Stale false m refl)))
-    go false f b g c h e k = rw f (done (rw f (list-comes q x y None false m refl)))
+        → (c : Bool) → unaltered (noNatsSeen (q .asks .body) (seenIn q)) (q .asks .pair) ≡ c → (w : Bool)
+        → Decides w q m (decisionOn w (q .asks) m)
+    go true f true g true h true = rw (f, g, h) (done (rw (f, g) (list-comes q x y Done true m refl)))
+    go true f true g true h false =
+        rw (f, g, h) (refused Unacceptable (inr refl) (refuses false Unacceptable f g (rw h)))
+    go true f true g false h w = rw (f, g, h) (refused Altered (inl refl) (refuses w Altered f g (rw h)))
+    go true f false g c h w = rw (f, g) (done (rw (f, g) (list-comes q x y Stale false m refl)))
+    go false f b g c h w = rw f (done (rw f (list-comes q x y None false m refl)))

@@ -16,6 +16,7 @@ use Rattle.tables.specs.Tables.{Tables}
 use Rattle.writing.specs.Notify.{Notification, firstType, chained}
 use Rattle.answering.specs.Core.{chainError, decisionOn}
 use Rattle.checking.specs.Checks.{Request}
+use Rattle.responder.specs.Handle.{accepts}
 use Rattle.reader.specs.Chain.{reading}
 use Rattle.reader.proofs.Refused.{OfEach, broken-of}
 use Rattle.checking.proofs.Checks.{passed, early-of}
@@ -93,7 +94,7 @@ module _ (policy : Policy) (t : Tables) (q : Request) where
           at k l c f (rw seven o) s
 
   whole-row : early t q ≡ 0 → chainNumber q ≡ 0
-      → Decides policy q (marksIn (entry t q)) (decisionOn policy (q .asks) (marksIn (entry t q))) → Found
+      → Decides (accepts policy q) q (marksIn (entry t q)) (decisionOn (accepts policy q) (q .asks) (marksIn (entry t q))) → Found
   whole-row e w (done c) = at 0 (omega arith) (decided-here policy t q e w c) refl refl refl
   whole-row e w (refused v which r) =
       let c = decided-here policy t q e w (r .comes) in
@@ -105,7 +106,7 @@ module _ (policy : Policy) (t : Tables) (q : Request) where
       go : Dec (early t q ≡ 0) → Dec (chainNumber q ≡ 0) → Found
       go (no n) d = early-row n
       go (yes e) (no n) = chain-row e n
-      go (yes e) (yes w) = whole-row e w (decides policy q (marksIn (entry t q)))
+      go (yes e) (yes w) = whole-row e w (decides (accepts policy q) q (marksIn (entry t q)))
 
 pub as-the-table : AsTheTable
 as-the-table = found

@@ -21,7 +21,7 @@ use Rattle.records.specs.declared.ike.IkeRecord.{IkeRecord}
 use Rattle.records.specs.declared.ike.Marks.{Marks}
 use Rattle.answering.specs.Core.{decidedResponse, chainError, decisionOn}
 use Rattle.checking.specs.Checks.{Request}
-use Rattle.responder.specs.Handle.{meant, earlyNumber, handled, handledResponse, seenIn, afterRequest}
+use Rattle.responder.specs.Handle.{meant, accepts, earlyNumber, handled, handledResponse, seenIn, afterRequest}
 use Rattle.verdict.specs.Verdict.{verdictNumber}
 use Rattle.verdict.specs.declared.update.Verdict.{Verdict}
 use Rattle.numbers.specs.Numbers.{applies, replaces}
@@ -60,7 +60,7 @@ module _ (policy : Policy) (t : Tables) (q : Request) where
 
   module _ (passes : early t q ≡ 0) where
     by-core : {n : ℕ} {response : List Notification} {e : IkeRecord} {u : Bool}
-        → CoreComes policy q (entry t q) n response e u → ComesTo n response (changedTo t q e u)
+        → CoreComes (accepts policy q) q (entry t q) n response e u → ComesTo n response (changedTo t q e u)
     unfolding afterRequest handled handledResponse
     by-core c =
         let f = eq-eqb (early t q) 0 passes in
@@ -75,15 +75,15 @@ module _ (policy : Policy) (t : Tables) (q : Request) where
     pub refused-chain : (chainNumber q ≡ 0 → ⊥)
         → ComesTo (chainNumber q) (chainError (reading (q .asks .first) (q .asks .body))) t
     refused-chain n =
-        let c = by-core (core-refused policy q (entry t q) n) in
+        let c = by-core (core-refused (accepts policy q) q (entry t q) n) in
         let same = ap (λ (ike : List IkeRecord). tables ike (t .ipsec)) (set-getD (t .ike) (place t q) noIke) in
         record { number = c .number; octets = c .octets; first = c .first; long = c .long; after = c .after ∙ same }
 
     pub decided-here : chainNumber q ≡ 0 → {v : Verdict} {u l : Bool} {m : Marks}
-        → Comes v u l m (decisionOn policy (q .asks) (marksIn (entry t q)))
+        → Comes v u l m (decisionOn (accepts policy q) (q .asks) (marksIn (entry t q)))
         → ComesTo (verdictNumber v) (decidedResponse v (q .asks) (seenIn q))
         (changedTo t q (entryBy q (entry t q) u l m) u)
-    decided-here w c = by-core (core-decided policy q (entry t q) w c)
+    decided-here w c = by-core (core-decided (accepts policy q) q (entry t q) w c)
 
   -- A change of the record meant: it moves only with an update that counts, and its marks stay or become the ID.
   pub record Changes (u l : Bool) (m : Marks) : Type 0 where
@@ -103,7 +103,7 @@ module _ (policy : Policy) (t : Tables) (q : Request) where
   module _ (passes : early t q ≡ 0) (w : chainNumber q ≡ 0) where
     by-marks : {v : Verdict} {u l : Bool} (a b : Bool) → (u ≡ true → applies q (entry t q) ≡ true)
         → (a ≡ true → applies q (entry t q) ≡ true)
-        → Comes v u l (marksBy q a b (marksIn (entry t q))) (decisionOn policy (q .asks) (marksIn (entry t q))) → Way
+        → Comes v u l (marksBy q a b (marksIn (entry t q))) (decisionOn (accepts policy q) (q .asks) (marksIn (entry t q))) → Way
     by-marks {v} {u} {l} a b moves raises c =
         changes u l (marksBy q a b (marksIn (entry t q)))
         (record {
@@ -120,7 +120,7 @@ module _ (policy : Policy) (t : Tables) (q : Request) where
           tally = omega arith;
         })
 
-    whole-way : Decides policy q (marksIn (entry t q)) (decisionOn policy (q .asks) (marksIn (entry t q))) → Way
+    whole-way : Decides (accepts policy q) q (marksIn (entry t q)) (decisionOn (accepts policy q) (q .asks) (marksIn (entry t q))) → Way
     whole-way (done c) = by-marks (applies q (entry t q)) (replaces q (entry t q)) (λ f. f) (λ f. f) c
     whole-way (refused v which r) = by-marks true false (λ f. r .counts) (λ f. r .counts) (r .comes)
 
@@ -130,4 +130,4 @@ module _ (policy : Policy) (t : Tables) (q : Request) where
       go : Dec (early t q ≡ 0) → Dec (chainNumber q ≡ 0) → Way
       go (no n) d = stays (refused-early n .after)
       go (yes e) (no n) = stays (refused-chain e n .after)
-      go (yes e) (yes w) = whole-way e w (decides policy q (marksIn (entry t q)))
+      go (yes e) (yes w) = whole-way e w (decides (accepts policy q) q (marksIn (entry t q)))

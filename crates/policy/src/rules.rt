@@ -1,4 +1,4 @@
-// The policy's rules: checked as a whole when they are set, and asked one by one for a pair.
+// The policy's rules: checked as a whole when they are set, and each asked for a pair.
 use address::address::both_fit;
 use address::address::width_of;
 use address::pair::Pair;
@@ -15,7 +15,7 @@ ghost use Rattle.octets.specs.Checks.{firstFailed};
 ghost use Rattle.octets.specs.Limits.{rulesMost};
 ghost use Rattle.octets.specs.Lists.{all};
 ghost use Rattle.octets.specs.Numbers.{numberOf};
-ghost use Rattle.policy.specs.Policy.{ruleFits, lengthsFit, ruleMatches, acceptable};
+ghost use Rattle.policy.specs.Policy.{ruleFits, lengthsFit, ruleMatches};
 ghost use Rattle.policy.specs.Policy.{kept, policyChecks, setPolicy};
 
 #[repr(C)]
@@ -84,25 +84,6 @@ pub fn rule_matches(rule: Rule, pair: Pair) -> bool
     } else {
         false
     }
-}
-
-// Whether some rule accepts the pair.
-pub fn is_acceptable(policy: Policy, pair: Pair) -> bool
-    ensures { λ r. ⌜ r ≡ acceptable policy pair ⌝ }
-{
-    let count = policy.count as usize;
-    let mut i = 0;
-    while i < RULES_MOST {
-        if count <= i {
-            return false;
-        }
-        let rule = policy.rules[i];
-        if rule_matches(rule, pair) {
-            return true;
-        }
-        i += 1;
-    }
-    false
 }
 
 // Whether a rule passes one of the two tests: of its lengths, or of its addresses.

@@ -1,2 +1,4 @@
 -- Laws that belong to no one function.
 pub mod Bits
+pub mod EightOctets
+pub mod Windows

@@ -1,29 +1,20 @@
 // Prefixes of addresses: whole octets, then the bits of the octet that the prefix ends in.
+use crate::eights::eight_at;
 use octets::limits::ADDRESS_OCTETS;
 ghost use mathlib.Core.Path.{_≡_};
 ghost use mathlib.Core.Bool.{true};
-ghost use Prim.Native.Nat.{_<_, _≤_};
-ghost use Rattle.prefix.specs.Prefix.{addressBits, bitAt, prefixMatches};
+ghost use Prim.Native.Nat.{_*_, _/_, _≤_};
+ghost use Rattle.octets.specs.Limits.{addressOctets};
+ghost use Rattle.prefix.specs.Prefix.{addressBits, bitsOf, prefixMatches};
 
-// Bit i of sixteen octets, the first octet's top bit first.
-pub fn bit_at(octets: [u8; ADDRESS_OCTETS], i: u8) -> u8
-    requires { ⌜ i < addressBits ⌝ }
-    ensures { λ r. ⌜ r ≡ bitAt octets i ⌝ }
+// Whether the first n octets are those of the prefix, one after the other.
+fn each_matches(prefix: [u8; ADDRESS_OCTETS], n: usize, octets: [u8; ADDRESS_OCTETS]) -> bool
+    requires { ⌜ n ≤ addressOctets ⌝ }
+    ensures { λ r. ⌜ r ≡ prefixMatches prefix (bitsOf n) octets ⌝ }
 {
-    let at = (i / 8) as usize;
-    let octet = octets[at];
-    let shift = 7 - i % 8;
-    (octet >> shift) % 2
-}
-
-// Whether the first n bits are those of the prefix, where the first `start` are known to be.
-fn bits_match(prefix: [u8; ADDRESS_OCTETS], start: u8, n: u8, octets: [u8; ADDRESS_OCTETS]) -> bool
-    requires { ⌜ (start ≤ n) × (n ≤ addressBits) × (prefixMatches prefix start octets ≡ true) ⌝ }
-    ensures { λ r. ⌜ r ≡ prefixMatches prefix n octets ⌝ }
-{
-    let mut i = start;
+    let mut i = 0;
     while i < n {
-        if bit_at(prefix, i) != bit_at(octets, i) {
+        if prefix[i] != octets[i] {
             return false;
         }
         i += 1;
@@ -31,18 +22,43 @@ fn bits_match(prefix: [u8; ADDRESS_OCTETS], start: u8, n: u8, octets: [u8; ADDRE
     true
 }
 
+// The same; eight octets and more by their first eight and their last eight.
+fn octets_match(prefix: [u8; ADDRESS_OCTETS], n: usize, octets: [u8; ADDRESS_OCTETS]) -> bool
+    requires { ⌜ n ≤ addressOctets ⌝ }
+    ensures { λ r. ⌜ r ≡ prefixMatches prefix (bitsOf n) octets ⌝ }
+{
+    if n < 8 {
+        return each_matches(prefix, n, octets);
+    }
+    if eight_at(prefix, 0) != eight_at(octets, 0) {
+        return false;
+    }
+    eight_at(prefix, n - 8) == eight_at(octets, n - 8)
+}
+
+// Whether the first n bits are those of the prefix, where those of the whole octets are: the octet that the prefix
+// ends in without its lower bits.
+fn end_matches(prefix: [u8; ADDRESS_OCTETS], n: u8, octets: [u8; ADDRESS_OCTETS]) -> bool
+    requires { ⌜ (n ≤ addressBits) × (prefixMatches prefix (bitsOf (n / 8)) octets ≡ true) ⌝ }
+    ensures { λ r. ⌜ r ≡ prefixMatches prefix n octets ⌝ }
+{
+    let bits = n % 8;
+    if bits == 0 {
+        return true;
+    }
+    let at = (n / 8) as usize;
+    let shift = 8 - bits;
+    prefix[at] >> shift == octets[at] >> shift
+}
+
 // Whether the first n bits are those of the prefix.
 pub fn prefix_matches(prefix: [u8; ADDRESS_OCTETS], n: u8, octets: [u8; ADDRESS_OCTETS]) -> bool
     requires { ⌜ n ≤ addressBits ⌝ }
     ensures { λ r. ⌜ r ≡ prefixMatches prefix n octets ⌝ }
 {
-    let whole = (n / 8) as usize;
-    let mut i = 0;
-    while i < whole {
-        if prefix[i] != octets[i] {
-            return false;
-        }
-        i += 1;
+    if octets_match(prefix, (n / 8) as usize, octets) {
+        end_matches(prefix, n, octets)
+    } else {
+        false
     }
-    bits_match(prefix, n / 8 * 8, n, octets)
 }

@@ -15,7 +15,7 @@ use Rattle.records.specs.declared.ike.IkeRecord.{IkeRecord}
 use Rattle.verdict.specs.Verdict.{isAccepted, verdict}
 use Rattle.answering.specs.Core.{decisionOn}
 use Rattle.checking.specs.Checks.{Request}
-use Rattle.responder.specs.Handle.{seenIn}
+use Rattle.responder.specs.Handle.{accepts, seenIn}
 use Rattle.numbers.specs.Numbers.{applies, stepped}
 use Rattle.numbers.proofs.Decisions.{Decides, done, refused, decides}
 use Rattle.numbers.proofs.Cores.{core-decided}
@@ -29,15 +29,15 @@ module _ (policy : Policy) (q : Request) where
   pub record Sound : Type 0 where
     pub whole : reading (q .asks .first) (q .asks .body) .number ≡ 0
     pub fine : seenIn q .update ≡ true
-        → isAccepted (verdict policy (noNatsSeen (q .asks .body) (seenIn q)) (q .asks .pair)) ≡ true
+        → isAccepted (verdict (accepts policy q) (noNatsSeen (q .asks .body) (seenIn q)) (q .asks .pair)) ≡ true
 
   pub core-sound : Sound → (e : IkeRecord)
       → (core policy q e .entry ≡ stepped q e) × (core policy q e .moves ≡ applies q e)
-  core-sound w e = go (decides policy q (marksIn e))
+  core-sound w e = go (decides (accepts policy q) q (marksIn e))
     where
-      go : Decides policy q (marksIn e) (decisionOn policy (q .asks) (marksIn e))
+      go : Decides (accepts policy q) q (marksIn e) (decisionOn (accepts policy q) (q .asks) (marksIn e))
           → (core policy q e .entry ≡ stepped q e) × (core policy q e .moves ≡ applies q e)
-      go (done c) = let x = core-decided policy q e (w .whole) c in (x .entry, x .moves)
+      go (done c) = let x = core-decided (accepts policy q) q e (w .whole) c in (x .entry, x .moves)
       go (refused v which r) =
           let accepted : isAccepted v ≡ true =
           rw (r .verdict-is) at (w .fine (both (seenIn q .update) (leb (e .«update_mark») (q .asks .id)) (r .counts)
@@ -50,7 +50,7 @@ pub sound-parts : (policy : Policy) (t : Tables) (q : Request) → sound policy 
 sound-parts policy t q e =
     let n = eqb (early t q) 0 in
     let m = eqb (reading (q .asks .first) (q .asks .body) .number) 0 in
-    let v = isAccepted (verdict policy (noNatsSeen (q .asks .body) (seenIn q)) (q .asks .pair)) in
+    let v = isAccepted (verdict (accepts policy q) (noNatsSeen (q .asks .body) (seenIn q)) (q .asks .pair)) in
     let x = both n (m && (not (seenIn q .update) || v)) e in
     let y = both m (not (seenIn q .update) || v) (x .1) in (
       eqb-true (early t q) 0 (x .0),

@@ -24,7 +24,7 @@ use Rattle.replying.specs.Reply.{refusalReply, listReplaced}
 use Rattle.answering.specs.Core.{CoreResult, coreAnswer, coreResult, coreResponse}
 use Rattle.replying.specs.Change.{changedBy}
 use Rattle.checking.specs.Checks.{Request, earlyNumberBy}
-use Rattle.responder.specs.Handle.{meant, earlyNumber, handled, handledResponse, afterRequest}
+use Rattle.responder.specs.Handle.{meant, accepts, earlyNumber, handled, handledResponse, afterRequest}
 use Rattle.checking.proofs.Checks.{passed}
 use Rattle.reordering.specs.Requests.{Answer, answer}
 
@@ -76,7 +76,7 @@ moved k t r p false = rw (map-id (t .ipsec))
 
 module _ (policy : Policy) where
   abbrev pub core : Request → IkeRecord → CoreResult
-  core q e = coreResult policy (q .asks) e
+  core q e = coreResult (accepts policy q) (q .asks) e
 
   -- what it does where checks 1 to 5 pass, and what it does at all
   abbrev pub altered : Request → Option IkeRecord → Change
@@ -93,7 +93,7 @@ module _ (policy : Policy) where
       record {
         reply = r;
         cookie = partOf (q .asks .body) (r .cookie) (r .«cookie_len»);
-        octets = cond (eqb n 0) (coreResponse policy (q .asks) (marksIn e)) [];
+        octets = cond (eqb n 0) (coreResponse (accepts policy q) (q .asks) (marksIn e)) [];
       }
 
   abbrev says : Request → View → Answer
@@ -107,7 +107,7 @@ module _ (policy : Policy) where
       go none true = refl
       go none false = refl
       go (some r) true =
-          chosen (λ (x : IkeRecord). x .spi ≡ r .spi) (listReplaced (coreAnswer policy (q .asks) (marksIn r)))
+          chosen (λ (x : IkeRecord). x .spi ≡ r .spi) (listReplaced (coreAnswer (accepts policy q) (q .asks) (marksIn r)))
           (λ e. refl) (λ e. refl)
       go (some r) false = tt
 

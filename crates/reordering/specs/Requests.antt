@@ -20,7 +20,7 @@ use Rattle.reader.specs.Chain.{reading}
 use Rattle.tables.specs.Tables.{Tables, tables, inUse}
 use Rattle.verdict.specs.Verdict.{isAccepted, verdict}
 use Rattle.checking.specs.Checks.{Request}
-use Rattle.responder.specs.Handle.{meant, earlyNumber, handled, handledResponse, seenIn}
+use Rattle.responder.specs.Handle.{meant, accepts, earlyNumber, handled, handledResponse, seenIn}
 use Rattle.replying.specs.declared.reply.Reply.{Reply}
 
 -- 01: "The same answer is all that the call gives back but the tables, the cookie by its octets; the same octets, those
@@ -50,7 +50,8 @@ abbrev pub sound : Policy → Tables → Request → Bool
 sound policy t q =
     eqb (earlyNumber (t .ike) (t .ipsec) q) 0
     && (eqb (reading (q .asks .first) (q .asks .body) .number) 0
-    && (not (seenIn q .update) || isAccepted (verdict policy (noNatsSeen (q .asks .body) (seenIn q)) (q .asks .pair))))
+    && (not (seenIn q .update)
+    || isAccepted (verdict (accepts policy q) (noNatsSeen (q .asks .body) (seenIn q)) (q .asks .pair))))
 
 -- the updates that requests for an SPI carry, each with its ID and its packet's pair
 unfoldable pub updatesFor : ℕ → List Request → List (Update Pair)

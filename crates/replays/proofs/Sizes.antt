@@ -14,7 +14,7 @@ use Rattle.tables.specs.declared.calls.Opening.{Opening}
 use Rattle.tables.specs.Calls.{openBoth, openIpsec, closeIke, closeIpsec}
 use Rattle.answering.specs.Core.{coreResult}
 use Rattle.checking.specs.Checks.{Request}
-use Rattle.responder.specs.Handle.{meant, earlyNumber, handled}
+use Rattle.responder.specs.Handle.{meant, accepts, earlyNumber, handled}
 use Rattle.fields.specs.Fields.{Value}
 use Rattle.entries.specs.Kinds.{fieldsOf}
 use Rattle.entries.specs.declared.kind.Kind.{Kind}
@@ -83,7 +83,7 @@ answered g q h = go (eqb (earlyNumber (g .ike) (g .ipsec) q) 0) refl
     go : (b : Bool) → eqb (earlyNumber (g .ike) (g .ipsec) q) 0 ≡ b
         → let a = handled (g .policy) (g .ike) (g .ipsec) q in Sized (gateway (a .ike) (a .ipsec) (g .policy))
     go true e =
-        let c = coreResult (g .policy) (q .asks) (meant (g .ike) (q .spi)) in
+        let c = coreResult (accepts (g .policy) q) (q .asks) (meant (g .ike) (q .spi)) in
         rw e
         (record {
           ikes = rw length-set (h .ikes);

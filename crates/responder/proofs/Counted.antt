@@ -17,7 +17,7 @@ use Rattle.verdict.proofs.Numbers.{verdict-of}
 use Rattle.answering.specs.Core.{decisionOn, coreAnswer}
 use Rattle.checking.proofs.Checks.{passed, early-passes}
 use Rattle.checking.specs.Checks.{Request}
-use Rattle.responder.specs.Handle.{meant, earlyNumber, handled}
+use Rattle.responder.specs.Handle.{meant, accepts, earlyNumber, handled}
 
 -- a refusal counts nothing
 refused-none : (n first : ℕ) (body : List ℕ) → oneToSeven n ≡ true → 0 ≡ countTold n first body
@@ -62,4 +62,4 @@ module _ (policy : Policy) (ike : List IkeRecord) (ipsec : List IpsecRecord) (q 
           (verdict-of
           (λ n. reading (q .asks .first) (q .asks .body) .seen .tally .payloads ≡ countTold n (q .asks .first)
           (q .asks .body)) c c c
-          (decisionOn policy (q .asks) (marksIn (meant ike (q .spi))) .verdict))
+          (decisionOn (accepts policy q) (q .asks) (marksIn (meant ike (q .spi))) .verdict))

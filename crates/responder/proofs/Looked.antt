@@ -18,7 +18,7 @@ use Rattle.replying.specs.Change.{changedBy}
 use Rattle.replying.specs.Reply.{moved}
 use Rattle.replying.specs.declared.reply.CoreAnswer.{CoreAnswer}
 use Rattle.checking.specs.Checks.{Request}
-use Rattle.responder.specs.Handle.{Handled, meant, earlyNumber, handled, handledResponse}
+use Rattle.responder.specs.Handle.{Handled, meant, accepts, earlyNumber, handled, handledResponse}
 use Rattle.checking.specs.Lookup.{lookedUp, earlyNumberAt}
 use Rattle.responder.specs.Looked.{handledAt, responseAt}
 use Rattle.checking.specs.declared.lookup.Looked.{Looked}
@@ -32,7 +32,7 @@ module _ (policy : Policy) (ike : List IkeRecord) (ipsec : List IpsecRecord) (q 
   looked = lookedUp (length ipsec) place (meant ike (q .spi))
 
   abbrev result : CoreAnswer
-  result = handledAt policy looked q
+  result = handledAt (accepts policy q) looked q
 
   same-number : earlyNumber ike ipsec q ≡ earlyNumberAt looked q
   same-number = rw long
@@ -42,7 +42,7 @@ module _ (policy : Policy) (ike : List IkeRecord) (ipsec : List IpsecRecord) (q 
     pub reply : result .reply ≡ h .reply
     pub ike-after : set ike place (changedBy result (q .asks .pair) (q .asks .body) (meant ike (q .spi))) ≡ h .ike
     pub ipsec-after : cond (moved result) (map (follows (q .spi) (q .asks .pair)) ipsec) ipsec ≡ h .ipsec
-    pub octets : responseAt policy looked q ≡ response
+    pub octets : responseAt (accepts policy q) looked q ≡ response
 
   pub handles : Handles (handled policy ike ipsec q) (handledResponse policy ike ipsec q)
   unfolding handled handledResponse handledAt responseAt changedBy

@@ -1,6 +1,7 @@
 -- Trusted. One request on the tables: 01's "One request, step by step", its checks 1 to 5, then the core on the record
 -- that the SPI means; what `unmavreth_handle` gives back and leaves.
 --   meant                   the record that an SPI means
+--   accepts                 whether the policy accepts a request's pair
 --   earlyNumber             the number of the first of checks 1 to 5 that fails on these tables; 0 where all pass
 --   Handled, handled        all that a request gives back, both tables after it included
 --   handledResponse         its response's octets
@@ -9,12 +10,13 @@
 --   afterRequest            both tables after it
 use Prim.Native.Nat.{ℕ}
 use mathlib.Core.List.{List, [], map}
-use mathlib.Core.Bool.{cond}
+use mathlib.Core.Bool.{Bool, cond}
 use mathlib.Core.Path.{_≡_}
 use lib.Dec.{eqb}
 use lib.ListN.{length, getD, set}
 use Rattle.writing.specs.Notify.{placed}
 use Rattle.octets.specs.Lists.{placeOf}
+use Rattle.policy.specs.Policy.{acceptable}
 use Rattle.policy.specs.declared.rules.Policy.{Policy}
 use Rattle.records.specs.Records.{ikeSpi, noIke, marksIn, follows}
 use Rattle.tables.specs.Calls.{hasIke}
@@ -32,6 +34,10 @@ use Rattle.checking.specs.Checks.{Request, earlyNumberBy}
 abbrev pub meant : List IkeRecord → ℕ → IkeRecord
 meant ike spi = getD ike (placeOf ikeSpi spi ike) noIke
 
+-- 01: "the pair must be acceptable": the packet's, by the policy that is lent
+abbrev pub accepts : Policy → Request → Bool
+accepts policy q = acceptable policy (q .asks .pair)
+
 abbrev pub earlyNumber : List IkeRecord → List IpsecRecord → Request → ℕ
 earlyNumber ike ipsec q = earlyNumberBy (length ipsec) (hasIke (q .spi) ike) (meant ike (q .spi) .agreed) q
 
@@ -44,7 +50,7 @@ pub record Handled : Type 0 where
 -- "the IKE record and all its IPsec records take the packet's pair, and no other record changes".
 unfoldable pub handled : Policy → List IkeRecord → List IpsecRecord → Request → Handled
 handled policy ike ipsec q =
-    let c = coreResult policy (q .asks) (meant ike (q .spi)) in
+    let c = coreResult (accepts policy q) (q .asks) (meant ike (q .spi)) in
     cond (eqb (earlyNumber ike ipsec q) 0)
     (record {
       reply = c .reply;
@@ -56,7 +62,8 @@ handled policy ike ipsec q =
 -- The response's octets; "None" for 1 to 5.
 unfoldable pub handledResponse : Policy → List IkeRecord → List IpsecRecord → Request → List ℕ
 handledResponse policy ike ipsec q =
-    cond (eqb (earlyNumber ike ipsec q) 0) (coreResponse policy (q .asks) (marksIn (meant ike (q .spi)))) []
+    cond (eqb (earlyNumber ike ipsec q) 0)
+    (coreResponse (accepts policy q) (q .asks) (marksIn (meant ike (q .spi)))) []
 
 -- What is promised of a request on these tables and this output, from any of them: all that it gives back, both tables
 -- and the output after it, and that the payload count is the chain's.

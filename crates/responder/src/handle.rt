@@ -1,53 +1,59 @@
-// One request by what was looked up for it: checks 1 to 5, then the core. The tables around it are `lent`'s.
+// One request as it was received, by what was looked up for it: refused, or decided and answered. The tables around it
+// are `lent`'s.
+use crate::receive::Received;
 use answering::core::respond_to;
 use answering::packet::Packet;
-use checking::check::early_number;
 use checking::lookup::Looked;
-use octets::number::number_of;
-use policy::rules::Policy;
 use replying::reply::CoreAnswer;
-use replying::reply::refusal;
+use replying::reply::error_reply;
 use replying::reply::unchanged;
+use responding::respond::no_response;
 ghost use mathlib.Core.Path.{_≡_};
 ghost use lib.ListN.{length};
 ghost use Rattle.writing.specs.Notify.{placed};
 ghost use Rattle.checking.specs.Lookup.{requestBy};
-ghost use Rattle.responder.specs.Looked.{handledAt, responseAt};
+ghost use Rattle.responder.specs.Looked.{receivedAt, handledAt, responseAt};
 
-// Handles one request by what was looked up for it. The response goes to the start of `out`, and what is past it stays
-// as it was.
+// Handles one request by what was looked up for it and by whether the policy accepts its pair. The response goes to the
+// start of `out`, and what is past it stays as it was.
 pub fn handle_at(
-    policy: Policy,
+    accepted: bool,
     looked: Looked,
     packet: Packet,
+    received: Received,
     nat_source: &[u8],
     nat_destination: &[u8],
     body: &[u8],
     out: &mut [u8],
 ) -> CoreAnswer
+    requires { ⌜ (
+        let q = requestBy packet (now «nat_source») (now «nat_destination») (now body) (length (now out)) in
+        received ≡ receivedAt looked q
+        ) ⌝ }
     ensures { λ r. ⌜ (
         let nat-source = now («nat_source» .entry) in
         let nat-destination = now («nat_destination» .entry) in
         let q = requestBy packet nat-source nat-destination (now (body .entry)) (length (now (out .entry))) in
-        r ≡ handledAt policy looked q
+        r ≡ handledAt accepted looked q
         ) ⌝ }
     ensures { λ _. ⌜ (
         let nat-source = now («nat_source» .entry) in
         let nat-destination = now («nat_destination» .entry) in
         let q = requestBy packet nat-source nat-destination (now (body .entry)) (length (now (out .entry))) in
-        now (out .exit) ≡ placed (now (out .entry)) 0 (responseAt policy looked q)
+        now (out .exit) ≡ placed (now (out .entry)) 0 (responseAt accepted looked q)
         ) ⌝ }
 {
-    let number = early_number(looked, packet, nat_source, nat_destination, body, out.len());
     let marks = looked.marks;
-    if number_of(number) != 0 {
-        let reply = refusal(number);
+    if received.number != 0 {
+        let reply = error_reply(received.number, 0, 0, no_response());
         return unchanged(reply, marks);
     }
+    let read = received.read;
     respond_to(
-        policy,
+        accepted,
         marks,
         packet,
+        read,
         nat_source,
         nat_destination,
         body,

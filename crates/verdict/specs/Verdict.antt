@@ -2,7 +2,7 @@
 --
 --   Verdict         accepted, altered on the way, or not acceptable
 --   unaltered       NO_NATS_ALLOWED is not there, or equals the packet's addresses and ports
---   verdict         the first of the two checks that fails, or accepted
+--   verdict         the first of the two checks that fails, or accepted, by whether the policy accepts the pair
 --   verdictNumber   the verdict as it is told
 use Prim.Native.Nat.{ℕ}
 use mathlib.Core.Bool.{Bool, true, false, cond, _&&_, _||_, not}
@@ -14,8 +14,6 @@ use Rattle.octets.specs.declared.number.Number.{Number}
 use Rattle.octets.specs.declared.number.Number.the-variants.{Done, AddressesAltered, NotAcceptable}
 use Rattle.address.specs.declared.pair.Pair.{Pair}
 use Rattle.values.specs.declared.NoNats.{NoNats}
-use Rattle.policy.specs.Policy.{acceptable}
-use Rattle.policy.specs.declared.rules.Policy.{Policy}
 use Rattle.verdict.specs.declared.update.Verdict.{Verdict}
 use Rattle.verdict.specs.declared.update.Verdict.the-variants.{Accepted, Altered, Unacceptable}
 
@@ -31,11 +29,11 @@ unaltered n p =
     && sameOctets addressOctets (n .destination) (p .destination)))))
 
 -- 01: "Then NO_NATS_ALLOWED ..., else 8 ... Then the pair must be acceptable, else 9." A line for each check, in this
--- order.
-unfoldable pub verdict : Policy → NoNats → Pair → Verdict
-verdict policy n p =
+-- order; `accepted` says whether the pair is acceptable.
+unfoldable pub verdict : Bool → NoNats → Pair → Verdict
+verdict accepted n p =
     cond (not (unaltered n p)) Altered
-    (cond (not (acceptable policy p)) Unacceptable
+    (cond (not accepted) Unacceptable
     Accepted)
 
 abbrev pub isAccepted : Verdict → Bool

@@ -1,10 +1,8 @@
-// What an update that is not stale comes to, by NO_NATS_ALLOWED beside it and by the policy.
+// What an update that is not stale comes to, by NO_NATS_ALLOWED beside it and by whether the policy accepts its pair.
 use address::address::same_address;
 use address::pair::Pair;
 use findings::seen::Seen;
 use octets::number::Number;
-use policy::rules::Policy;
-use policy::rules::is_acceptable;
 use values::NoNats;
 use values::no_nats_at;
 ghost use mathlib.Core.Path.{_≡_};
@@ -67,11 +65,11 @@ pub fn is_unaltered(n: NoNats, pair: Pair) -> bool
 }
 
 // The verdict, given what NO_NATS_ALLOWED holds.
-pub fn verdict_on(policy: Policy, n: NoNats, pair: Pair) -> Verdict
-    ensures { λ r. ⌜ r ≡ verdict policy n pair ⌝ }
+pub fn verdict_on(accepted: bool, n: NoNats, pair: Pair) -> Verdict
+    ensures { λ r. ⌜ r ≡ verdict accepted n pair ⌝ }
 {
     if is_unaltered(n, pair) {
-        if is_acceptable(policy, pair) {
+        if accepted {
             Verdict::Accepted
         } else {
             Verdict::Unacceptable
@@ -82,9 +80,9 @@ pub fn verdict_on(policy: Policy, n: NoNats, pair: Pair) -> Verdict
 }
 
 // The same on what was seen in a body: only here NO_NATS_ALLOWED is looked at.
-pub fn verdict_seen(policy: Policy, body: &[u8], seen: Seen, pair: Pair) -> Verdict
-    ensures { λ r. ⌜ r ≡ verdict policy (noNatsSeen (now (body .entry)) seen) pair ⌝ }
+pub fn verdict_seen(accepted: bool, body: &[u8], seen: Seen, pair: Pair) -> Verdict
+    ensures { λ r. ⌜ r ≡ verdict accepted (noNatsSeen (now (body .entry)) seen) pair ⌝ }
 {
     let n = no_nats_at(body, seen.no_nats, seen.no_nats_len);
-    verdict_on(policy, n, pair)
+    verdict_on(accepted, n, pair)
 }

@@ -4,7 +4,7 @@
 -- more of them moves nothing. What stands in front of the locals is the walk's own, and is counted from 0.
 --     Lie, env         where a function's locals lie, and its environment then
 --     rooms, holding   the locals, all of them room; or with what the first of them hold, `none` for one that is room
---     last-of          the last statement of a sequence
+--     last-of          the last statement of a sequence.        behind-first     what is left of it behind its first n
 --     allocates        all of them are allocated.        passed       the next parameter is stored
 --     given-first      what the function is given, behind its locals so far, goes to the front
 --     brings, sends    what local i holds, or its room, goes to the front, and back where it stood
@@ -17,8 +17,8 @@
 --     rests            the locals behind the first n are room again, whatever they hold
 --     ends             all locals are freed
 -- Assumes `Given`.
-use Rattle.walks.proofs.Kit.{_≡_, ap, sym, subst, _∙_, ℕ, _+_, _-_, _*_, List, [], _∷_, map, length, T, URA}
-use Rattle.walks.proofs.Kit.{fullShare, Ty, Body, copy, place, seq, assign, Val, vptr, WT, hasTy, SProp, ent}
+use Rattle.walks.proofs.Kit.{_≡_, ap, sym, subst, _∙_, ℕ, zero, suc, _+_, _-_, _*_, List, [], _∷_, map, length, T}
+use Rattle.walks.proofs.Kit.{URA, fullShare, Ty, Body, copy, place, seq, assign, Val, vptr, WT, hasTy, SProp, ent}
 use Rattle.walks.proofs.Kit.{sep, emp, id⊢, via, Share, Fml, fat, froom, fdies, Heap, Env, Calls, Loops, spotOf}
 use Rattle.walks.proofs.Kit.{atReturn, Atoms, Given, Goal, Post, Item, ‵, raw, ⋆, _⊛_, some, given, later, prop}
 use Rattle.walks.proofs.Kit.{runs, lands, frees, Seq, Step, step, _$_, atRet, move, look, look-in, init, store}
@@ -75,6 +75,20 @@ last-of (switch c arms) = switch c arms
 last-of (exit n) = exit n
 last-of return = return
 last-of (call f xs p) = call f xs p
+
+-- what is left of a sequence behind its first statements, which the generated code has under no name
+abbrev pub behind-first : ℕ → Body → Body
+behind-first zero b = b
+behind-first (suc n) (seq a b) = behind-first n b
+behind-first (suc n) skip = skip
+behind-first (suc n) (assign p rv) = skip
+behind-first (suc n) (block a) = skip
+behind-first (suc n) (loop a) = skip
+behind-first (suc n) (cond c a b) = skip
+behind-first (suc n) (switch c arms) = skip
+behind-first (suc n) (exit k) = skip
+behind-first (suc n) return = skip
+behind-first (suc n) (call g xs p) = skip
 
 -- ---- at the start
 module _ {M : Type 1} {𝓤 : URA M} {H : Heap 𝓤} {A : Atoms 𝓤} {K : Type 0} {W : Given 𝓤 H A} where

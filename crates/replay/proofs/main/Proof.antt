@@ -2,16 +2,15 @@
 -- response are locals, which each turn lends to its calls and has back with other values; the turns that are left get
 -- fewer.
 -- Assumes nothing.
-use Rattle.walks.proofs.Kit.{_≡_, refl, sym, subst, arith, _-_, zero, suc, ℕ, _<_, _≤_, _^_, zero-le, [], _∷_, List}
+use Rattle.walks.proofs.Kit.{_≡_, refl, sym, subst, arith, _-_, ℕ, _<_, _≤_, _^_, zero-le, [], _∷_, List}
 use Rattle.walks.proofs.Kit.{ltb→lt, lit<, length, URA, fullShare, w8, w64, Val, vint, vptr, vunit, SProp, ent, sep}
-use Rattle.walks.proofs.Kit.{emp, via, id⊢, fst∗, Memory, Routine, Heap, Env, Tables, WpFn, Body, Atoms, Fun, fact}
+use Rattle.walks.proofs.Kit.{emp, via, id⊢, fst∗, Memory, Routine, Heap, Env, Tables, WpFn, Atoms, Fun, fact}
 use Rattle.walks.proofs.Kit.{givenOf, tables, tablesOf, Given, Goal, Item, ‵, ⋆, Sq, runs, anyQ, atRet, _$_, _∵_, ! }
 use Rattle.walks.proofs.Kit.{qed, by, join, suffices, done, afterTurn, and-then, no-more, enter, params1, pass0, whole}
 use Rattle.walks.proofs.Kit.{sub, agg, lit, of-opd, bin, addr, from, stop, unit-lit, first, blocks, branches, skips}
 use Rattle.walks.proofs.Kit.{exec, again, loops, FmC, fmOf, Is, uint-makes, uint-tells, u8, sliceVal, Room, nothing}
 use Rattle.walks.proofs.Kit.{Triple, onEntry, cited, walkOf, ends-at, WellFounded, InvImage·wf, Nat·lt-wfRel, feqI}
 use mathlib.Core.Option.{Option, none, some as just}
-use mir.Syntax.{skip, seq, assign, block, loop, cond, switch, exit, return, call}
 use base.Fml.{ftrue}
 use base.Logic.{snd∗, emp∗, mono∗}
 use contract.Monad.{factI, fact-use}
@@ -42,7 +41,7 @@ use Rattle.given.proofs.outcome.Outcome.Laws as O′
 use Rattle.replaying.proofs.state.State as S
 use Rattle.replaying.proofs.state.State.Laws as S′
 use Rattle.walks.proofs.Walk.{closes, Turned}
-use Rattle.walks.proofs.Locals.{Lie, env, holding, allocates, given-first, value, part, sets, resets, resets-last}
+use Rattle.walks.proofs.Locals.{behind-first, Lie, env, holding, allocates, given-first, value, part, sets, resets, resets-last}
 use Rattle.walks.proofs.Locals.{lands-in, lands-over, hands, rests, ends}
 use Rattle.walks.proofs.Calls.{_&_, Told}
 use Rattle.lends.proofs.Lends.{Lendable, array-of, Told-as, lentAt, no-arguments, adds-plain, adds-ref, adds-list}
@@ -80,20 +79,6 @@ use Rattle.replay.proofs.main as f
 use Rattle.replay.proofs.main.Statement as stated
 use Rattle.replay.proofs.main.Code as code
 use Rattle.replay.proofs.main.Code.Mir as mir′
-
--- what is left of a sequence behind its first statements, which the generated code has under no name
-abbrev behind-first : ℕ → Body → Body
-behind-first zero b = b
-behind-first (suc n) (seq a b) = behind-first n b
-behind-first (suc n) skip = skip
-behind-first (suc n) (assign p rv) = skip
-behind-first (suc n) (block a) = skip
-behind-first (suc n) (loop a) = skip
-behind-first (suc n) (cond c a b) = skip
-behind-first (suc n) (switch c arms) = skip
-behind-first (suc n) (exit k) = skip
-behind-first (suc n) return = skip
-behind-first (suc n) (call g xs p) = skip
 
 fewer : (n : ℕ) → 0 < n → n - 1 < n
 fewer n some = omega arith

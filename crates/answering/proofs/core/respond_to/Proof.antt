@@ -15,11 +15,12 @@ use Rattle.answering.proofs.core.respond_to.Tie as tie
 
 cookie-fits : (c : tie.After-cookie) → length (c .cookie .result .now) ≤ cookieMost
 cookie-fits c =
-    let b = c .before .before .before .before .before .before .before .before in
-    let r = b .read-short in
-    let a = b .before .before .before .before .before .args in
+    let seen = c .before .before .before .before .before .before .before in
+    let start = seen .before .before .before .before .before in
+    let a = start .args in
     rw (c .cookie .ensures)
-    (cookie-part (a .packet .first) (a .body .now) (r .result .seen) (ap (λ (x : Reading). x .seen) (r .ensures .is)))
+    (cookie-part (a .packet .first) (a .body .now) (a .read .seen)
+    (ap (λ (x : Reading). x .seen) (start .pre .1 .1 .1)))
 
 pub respond-to-spec : {M : Type 1} → statement M
 respond-to-spec =
@@ -29,11 +30,10 @@ respond-to-spec =
     (λ c κs. search needs)
     (λ c κs. search needs)
     (λ c κs. search needs)
-    (λ c κs. search needs)
     (λ c κs.
     let k = c .before in
-    let b = k .before .before .before .before .before .before .before in
-    let p = b .before .before .before .before .before .before .pre in
+    let seen = k .before .before .before .before .before .before .before in
+    let p = seen .before .before .before .before .before .pre in
     ((p .0, cookie-fits k), p .1 .0))
     (λ c κs. search needs)
     (λ c. search needs)
@@ -44,16 +44,15 @@ respond-to-spec =
     let i = c .before .before .before .before .before .before .before .before .before in
     let d = c .before .before .before .before .before .before .before .decide in
     let whole = i .if1 .taken ∙ i .before .before .number-of .ensures in
-    let b = i .before .before .before .before in
-    let r = b .read-short in
-    let way = r .ensures .is in
-    let a = b .before .before .before .before .before .args in
+    let start = i .before .before .before .before .before .before .before .before in
+    let way = start .pre .1 .1 .1 in
+    let a = start .args in
     let q = askedBy (a .packet) (a .nat-source .now) (a .nat-destination .now) (a .body .now) in (
       c .answer-to .ensures
-          ∙ done-result (a .policy) q (a .marks) (r .result) way whole (d .result) (w .result) (k .result .now)
+          ∙ done-result (a .accepted) q (a .marks) (a .read) way whole (d .result) (w .result) (k .result .now)
           (d .ensures) (w .ensures) (k .ensures) (o .result) (o .ensures .told),
       o .ensures .octets ∙ ap (placed (a .out .now) 0)
-          (done-response (a .policy) q (a .marks) (r .result) way whole (d .result) (w .result) (k .result .now)
+          (done-response (a .accepted) q (a .marks) (a .read) way whole (d .result) (w .result) (k .result .now)
           (d .ensures) (w .ensures) (k .ensures)),
     ))
     (λ c κs. search needs)
@@ -62,13 +61,12 @@ respond-to-spec =
     (λ c.
     let e = c .before .before .before .refuse-chain in
     let i = c .before .before .before .before .before in
-    let b = i .before .before .before .before in
-    let r = b .read-short in
-    let way = r .ensures .is in
-    let a = b .before .before .before .before .before .args in
-    let broken : (r .result .number ≡ 0 → ⊥) = λ x. i .if1 .left (x ∙ sym (i .before .before .number-of .ensures)) in
+    let start = i .before .before .before .before .before .before .before .before in
+    let way = start .pre .1 .1 .1 in
+    let a = start .args in
+    let broken : (a .read .number ≡ 0 → ⊥) = λ x. i .if1 .left (x ∙ sym (i .before .before .number-of .ensures)) in
     let q = askedBy (a .packet) (a .nat-source .now) (a .nat-destination .now) (a .body .now) in (
       c .unchanged .ensures
-          ∙ refused-result (a .policy) q (a .marks) (r .result) way broken (e .result) (e .ensures .0),
-      e .ensures .1 ∙ ap (placed (a .out .now) 0) (refused-response (a .policy) q (a .marks) (r .result) way broken),
+          ∙ refused-result (a .accepted) q (a .marks) (a .read) way broken (e .result) (e .ensures .0),
+      e .ensures .1 ∙ ap (placed (a .out .now) 0) (refused-response (a .accepted) q (a .marks) (a .read) way broken),
     )))

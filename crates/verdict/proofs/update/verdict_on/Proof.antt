@@ -12,11 +12,6 @@ verdict-on-spec =
     tie.close
     (tie.spec
     (λ c κs. search needs)
-    (λ c κs. search needs)
-    (λ c.
-    let unaltered = sym (c .before .before .before .is-unaltered .ensures) ∙ c .before .before .if1 .taken in
-    rw (unaltered, sym (c .before .is-acceptable .ensures) ∙ c .if2 .taken))
-    (λ c.
-    let unaltered = sym (c .before .before .before .is-unaltered .ensures) ∙ c .before .before .if1 .taken in
-    rw (unaltered, sym (c .before .is-acceptable .ensures) ∙ c .if2 .left))
+    (λ c. rw (sym (c .before .before .is-unaltered .ensures) ∙ c .before .if1 .taken, c .if2 .taken))
+    (λ c. rw (sym (c .before .before .is-unaltered .ensures) ∙ c .before .if1 .taken, c .if2 .left))
     (λ c. rw (sym (c .before .is-unaltered .ensures) ∙ c .if1 .left)))

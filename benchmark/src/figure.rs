@@ -1,0 +1,27 @@
+// A row with what was measured of it.
+use crate::callgrind;
+use crate::rows::{Kind, Row};
+use crate::side::Side;
+use crate::timed::{self, Times};
+
+pub struct Figure {
+    pub row: Row,
+    /// The instructions of each side.
+    pub ours: u64,
+    pub lean: u64,
+    pub second: u64,
+    /// Of the policy check bit by bit; 0 for another call.
+    pub bits: u64,
+    /// For a policy check.
+    pub times: Option<Times>,
+}
+
+impl Figure {
+    pub fn of(valgrind: &str, row: Row) -> Result<Self, String> {
+        let count = |side| callgrind::count(valgrind, &row.key, side);
+        let bits = if row.kind == Kind::Policy { count(Side::Bits)? } else { 0 };
+        let [ours, lean, second] = [count(Side::Ours)?, count(Side::Lean)?, count(Side::Second)?];
+        let times = timed::time(&row);
+        Ok(Figure { row, ours, lean, second, bits, times })
+    }
+}

@@ -1,0 +1,22 @@
+// The lean baseline: the library's calls in safe Rust without allocation, as one writes them for speed.
+//
+// It works on the library's own structs. Counters are added to by `wrapping_add`: none can overflow, and
+// the profile would have each addition checked.
+#![forbid(unsafe_code)]
+
+mod addresses;
+mod assess;
+mod handler;
+mod notify;
+mod opening;
+mod policy;
+mod reader;
+mod response;
+mod writer;
+
+pub use assess::{assess, Assessment};
+pub use handler::{handle, Reply};
+pub use opening::open;
+pub use policy::acceptable;
+pub use reader::{read, Reading};
+pub use writer::{write, Written};
