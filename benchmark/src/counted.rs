@@ -7,8 +7,8 @@ use reference::address::AddressPair;
 use reference::asking::Arguments;
 use reference::assess::Assessed;
 use reference::calls::Call;
-use reference::faults::Faults;
 use reference::reply::Handled;
+use reference::rules::{Plain, PolicyRules};
 use reference::tables::Tables;
 use std::hint::black_box;
 use unmavreth::{
@@ -99,12 +99,8 @@ pub fn counted_ours_acceptable(policy: &Policy, pair: &Pair) -> bool {
 
 #[inline(never)]
 #[no_mangle]
-pub fn counted_second_read(
-    first: u8,
-    body: &[u8],
-    faults: Faults,
-) -> reference::reader::Reading<'_> {
-    let reading = reference::reader::read(first, body, faults);
+pub fn counted_second_read(first: u8, body: &[u8]) -> reference::reader::Reading<'_> {
+    let reading = reference::reader::read(first, body, &Plain);
     black_box(&reading);
     reading
 }
@@ -114,50 +110,40 @@ pub fn counted_second_read(
 pub fn counted_second_handle<'a>(
     request: &'a reference::request::Request,
     tables: &mut Tables,
-    faults: Faults,
 ) -> Handled<'a> {
-    let handled = reference::handler::handle(request, tables, faults);
+    let handled = reference::handler::handle(request, tables, &Plain);
     black_box(&handled);
     handled
 }
 
 #[inline(never)]
 #[no_mangle]
-pub fn counted_second_open(call: &Call, tables: &mut Tables, faults: Faults) -> u8 {
-    let number = call.make(tables, faults);
+pub fn counted_second_open(call: &Call, tables: &mut Tables) -> u8 {
+    let number = call.make(tables, &Plain);
     black_box(&number);
     number
 }
 
 #[inline(never)]
 #[no_mangle]
-pub fn counted_second_write(arguments: &Arguments, faults: Faults) -> reference::writer::Written {
-    let written = reference::writer::write(arguments, faults);
+pub fn counted_second_write(arguments: &Arguments) -> reference::writer::Written {
+    let written = reference::writer::write(arguments, &Plain);
     black_box(&written);
     written
 }
 
 #[inline(never)]
 #[no_mangle]
-pub fn counted_second_assess<'a>(
-    sent: &[u8],
-    first: u8,
-    body: &'a [u8],
-    faults: Faults,
-) -> Assessed<'a> {
-    let assessed = reference::assess::assess(sent, first, body, faults);
+pub fn counted_second_assess<'a>(sent: &[u8], first: u8, body: &'a [u8]) -> Assessed<'a> {
+    let assessed = reference::assess::assess(sent, first, body, &Plain);
     black_box(&assessed);
     assessed
 }
 
 #[inline(never)]
 #[no_mangle]
-pub fn counted_second_acceptable(
-    policy: &reference::policy::Policy,
-    pair: &AddressPair,
-    faults: Faults,
-) -> bool {
-    let accepted = policy.accepts(pair, faults);
+pub fn counted_second_acceptable(policy: &reference::policy::Policy, pair: &AddressPair) -> bool {
+    let accepted = Plain.accepts(policy, pair);
     black_box(&accepted);
     accepted
 }

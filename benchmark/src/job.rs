@@ -1,7 +1,9 @@
 // What a row's call is given, on either side.
 use crate::chains::{self, COOKIE, NAT_DESTINATION, NAT_SOURCE, NOTIFY};
 use unmavreth::trace::Entry;
-use unmavreth::{Address, Agreed, Ask, Draft, Flag, Gateway, Opening, Pair, Policy, Request, Rule};
+use unmavreth::{
+    Address, Agreed, Ask, Draft, Flag, Gateway, Number, Opening, Pair, Policy, Request, Rule,
+};
 
 pub enum Job {
     Read { first: u8, body: Vec<u8> },
@@ -53,10 +55,10 @@ impl Handling {
     pub fn of(first: u8, body: Vec<u8>) -> Self {
         let mut gateway = with_policy();
         for (spi, child) in OPENED {
-            gateway.open(&opening(spi, child));
+            done(gateway.open(&opening(spi, child)));
         }
         for (spi, owner) in ADDED {
-            gateway.open_ipsec(spi, owner);
+            done(gateway.open_ipsec(spi, owner));
         }
         Handling::on(gateway, first, body)
     }
@@ -130,19 +132,24 @@ fn full(owned: usize) -> Gateway {
     let mut gateway = with_policy();
     // Closes each first IPsec record again, so that the list can begin with those that are owned.
     for spi in (101..132).chain([OWNER]) {
-        gateway.open(&opening(spi, 1000));
-        gateway.close_ipsec(1000);
+        done(gateway.open(&opening(spi, 1000)));
+        done(gateway.close_ipsec(1000));
     }
     for place in 0..128 {
         let owner = if place < owned { OWNER } else { 101 };
-        gateway.open_ipsec(1000 + place as u32, owner);
+        done(gateway.open_ipsec(1000 + place as u32, owner));
     }
     gateway
 }
 
+/// What is measured begins as it was meant to.
+fn done(number: Number) {
+    assert_eq!(number, Number::Done);
+}
+
 fn with_policy() -> Gateway {
     let mut gateway = Gateway::new();
-    gateway.set_policy(&[RULE]);
+    done(gateway.set_policy(&[RULE]));
     gateway
 }
 

@@ -12,6 +12,7 @@ mod figure;
 mod job;
 mod lean;
 mod ours;
+mod plot;
 mod replayed;
 mod report;
 mod rows;
@@ -31,7 +32,7 @@ fn main() -> ExitCode {
     let arguments: Vec<&str> = arguments.iter().map(String::as_str).collect();
     let done = match arguments[..] {
         ["--count", counted] => count(counted),
-        [valgrind, replay] => measure(valgrind, replay),
+        [valgrind, replay, plot] => measure(valgrind, replay, plot),
         _ => Err("run it by ./bench".to_string()),
     };
     match done {
@@ -43,8 +44,8 @@ fn main() -> ExitCode {
     }
 }
 
-/// Counts every row, once all sides tell the same of it, and the replays; then prints the tables.
-fn measure(valgrind: &str, replay: &str) -> Result<(), String> {
+/// Counts every row, once all sides tell the same of it, and the replays; then prints the tables and draws the plot.
+fn measure(valgrind: &str, replay: &str, plot: &str) -> Result<(), String> {
     let mut figures = Vec::new();
     for row in rows::all() {
         compare(&row, Side::Ours.told(&(row.job)()))?;
@@ -54,7 +55,7 @@ fn measure(valgrind: &str, replay: &str) -> Result<(), String> {
     }
     let replayed = replayed::count(valgrind, replay)?;
     print!("{}\n{}", report::tables(&figures), report::replays(&figures, &replayed));
-    Ok(())
+    std::fs::write(plot, plot::plot(&figures)).map_err(|fault| format!("{plot}: {fault}"))
 }
 
 /// Makes one row's counted call; what it and every side tell must be the same, and as expected.

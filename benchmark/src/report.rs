@@ -5,16 +5,15 @@ use crate::rows::{Kind, HANDLE_UPDATE, READ_UPDATE};
 use std::fmt::Write;
 
 /// Instructions for reading the 112-octet chain: all, and with debug formatting stubbed.
-const PEERS: [(&str, [u64; 2]); 2] =
+pub const PEERS: [(&str, [u64; 2]); 2] =
     [("strongSwan 5.9.8", [21_653, 10_565]), ("OpenIKED 7.4", [12_237, 2_545])];
 
 const CAPTION: [&str; 2] = [
     "\
 Instructions of one call, counted by callgrind: of the library through its Rust interface (`host/rust`), with
 all that it calls; of the lean baseline (`benchmark/src/lean`), the same calls in safe Rust without allocation,
-written for speed; and of the second program (`reference/`), which is written to be plain, allocates, and asks
-at many steps whether one of its deliberate faults is on. All on fresh tables, after one call on others; what a
-call is given is made outside of the count. All Rust is compiled by
+written for speed; and of the second program (`reference/`), which is written to be plain and allocates. All on
+fresh tables, after one call on others; what a call is given is made outside of the count. All Rust is compiled by
 ",
     " at opt-level 3 with overflow checks, the second program's own profile. In every row the
 answers, the outputs and the tables of all three were the same. A count is the same in every run; another
@@ -73,8 +72,13 @@ fn peers(figures: &[Figure]) -> String {
     text
 }
 
+/// The row of this key, which is always there.
+pub fn figure_of<'a>(figures: &'a [Figure], key: &str) -> &'a Figure {
+    figures.iter().find(|of| of.row.key == key).expect("a row of this key")
+}
+
 fn ours_of(figures: &[Figure], key: &str) -> u64 {
-    figures.iter().find(|of| of.row.key == key).map_or(0, |of| of.ours)
+    figure_of(figures, key).ours
 }
 
 /// An entry's share is told by the difference of two traces, so that what a run takes once isn't in it.
@@ -131,14 +135,14 @@ fn line(text: &mut String, cells: &[&str]) {
 }
 
 /// Two decimals, to the nearest.
-fn ratio(one: u64, other: u64) -> String {
+pub fn ratio(one: u64, other: u64) -> String {
     let other = other.max(1);
     let hundredths = (one * 100 + other / 2) / other;
     format!("{}.{:02}", hundredths / 100, hundredths % 100)
 }
 
 /// Thousands set apart.
-fn grouped(number: u64) -> String {
+pub fn grouped(number: u64) -> String {
     match number {
         0..=999 => number.to_string(),
         _ => format!("{},{:03}", grouped(number / 1000), number % 1000),

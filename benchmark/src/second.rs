@@ -8,28 +8,26 @@ use crate::told::Told;
 use reference::asking::{Arguments, Ask};
 use reference::assess::Assessed;
 use reference::calls::Call;
-use reference::faults::Faults;
 use reference::outcome::Outcome;
 use reference::reader::Reading;
 use reference::request::Request;
+use reference::rules::{Plain, PolicyRules};
 use reference::writer::Written;
 use std::hint::black_box;
-
-const NONE: Faults = Faults::NONE;
 
 /// The uncounted call alone.
 pub fn told(job: &Job) -> Told {
     match job {
-        Job::Read { first, body } => reading(body, &reference::reader::read(*first, body, NONE)),
+        Job::Read { first, body } => reading(body, &reference::reader::read(*first, body, &Plain)),
         Job::Handle(handling) => handled(handling, false),
         Job::Open(opening) => opened(opening, false),
-        Job::Write(draft) => written(reference::writer::write(&arguments(draft), NONE)),
+        Job::Write(draft) => written(reference::writer::write(&arguments(draft), &Plain)),
         Job::Assess { first, body } => {
-            assessed(reference::assess::assess(&COOKIE, *first, body, NONE))
+            assessed(reference::assess::assess(&COOKIE, *first, body, &Plain))
         }
         Job::Acceptable(of) => {
             let (policy, pair) = (convert::policy(&of.policy), convert::pair(&of.pair));
-            Told::accepted(policy.accepts(&pair, NONE))
+            Told::accepted(Plain.accepts(&policy, &pair))
         }
     }
 }
@@ -40,26 +38,24 @@ pub fn counted(job: &Job) -> Told {
     match job {
         Job::Read { first, body } => {
             let (first, body) = (black_box(*first), black_box(&body[..]));
-            reading(body, &black_box(counted_second_read(first, body, black_box(NONE))))
+            reading(body, &black_box(counted_second_read(first, body)))
         }
         Job::Handle(handling) => handled(handling, true),
         Job::Open(opening) => opened(opening, true),
         Job::Write(draft) => {
             let arguments = arguments(draft);
-            written(black_box(counted_second_write(black_box(&arguments), black_box(NONE))))
+            written(black_box(counted_second_write(black_box(&arguments))))
         }
         Job::Assess { first, body } => assessed(black_box(counted_second_assess(
             black_box(&COOKIE),
             black_box(*first),
             black_box(body),
-            black_box(NONE),
         ))),
         Job::Acceptable(of) => {
             let (policy, pair) = (convert::policy(&of.policy), convert::pair(&of.pair));
             Told::accepted(black_box(counted_second_acceptable(
                 black_box(&policy),
                 black_box(&pair),
-                black_box(NONE),
             )))
         }
     }
@@ -103,8 +99,11 @@ fn handled(handling: &Handling, count: bool) -> Told {
     let given = &handling.gateway;
     let mut tables = convert::tables(&given.ike, &given.ipsec, &given.policy);
     let request = request(handling);
-    let call = if count { counted_second_handle } else { reference::handler::handle };
-    let handled = black_box(call(black_box(&request), black_box(&mut tables), black_box(NONE)));
+    let (given, lent) = (black_box(&request), black_box(&mut tables));
+    let handled = black_box(match count {
+        true => counted_second_handle(given, lent),
+        false => reference::handler::handle(given, lent, &Plain),
+    });
     let reply = &handled.reply;
     let fields = vec![
         ("number", reply.number.into()),
@@ -125,13 +124,16 @@ fn opened(opening: &OpeningBoth, count: bool) -> Told {
     let given = &opening.gateway;
     let mut tables = convert::tables(&given.ike, &given.ipsec, &given.policy);
     let opening = Call::OpenBoth(convert::opening(&opening.opening));
-    let call = if count { counted_second_open } else { Call::make };
-    let number = black_box(call(black_box(&opening), black_box(&mut tables), black_box(NONE)));
+    let (opening, lent) = (black_box(&opening), black_box(&mut tables));
+    let number = black_box(match count {
+        true => counted_second_open(opening, lent),
+        false => opening.make(lent, &Plain),
+    });
     Told { fields: vec![("number", number.into())], octets: vec![], tables: Some(tables) }
 }
 
 fn reading(body: &[u8], reading: &Reading) -> Told {
-    let outcome = Outcome::of(reading, body, NONE);
+    let outcome = Outcome::of(reading, body, &Plain);
     let mut fields: Vec<(&str, u64)> = vec![
         ("number", outcome.number.into()),
         ("offset", outcome.offset as u64),

@@ -12,7 +12,7 @@ typedef struct checks {
 void check_number(checks *c, const char *what, unsigned long is, unsigned long expected);
 void check_holds(checks *c, const char *what, bool holds);
 
-// Says whether all checks since `since` checks were made held.
-void print_checks(const checks *c, checks since);
+// The checks that were made after `since`.
+checks checks_since(const checks *c, checks since);
 
 #endif

@@ -1,10 +1,10 @@
 // Plays one exchange: lends the request to the gateway, prints and checks the answer, and has the response assessed.
 #include "exchange.h"
 
-#include <stdio.h>
 #include <string.h>
 
 #include "address.h"
+#include "out.h"
 #include "unmavreth_words.h"
 
 exchange exchange_new(const day *d, uint32_t id, unmavreth_pair packet, uint16_t payloads)
@@ -14,18 +14,13 @@ exchange exchange_new(const day *d, uint32_t id, unmavreth_pair packet, uint16_t
     return x;
 }
 
-void print_event(const char *sentences)
-{
-    printf("----------------------------------------------------------------------------------------------------\n");
-    printf("%s\n\n", sentences);
-}
-
 static void print_request(const exchange *x)
 {
     char packet[PAIR_TEXT];
     pair_text(packet, &x->packet);
-    printf("  Request, message ID %u, in a packet %s\n", (unsigned)x->id, packet);
-    printf("    first payload's type %u, %zu octets\n", x->sent.request.first, x->sent.request.length);
+    out("  ");
+    out_wrapped(PLAIN, 2, 4, "Request, message ID %u, in a packet %s", (unsigned)x->id, packet);
+    out("    first payload's type %u, %zu octets\n", x->sent.request.first, x->sent.request.length);
     print_message(&x->sent.request);
 }
 
@@ -37,13 +32,13 @@ static void print_read(const message *m)
         char text[PAIR_TEXT];
         unmavreth_pair claimed = unmavreth_no_nats(m->octets, m->length, r.seen.no_nats, r.seen.no_nats_len);
         pair_text(text, &claimed);
-        printf("    NO_NATS_ALLOWED says %s\n", text);
+        out("    NO_NATS_ALLOWED says %s\n", text);
     }
     unmavreth_addresses_list addresses = unmavreth_addresses(m->octets, m->length, r.seen.list);
     for (size_t i = 0; i < r.seen.list.count && i < UNMAVRETH_ADDRESSES_MOST; i++) {
         char text[ADDRESS_TEXT];
         address_text(text, addresses.list[i].family, addresses.list[i].octets);
-        printf("    additional address %s\n", text);
+        out("    additional address %s\n", text);
     }
 }
 
@@ -51,9 +46,9 @@ static void print_part(const char *what, unmavreth_part part)
 {
     if (part.octets == 0)
         return;
-    printf("    %s: ", what);
-    print_octets(part.start, part.octets);
-    printf("\n");
+    out("    %s, %zu octets: ", what, (size_t)part.octets);
+    print_some_octets(part.start, part.octets);
+    out("\n");
 }
 
 // A fault of the chain, which is told with its payload.
@@ -65,11 +60,13 @@ static bool is_fault(uint8_t number)
 
 static void print_reply(const unmavreth_reply *r, const message *request)
 {
-    printf("  Gateway answers %u: %s", r->number, unmavreth_number_words(r->number));
+    style s = r->number == UNMAVRETH_DONE ? GOOD : CHANGED;
+    out("  Gateway answers ");
+    out_wrapped(s, 18, 4, "%u: %s", r->number, unmavreth_number_words(r->number));
     if (is_fault(r->number))
-        printf(", at offset %u, payload %u from 0", r->offset, r->ordinal);
-    printf("\n    update %u: %s; list %u: %s; addresses left off %u; payloads %u\n", r->update,
-           unmavreth_update_words(r->update), r->list, unmavreth_list_words(r->list), r->left_off, r->payloads);
+        out("    at offset %u, payload %u from 0\n", r->offset, r->ordinal);
+    out("    update %u: %s; list %u: %s; addresses left off %u; payloads %u\n", r->update,
+        unmavreth_update_words(r->update), r->list, unmavreth_list_words(r->list), r->left_off, r->payloads);
     unmavreth_part cookie = {request->octets, 0};
     unmavreth_cookie(&cookie, request->octets, request->length, r->cookie, r->cookie_len);
     print_part("cookie handed out", cookie);
@@ -78,21 +75,21 @@ static void print_reply(const unmavreth_reply *r, const message *request)
 static void print_response(const message *m)
 {
     if (m->length == 0)
-        printf("  Response: first payload's type %u, empty\n", m->first);
+        out("  Response: first payload's type %u, empty\n", m->first);
     else
-        printf("  Response: first payload's type %u, %zu octets\n", m->first, m->length);
+        out("  Response: first payload's type %u, %zu octets\n", m->first, m->length);
     print_message(m);
 }
 
 static void print_assessment(const unmavreth_assessment *a)
 {
-    printf("  Display's end answers %u: %s\n", a->number, unmavreth_number_words(a->number));
-    printf("    outcome %u: %s; payloads %u, unknown %u\n", a->outcome, unmavreth_outcome_words(a->outcome),
-           a->payloads, (unsigned)a->tally);
+    out("  Initiator's end answers %u: %s\n", a->number, unmavreth_number_words(a->number));
+    out("    outcome %u: %s; payloads %u, unknown %u\n", a->outcome, unmavreth_outcome_words(a->outcome), a->payloads,
+        (unsigned)a->tally);
 }
 
-// What the display is handed out of the response: the cookie that came back and both NAT detection values, as parts of
-// the response's own octets.
+// What the initiator is handed out of the response: the cookie that came back and both NAT detection values, as parts
+// of the response's own octets.
 static void hand_out(checks *c, const exchange *x, const message *m, const unmavreth_assessment *a)
 {
     unmavreth_part cookie = {m->octets, 0}, source = {m->octets, 0}, destination = {m->octets, 0};
@@ -119,29 +116,36 @@ static void check_answers(checks *c, const exchange *x, const unmavreth_reply *r
     check_number(c, "the offset", r->offset, x->offset);
     check_number(c, "the ordinal", r->ordinal, x->ordinal);
     check_number(c, "the count of payloads", r->payloads, x->payloads);
-    check_number(c, "the display's number", a->number, UNMAVRETH_DONE);
-    check_number(c, "the display's outcome", a->outcome, x->outcome);
-    check_number(c, "the display's tally", a->tally, 0);
+    check_number(c, "the initiator's number", a->number, UNMAVRETH_DONE);
+    check_number(c, "the initiator's outcome", a->outcome, x->outcome);
+    check_number(c, "the initiator's tally", a->tally, 0);
+}
+
+// What the exchange came to at both ends, in few words.
+static void tell_outcome(day *d, const unmavreth_reply *r, const unmavreth_assessment *a)
+{
+    add_outcome(d, "%u: %s", r->number, unmavreth_number_words(r->number));
+    if (r->update != UNMAVRETH_UPDATE_NONE)
+        add_outcome(d, "update %s", unmavreth_update_words(r->update));
+    if (r->list != UNMAVRETH_LIST_NONE)
+        add_outcome(d, "list %s", unmavreth_list_words(r->list));
+    add_outcome(d, "initiator: %s", unmavreth_outcome_words(a->outcome));
 }
 
 void play(day *d, const exchange *x)
 {
-    checks since = d->checks;
-    tables before = d->gateway.tables;
     message response;
     bool kept;
     print_request(x);
     print_read(&x->sent.request);
-    unmavreth_reply reply =
-        gateway_answer(&d->gateway, OUR_SPI, x->id, x->packet, &x->sent.request, &response, &kept);
+    unmavreth_reply reply = gateway_answer(&d->gateway, OUR_SPI, x->id, x->packet, &x->sent.request, &response, &kept);
     unmavreth_assessment assessment = initiator_assess(&x->sent, &response);
     print_reply(&reply, &x->sent.request);
     print_response(&response);
     print_assessment(&assessment);
     hand_out(&d->checks, x, &response, &assessment);
-    print_change(&before, &d->gateway.tables);
     check_answers(&d->checks, x, &reply, &assessment);
     check_holds(&d->checks, "the octets past the response changed", kept);
     check_holds(&d->checks, "a field of the tables differs", same_tables(&x->after, &d->gateway.tables));
-    print_checks(&d->checks, since);
+    tell_outcome(d, &reply, &assessment);
 }

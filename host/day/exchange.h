@@ -1,27 +1,32 @@
-// One exchange of the day: a request reaches the gateway, its response goes back to the display, and all is printed.
+// One exchange of the day: a request reaches the gateway, its response goes back to the initiator, and all is printed.
 #ifndef DAY_EXCHANGE_H
 #define DAY_EXCHANGE_H
 
 #include "check.h"
 #include "initiator.h"
 #include "gateway.h"
+#include "text.h"
 
-// The SPIs of the day: our display's IKE record with its two IPsec records, and the neighbour's with one.
+// The SPIs of the day: our initiator's IKE record with its two IPsec records, and the neighbour's with one.
 #define OUR_SPI UINT64_C(0x0a11ce0000000001)
 #define OUR_IPSEC_1 UINT32_C(0xc1a50001)
 #define OUR_IPSEC_2 UINT32_C(0xc1a50002)
 #define NEIGHBOUR_SPI UINT64_C(0x0b0b000000000002)
 #define NEIGHBOUR_IPSEC UINT32_C(0xc1a50003)
-enum { OUR_PLACE = 0, NEIGHBOUR_PLACE = 1 };
+enum { OUR_PLACE = 0, NEIGHBOUR_PLACE = 1, OUTCOME = 256 };
 
 typedef struct day {
     gateway gateway;
     checks checks;
-    sent held_up; // a request that is on its way for longer than the next one
+    sent held_up;          // a request that is on its way for longer than the next one
+    char outcome[OUTCOME]; // what the scene came to, for the table at the day's end
 } day;
 
-// A request with its packet and message ID, and what the scene expects: the answer, what the display's end is told, and
-// each field of each place after it.
+// Adds words to the scene's outcome.
+#define add_outcome(d, ...) text_add((d)->outcome, OUTCOME, "; ", __VA_ARGS__)
+
+// A request with its packet and message ID, and what the scene expects: the answer, what the initiator's end is told,
+// and each field of each place after it.
 typedef struct exchange {
     uint32_t id;
     unmavreth_pair packet;
@@ -33,9 +38,6 @@ typedef struct exchange {
 
 // An exchange that expects: done, no update, no list, so many payloads, accepted, the tables as they stand.
 exchange exchange_new(const day *d, uint32_t id, unmavreth_pair packet, uint16_t payloads);
-
-// Begins a scene with what happens in it.
-void print_event(const char *sentences);
 
 void play(day *d, const exchange *x);
 

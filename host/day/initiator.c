@@ -1,4 +1,4 @@
-// The display's end: the request writer and what a response comes to.
+// The initiator's end: the request writer and what a response comes to.
 #include "initiator.h"
 
 #include <stdio.h>

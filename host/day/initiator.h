@@ -1,4 +1,4 @@
-// The display's end: it writes requests and assesses the responses to them.
+// The initiator's end: it writes requests and assesses the responses to them.
 #ifndef DAY_INITIATOR_H
 #define DAY_INITIATOR_H
 
@@ -6,7 +6,7 @@
 
 enum { COOKIE_OCTETS = 8 };
 
-// What the display sends: the message, and the cookie in it (0 octets: none), which it keeps to assess the response.
+// What the initiator sends: the message, and the cookie in it (0 octets: none), which it keeps to assess the response.
 typedef struct sent {
     message request;
     uint8_t cookie[COOKIE_OCTETS];

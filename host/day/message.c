@@ -4,9 +4,10 @@
 #include <stdio.h>
 #include <string.h>
 
+#include "out.h"
 #include "unmavreth_words.h"
 
-enum { HEADER = 4, NOTIFY_HEADER = 8, CRITICAL = 0x80, OCTETS_A_LINE = 16, NAME = 40 };
+enum { HEADER = 4, NOTIFY_HEADER = 8, CRITICAL = 0x80, OCTETS_A_LINE = 12, SOME_OCTETS = 8, NAME = 40 };
 
 message message_of(uint8_t first, const uint8_t *octets, size_t length)
 {
@@ -18,7 +19,15 @@ message message_of(uint8_t first, const uint8_t *octets, size_t length)
 void print_octets(const uint8_t *octets, size_t length)
 {
     for (size_t i = 0; i < length; i++)
-        printf(i == 0 ? "%02x" : " %02x", octets[i]);
+        out(i == 0 ? "%02x" : " %02x", octets[i]);
+}
+
+void print_some_octets(const uint8_t *octets, size_t length)
+{
+    size_t shown = length <= SOME_OCTETS ? length : SOME_OCTETS;
+    print_octets(octets, shown);
+    if (shown < length)
+        out(" ..");
 }
 
 static unsigned number_at(const uint8_t *octets)
@@ -35,6 +44,8 @@ static void name_payload(char name[NAME], uint8_t type, const uint8_t *octets, s
             snprintf(name, NAME, "%s", known);
         else
             snprintf(name, NAME, "unknown notification %u", notify);
+    } else if (unmavreth_payload_words(type) != NULL) {
+        snprintf(name, NAME, "%s", unmavreth_payload_words(type));
     } else if (octets[1] & CRITICAL) {
         snprintf(name, NAME, "critical payload, type %u", type);
     } else {
@@ -47,11 +58,11 @@ static void print_payload(size_t at, const char *name, const uint8_t *octets, si
     for (size_t i = 0; i < size; i += OCTETS_A_LINE) {
         size_t left = size - i;
         if (i == 0)
-            printf("    %4zu  %-30s", at, name);
+            out("    %4zu  %-30s", at, name);
         else
-            printf("          %-30s", "");
+            out("%*s", 40, "");
         print_octets(octets + i, left < OCTETS_A_LINE ? left : OCTETS_A_LINE);
-        printf("\n");
+        out("\n");
     }
 }
 

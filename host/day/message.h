@@ -14,6 +14,10 @@ typedef struct message {
 message message_of(uint8_t first, const uint8_t *octets, size_t length);
 
 void print_octets(const uint8_t *octets, size_t length);
+
+// No more than the first eight of them.
+void print_some_octets(const uint8_t *octets, size_t length);
+
 void print_message(const message *m);
 
 #endif

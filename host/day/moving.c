@@ -1,14 +1,12 @@
-// The display on the move: its additional addresses, an update, a late update, and a NAT on the way.
+// Our initiator on the move: its additional addresses, an update, a late update, and NATs on the way.
 #include "address.h"
 #include "scenes.h"
 
 static const unmavreth_addresses_list NO_ADDRESSES;
 static const unmavreth_ask UPDATE_WITH_NATS = {.update = true, .nat_source = true, .nat_destination = true};
 
-void lists_addresses(day *d)
+void play_addresses(day *d)
 {
-    print_event("(a) In class the display tells two addresses at which it can also be reached: those that it has\n"
-                "on the bus.");
     unmavreth_addresses_list addresses = {.list = {address(BUS), address(BUS_IP6)}};
     unmavreth_pair packet = pair_of(SCHOOL_NAT, OUR_SCHOOL_PORT, GATEWAY, IKE_PORT);
     exchange x = exchange_new(d, 2, packet, 2);
@@ -22,10 +20,8 @@ void lists_addresses(day *d)
     play(d, &x);
 }
 
-void moves_to_the_bus(day *d)
+void play_move(day *d)
 {
-    print_event("(b) After class the display moves. Its update 3, from the corridor, is held up on the way. On the\n"
-                "bus it sends update 4, with a cookie and NAT detection values. The neighbour must not move along.");
     unmavreth_pair corridor = pair_of(SCHOOL_NAT, CORRIDOR_PORT, GATEWAY, IKE_PORT);
     d->held_up = initiator_write(UPDATE_WITH_NATS, corridor, &NO_ADDRESSES, true, 3);
     unmavreth_pair packet = pair_of(BUS, IKE_PORT, GATEWAY, IKE_PORT);
@@ -37,20 +33,16 @@ void moves_to_the_bus(day *d)
     play(d, &x);
 }
 
-void late_update_arrives(day *d)
+void play_late(day *d)
 {
-    print_event("(c) The late update 3 arrives, still in the message window: it is stale and nothing moves, yet it\n"
-                "gets its response.");
     exchange x = exchange_new(d, 3, pair_of(SCHOOL_NAT, CORRIDOR_PORT, GATEWAY, IKE_PORT), 4);
     x.sent = d->held_up;
     x.update = UNMAVRETH_UPDATE_STALE;
     play(d, &x);
 }
 
-void meets_a_nat(day *d)
+void play_nat(day *d)
 {
-    print_event("(d) A NAT is met. The display sends update 5 and allows no NATs; the packet arrives from the NAT's\n"
-                "address. Nothing moves, but the update was received: from now on an older one is stale.");
     unmavreth_pair claimed = pair_of(BUS, IKE_PORT, GATEWAY, IKE_PORT);
     exchange x = exchange_new(d, 5, pair_of(BUS_NAT, BUS_NAT_PORT, GATEWAY, IKE_PORT), 3);
     unmavreth_ask ask = {.update = true, .no_nats = true};
@@ -58,5 +50,14 @@ void meets_a_nat(day *d)
     x.number = UNMAVRETH_ADDRESSES_ALTERED;
     x.outcome = UNMAVRETH_OUTCOME_NAT_SEEN;
     x.after.ike.records[OUR_PLACE].update_mark = mark_of(x.id);
+    play(d, &x);
+}
+
+void play_keepalive(day *d)
+{
+    unmavreth_pair packet = pair_of(HOTEL_NAT, HOTEL_NAT_PORT, GATEWAY, IKE_PORT);
+    unmavreth_ask ask = {.nat_source = true, .nat_destination = true};
+    exchange x = exchange_new(d, 10, packet, 2);
+    x.sent = initiator_write(ask, packet, &NO_ADDRESSES, false, x.id);
     play(d, &x);
 }

@@ -13,4 +13,7 @@ void open_ipsec(day *d, uint32_t spi, uint64_t owner);
 void close_ipsec(day *d, size_t place);
 void close_ike(day *d, uint64_t spi);
 
+// Adds to the scene's outcome how many records are in use.
+void add_in_use(day *d);
+
 #endif

@@ -7,29 +7,26 @@ static unmavreth_pair on_the_bus(void)
     return pair_of(BUS, IKE_PORT, GATEWAY, IKE_PORT);
 }
 
-void says_the_unknown(day *d)
+void play_unknown(day *d)
 {
     static const uint8_t octets[] = {
         200, 0, 0, 10, 0, 0, 0xc3, 0x50, 0x70, 0x71, // a Notify of type 50000, followed by a payload of type 200
         0,   0, 0, 6,  1, 2,
     };
-    print_event("(e) The display sends a notification of type 50000 and a payload of type 200, neither of them known\n"
-                "to the gateway. Both are skipped and tallied.");
     exchange x = exchange_new(d, 6, on_the_bus(), 2);
     x.sent.request = message_of(UNMAVRETH_NOTIFY_PAYLOAD, octets, sizeof octets);
     x.after.ike.records[OUR_PLACE].unknown = 2;
     play(d, &x);
 }
 
-void says_the_malformed(day *d)
+void play_malformed(day *d)
 {
     static const uint8_t octets[] = {
         41, 0, 0, 8,  0, 0, 0x40, 0x10,
         0,  0, 0, 16, 0, 0, 0x40, 0x11, 1, 2, 3, 4, // a COOKIE2 of 16 octets, of which 12 are there
     };
-    print_event("(f) An update whose COOKIE2 is cut short: the chain is malformed, so nothing in it has an effect.");
     exchange x = exchange_new(d, 7, on_the_bus(), 0);
-    // The display sent a whole cookie. That none comes back is no reason to close where an error is told.
+    // The initiator sent a whole cookie. That none comes back is no reason to close where an error is told.
     x.sent = (sent){.cookie = {1, 2, 3, 4, 5, 6, 7, 8}, .cookie_octets = COOKIE_OCTETS};
     x.sent.request = message_of(UNMAVRETH_NOTIFY_PAYLOAD, octets, sizeof octets);
     x.number = UNMAVRETH_BAD_CHAIN_LENGTH;
@@ -39,13 +36,12 @@ void says_the_malformed(day *d)
     play(d, &x);
 }
 
-void says_the_critical(day *d)
+void play_critical(day *d)
 {
     static const uint8_t octets[] = {
         201, 0,    0, 8, 0, 0, 0x40, 0x10,
         0,   0x80, 0, 4, // a payload of type 201 with its critical bit set
     };
-    print_event("(g) An update with a critical payload of the unknown type 201: the whole request is refused.");
     exchange x = exchange_new(d, 8, on_the_bus(), 0);
     x.sent.request = message_of(UNMAVRETH_NOTIFY_PAYLOAD, octets, sizeof octets);
     x.number = UNMAVRETH_UNKNOWN_CRITICAL;
@@ -55,10 +51,8 @@ void says_the_critical(day *d)
     play(d, &x);
 }
 
-void moves_to_a_cafe(day *d)
+void play_policy(day *d)
 {
-    print_event("(h) The display moves to a cafe, whose address no rule of the policy matches: its records stay\n"
-                "where they are.");
     unmavreth_pair packet = pair_of(CAFE, IKE_PORT, GATEWAY, IKE_PORT);
     unmavreth_ask ask = {.update = true, .nat_source = true, .nat_destination = true};
     static const unmavreth_addresses_list none;

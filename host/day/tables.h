@@ -20,10 +20,7 @@ void move_expected(tables *t, uint64_t spi, unmavreth_pair pair);
 
 bool same_tables(const tables *a, const tables *b);
 
-// The records in use, before and after a call; `*` stands behind each field that changed.
-void print_change(const tables *before, const tables *after);
-
-// The same without those before the call.
-void print_after(const tables *before, const tables *after);
+// The records in use after a scene; `*` stands behind each field that changed, and below it what it was.
+void print_tables(const tables *before, const tables *after);
 
 #endif

@@ -15,9 +15,14 @@
 //
 // The promises are about fields and octets, not about padding: compare records field by field, not with memcmp.
 //
+// unmavreth_host.h has the calls with fewer arguments, unmavreth_sockaddr.h socket addresses, unmavreth_words.h words
+// for every number. What a host does around the calls, with IKE_AUTH, with a rekeyed SA, and after a refusal, stands in
+// docs/HOST.md, which is also in the manual page unmavreth(3).
+//
 // Stack: reading a chain (unmavreth_read, unmavreth_handle, unmavreth_assess) calls itself once for each payload, at
-// most 1,024 deep. How much stack that takes is not proved; a request with 1,024 payloads was measured to
-// take under 35,000 octets (./bench). Call from a thread with at least 64 KiB of stack.
+// most 1,024 deep. How much stack a call takes is not proved but measured (host/stack; docs/HOST.md has each): these
+// three under 35,000 octets, the request writer under 8,000, an entry of a trace read under 23,000. Call from a thread
+// with at least 64 KiB of stack.
 #ifndef UNMAVRETH_H
 #define UNMAVRETH_H
 
@@ -31,6 +36,44 @@ extern "C" {
 #else
 #define UNMAVRETH_ASSERT(holds, words) _Static_assert(holds, words)
 #endif
+
+// A compiler that knows how warns where what a call gives is dropped, so that no refusal goes unnoticed.
+#if defined(__GNUC__)
+#define UNMAVRETH_MUST_USE __attribute__((warn_unused_result))
+#elif defined(__cplusplus) && __cplusplus >= 201703L
+#define UNMAVRETH_MUST_USE [[nodiscard]]
+#else
+#define UNMAVRETH_MUST_USE
+#endif
+
+// ----------------------------------------------------------------------------------------------------------- version
+
+// The number of the interface: the layout of the structs below and the calls. It is raised with every change of them.
+// Whatever includes this header refers to the library's symbol that ends in this number, so that a header and an
+// archive of different numbers do not link.
+#define UNMAVRETH_INTERFACE 1
+
+#define UNMAVRETH_JOINED(name, number) name##number
+#define UNMAVRETH_NAMED(name, number) UNMAVRETH_JOINED(name, number)
+#if defined(__has_attribute)
+#if __has_attribute(retain)
+#define UNMAVRETH_KEPT __attribute__((used, retain)) // by the linker too, if it drops what nothing refers to
+#endif
+#endif
+#if !defined(UNMAVRETH_KEPT) && defined(__GNUC__)
+#define UNMAVRETH_KEPT __attribute__((used))
+#elif !defined(UNMAVRETH_KEPT)
+#define UNMAVRETH_KEPT
+#endif
+
+// The number of the library that is linked, for a host that loads it when it runs: it is to be UNMAVRETH_INTERFACE.
+UNMAVRETH_MUST_USE
+uint32_t unmavreth_interface(void);
+
+// The same, by a name that has the number in it. Not for a host to call.
+uint32_t UNMAVRETH_NAMED(unmavreth_interface_, UNMAVRETH_INTERFACE)(void);
+UNMAVRETH_KEPT static uint32_t (*const unmavreth_interface_linked)(void) = UNMAVRETH_NAMED(unmavreth_interface_,
+                                                                                          UNMAVRETH_INTERFACE);
 
 // The library was built for this layout: a compiler that lays a struct out otherwise is stopped here.
 #define UNMAVRETH_SIZE(type, octets) UNMAVRETH_ASSERT(sizeof(type) == (octets), "size of " #type)
@@ -217,10 +260,12 @@ UNMAVRETH_AT(unmavreth_policy, rules, 2);
 //   12  one of them has a length over 32 (IPv4) or 128 (IPv6)
 //    0  set: the first `count` rules as they were given, zeros in the places after them
 // With 1 and 12 every field of the policy stays as it was. Rules past the count are not looked at.
+UNMAVRETH_MUST_USE
 uint8_t unmavreth_set_policy(unmavreth_policy *policy, uint16_t count, const unmavreth_rules *rules);
 
 // Whether some rule of the policy matches the pair. A rule with a family or a length that is not allowed matches
 // nothing.
+UNMAVRETH_MUST_USE
 bool unmavreth_acceptable(const unmavreth_policy *policy, unmavreth_pair pair);
 
 // ------------------------------------------------------------------------------------------------------------ tables
@@ -264,7 +309,7 @@ UNMAVRETH_AT(unmavreth_ike_table, records, 0);
 
 // An IPsec record. The place is free if its SPI is 0; all zeros is a free place.
 typedef struct unmavreth_ipsec {
-    uint32_t spi;
+    uint32_t spi;   // the gateway's own SPI of the child SA, by which packets come in
     uint64_t owner; // the SPI of the IKE record that owns it
     unmavreth_pair pair;
 } unmavreth_ipsec;
@@ -278,7 +323,7 @@ typedef struct unmavreth_opening {
     uint64_t spi;            // of the IKE record
     unmavreth_agreed agreed; // any values are allowed
     unmavreth_pair pair;     // of both records
-    uint32_t child;          // the SPI of the IPsec record
+    uint32_t child;          // the SPI of the IPsec record, the gateway's own of the child SA
 } unmavreth_opening;
 UNMAVRETH_SIZE(unmavreth_opening, 56);
 UNMAVRETH_AT(unmavreth_opening, spi, 0);
@@ -300,6 +345,7 @@ UNMAVRETH_AT(unmavreth_opening, child, 48);
 //   10  no place is free for the IKE record; then, none for the IPsec record
 //    0  both opened; no other place changes
 // Neither the policy nor what is agreed is asked whether they may be opened.
+UNMAVRETH_MUST_USE
 uint8_t unmavreth_open(unmavreth_ike_table *ike, unmavreth_ipsec *ipsec, size_t records, unmavreth_opening opening);
 
 // Opens a further IPsec record at the lowest free place, with the pair of the IKE record `owner`. Numbers, in the
@@ -309,6 +355,7 @@ uint8_t unmavreth_open(unmavreth_ike_table *ike, unmavreth_ipsec *ipsec, size_t 
 //   11  an IPsec record has this SPI
 //   10  no place is free
 //    0  opened; no other place changes
+UNMAVRETH_MUST_USE
 uint8_t unmavreth_open_ipsec(const unmavreth_ike_table *ike, unmavreth_ipsec *ipsec, size_t records, uint32_t spi,
                              uint64_t owner);
 
@@ -316,12 +363,14 @@ uint8_t unmavreth_open_ipsec(const unmavreth_ike_table *ike, unmavreth_ipsec *ip
 //    1  `records` is not 128, or the SPI is 0
 //    4  no IKE record has this SPI
 //    0  closed: every field of these places is 0; no other place changes
+UNMAVRETH_MUST_USE
 uint8_t unmavreth_close_ike(unmavreth_ike_table *ike, unmavreth_ipsec *ipsec, size_t records, uint64_t spi);
 
 // Closes an IPsec record. Numbers, in the order of the checks:
 //    1  `records` is not 128, or the SPI is 0
 //    4  no IPsec record has this SPI
 //    0  closed: every field of its place is 0; no other place changes
+UNMAVRETH_MUST_USE
 uint8_t unmavreth_close_ipsec(unmavreth_ipsec *ipsec, size_t records, uint32_t spi);
 
 // --------------------------------------------------------------------------------------------------- reading a chain
@@ -403,6 +452,7 @@ UNMAVRETH_AT(unmavreth_reading, seen, 6);
 //         Of 61 to 65 and 7, whichever is at the smallest offset; at one payload the first in this order.
 //    0  read whole: `seen` says what is in it
 // With 3, 61 to 65 and 7 every field of `seen` is 0.
+UNMAVRETH_MUST_USE
 unmavreth_reading unmavreth_read(uint8_t first, const uint8_t *body, size_t body_size);
 
 // A part of a body: where it starts and how many octets it has.
@@ -431,11 +481,13 @@ void unmavreth_nat_value(unmavreth_part *out, const uint8_t *body, size_t body_s
 
 // What NO_NATS_ALLOWED holds: the `no_nats_len` octets at `no_nats`. Family 0 and zeros if there is none, or if these
 // are not 12 or 36 octets within the body, which no reading tells.
+UNMAVRETH_MUST_USE
 unmavreth_pair unmavreth_no_nats(const uint8_t *body, size_t body_size, uint16_t no_nats, uint16_t no_nats_len);
 
 // The first sixteen additional addresses. Places past the count are not looked at, and are given as zeros. An address
 // of another family than 4 and 6, at offset 0, or that would run past the end of the body, is given as its family and
 // zeros; no reading tells one.
+UNMAVRETH_MUST_USE
 unmavreth_addresses_list unmavreth_addresses(const uint8_t *body, size_t body_size, unmavreth_offsets list);
 
 // ----------------------------------------------------------------------------------------------- answering a request
@@ -481,7 +533,9 @@ UNMAVRETH_AT(unmavreth_reply, length, 16);
 //    3  the body has over 4,096 octets
 //    4  no IKE record has this SPI
 //    5  MOBIKE was not agreed for it
-//         With 1 to 5 every field of every place and every octet of the output stay as they were; `length` is 0.
+//         With 1 to 5 every field of every place and every octet of the output stay as they were; `length` is 0. The
+//         host answers the request itself: with 4 and 5 as one that has no MOBIKE does, by an empty response if there
+//         is nothing else in it; with 3 by INVALID_SYNTAX; with 1 and 2 the call was wrong, and can be made again.
 //   61 to 65  malformed               } as in unmavreth_read
 //    7  an unknown critical payload   }
 //         With these every field of every place stays as it was. The response is INVALID_SYNTAX, or with 7
@@ -490,7 +544,9 @@ UNMAVRETH_AT(unmavreth_reply, length, 16);
 //    9  a new update, and no rule of the policy matches the packet's pair
 //         With 8 and 9 that IKE record's unknown tally grows as with 0 and its update mark becomes the ID, so that an
 //         older update is stale from now on; no other field of any place changes. The response is
-//         UNEXPECTED_NAT_DETECTED or UNACCEPTABLE_ADDRESSES, then the request's COOKIE2 if it had one.
+//         UNEXPECTED_NAT_DETECTED or UNACCEPTABLE_ADDRESSES, then the request's COOKIE2 if it had one. strongSwan's
+//         client ignores UNACCEPTABLE_ADDRESSES and goes on using the refused address: a host may want to delete the
+//         SA.
 //    0  done. That IKE record's tally grows by the unknown payloads and the unknown notifications. Then, by `update`:
 //         applied   its update mark becomes the ID; its pair, and the pair of each IPsec record in use that it owns,
 //                   become the packet's
@@ -503,6 +559,7 @@ UNMAVRETH_AT(unmavreth_reply, length, 16);
 //       lent values, source first, with an update (applied or stale) or without; then the request's COOKIE2 if it had
 //       one; it may be empty. One kind alone gets no value.
 // The response stands at the start of the output; octets past its `length` stay as they were.
+UNMAVRETH_MUST_USE
 unmavreth_reply unmavreth_handle(unmavreth_ike_table *ike, unmavreth_ipsec *ipsec, size_t records,
                                  const unmavreth_policy *policy, uint64_t spi, uint32_t id, unmavreth_pair pair,
                                  const uint8_t *nat_source, size_t nat_source_size, const uint8_t *nat_destination,
@@ -551,6 +608,7 @@ UNMAVRETH_AT(unmavreth_written, length, 2);
 //
 // A request for everything has 21 Notify payloads. strongSwan 5.9.8 refuses a message with more than 20 and destroys
 // the IKE SA: where the peer may be one, ask for at most 15 addresses with all else.
+UNMAVRETH_MUST_USE
 unmavreth_written unmavreth_write(unmavreth_ask ask, unmavreth_pair pair, unmavreth_addresses_list addresses,
                                   const uint8_t *nat_source, size_t nat_source_size, const uint8_t *nat_destination,
                                   size_t nat_destination_size, const uint8_t *cookie, size_t cookie_size,
@@ -584,6 +642,7 @@ UNMAVRETH_AT(unmavreth_assessment, cookie_len, 14);
 //    7  an unknown critical payload   }
 //    0  read whole. The outcome is the first of these that holds: close (a cookie was sent, and another one came
 //       back, or none and no error either); the first error as NAT seen, unacceptable or failed; accepted.
+UNMAVRETH_MUST_USE
 unmavreth_assessment unmavreth_assess(const uint8_t *sent, size_t sent_size, uint8_t first, const uint8_t *body,
                                       size_t body_size);
 
@@ -681,6 +740,7 @@ UNMAVRETH_AT(unmavreth_entry_read, slots, 16);
 //    0  read: every value fits its field, and addresses and strings lie within the trace; slots that its kind does not
 //       have, and those of a list's items past its count, are 0
 // With 20, 21 and 22 every other field is 0.
+UNMAVRETH_MUST_USE
 unmavreth_entry_read unmavreth_read_entry(const uint8_t *trace, size_t trace_size, size_t at);
 
 typedef struct unmavreth_entry_written {
@@ -700,6 +760,7 @@ UNMAVRETH_AT(unmavreth_entry_written, length, 8);
 //    0  written to the start of the output; octets past `length` stay as they were
 // With 21, 22 and 2 every octet of the output stays as it was; `length` is 0. What is written reads back as it was
 // given, and UNMAVRETH_ENTRY_MOST octets are room enough for any entry.
+UNMAVRETH_MUST_USE
 unmavreth_entry_written unmavreth_write_entry(uint8_t kind, const uint64_t slots[UNMAVRETH_ENTRY_SLOTS],
                                               const uint8_t *source, size_t source_size, uint8_t *out,
                                               size_t out_size);
@@ -707,6 +768,9 @@ unmavreth_entry_written unmavreth_write_entry(uint8_t kind, const uint64_t slots
 #undef UNMAVRETH_AT
 #undef UNMAVRETH_SIZE
 #undef UNMAVRETH_ASSERT
+#undef UNMAVRETH_KEPT
+#undef UNMAVRETH_NAMED
+#undef UNMAVRETH_JOINED
 
 #ifdef __cplusplus
 }

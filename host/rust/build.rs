@@ -3,21 +3,21 @@ use std::env;
 use std::path::{Path, PathBuf};
 use std::process::exit;
 
-/// The directory that holds `libhost.a`; unset, it is the one in which `rt staticlib host` puts it.
+/// The directory that holds `libunmavreth.a`; unset, it is the one in which `host/archive` puts it.
 const LIBRARY_DIRECTORY: &str = "UNMAVRETH_LIBRARY_DIRECTORY";
 
 fn main() {
     println!("cargo:rerun-if-env-changed={LIBRARY_DIRECTORY}");
     println!("cargo:rerun-if-changed=build.rs");
     let directory = directory();
-    let library = directory.join("libhost.a");
+    let library = directory.join("libunmavreth.a");
     println!("cargo:rerun-if-changed={}", library.display());
     if !library.is_file() {
-        eprintln!("no {}: run 'rt staticlib host', or set {LIBRARY_DIRECTORY}", library.display());
+        eprintln!("no {}: run 'host/archive', or set {LIBRARY_DIRECTORY}", library.display());
         exit(1);
     }
     println!("cargo:rustc-link-search=native={}", directory.display());
-    println!("cargo:rustc-link-lib=static=host");
+    println!("cargo:rustc-link-lib=static=unmavreth");
 }
 
 fn directory() -> PathBuf {

@@ -2,7 +2,6 @@
 //
 // These structs, and those that are `repr(C)` in other files, are laid out as in the library's C
 // interface and so are handed over as they are.
-use crate::faults::{Fault, Faults};
 
 /// Addresses are held in 16 octets, IPv4 in the first four with zeros after.
 pub type AddressOctets = [u8; 16];
@@ -29,7 +28,7 @@ impl Address {
 
     /// Whether the family is allowed and the address doesn't pass its family's octets.
     pub fn is_sound(&self) -> bool {
-        octet_count(self.family).is_some_and(|count| is_zero_past(&self.octets, count))
+        are_sound(self.family, [&self.octets])
     }
 }
 
@@ -54,8 +53,8 @@ impl AddressPair {
     }
 
     /// Whether the family is allowed and neither address passes its family's octets.
-    pub fn is_sound(&self, faults: Faults) -> bool {
-        are_sound(self.family, [&self.source, &self.destination], faults)
+    pub fn is_sound(&self) -> bool {
+        are_sound(self.family, [&self.source, &self.destination])
     }
 }
 
@@ -68,13 +67,10 @@ pub fn octet_count(family: u8) -> Option<usize> {
     }
 }
 
-/// Whether the family is allowed and both addresses, or prefixes, are zero past its octets.
-pub fn are_sound(family: u8, both: [&AddressOctets; 2], faults: Faults) -> bool {
-    let Some(count) = octet_count(family) else { return false };
-    let looked_at = if faults.on(Fault::SourceTailOnly) { &both[..1] } else { &both[..] };
-    looked_at.iter().all(|octets| is_zero_past(octets, count))
-}
-
-fn is_zero_past(octets: &AddressOctets, count: usize) -> bool {
-    octets[count..].iter().all(|&octet| octet == 0)
+/// Whether the family is allowed and these addresses, or prefixes, are zero past its octets.
+pub fn are_sound<const COUNT: usize>(family: u8, addresses: [&AddressOctets; COUNT]) -> bool {
+    let is_zero_past =
+        |octets: &AddressOctets, count: usize| octets[count..].iter().all(|&octet| octet == 0);
+    octet_count(family)
+        .is_some_and(|count| addresses.iter().all(|octets| is_zero_past(octets, count)))
 }

@@ -1,14 +1,18 @@
-// The assessment of responses at the display's end: a verdict by the cookie sent and the response.
-use crate::asking::may_be_sent;
+// The assessment of responses at the initiator's end: a verdict by the cookie sent and the response.
 use crate::calls::Refusal;
-use crate::chain::{self, Class};
 use crate::cookie;
-use crate::faults::{Fault, Faults};
-use crate::flaws;
-use crate::notify::NotifyType;
 use crate::outcome::Place;
 use crate::reader::{self, Answer, Reading};
+use crate::rules::{ResponseRules, Rules};
 use crate::summary::Summary;
+
+#[derive(Debug, Clone, Copy, PartialEq, Eq)]
+pub enum Check {
+    /// 1, of the cookie sent.
+    Sent,
+    /// 3, 61 to 65 and 7, as the reader tells them.
+    Chain,
+}
 
 /// What a response that was read means, with its number.
 #[derive(Debug, Clone, Copy, PartialEq, Eq)]
@@ -56,139 +60,52 @@ impl Assessed<'_> {
 }
 
 /// Assesses a response to a request that was sent with this cookie; an empty one is none.
-pub fn assess<'a>(sent: &[u8], first: u8, body: &'a [u8], faults: Faults) -> Assessed<'a> {
-    let mut assessed = judge(sent, first, body, faults);
-    if assessed.number != 0 && faults.on(Fault::CameBackRefused) {
-        assessed.cookie = Place::of(cookie::of_refused(first, body, faults));
-    }
-    let (at, length) = assessed.cookie.as_told();
-    assessed.handed_out = cookie::hand_out(body, at, length, faults);
-    assessed
-}
-
-/// All but the part that is handed out.
-fn judge<'a>(sent: &[u8], first: u8, body: &'a [u8], faults: Faults) -> Assessed<'a> {
-    let reading = reader::read(first, body, faults);
-    let answer = reading.answer;
-    let too_long_first = answer == Answer::BodyTooLong && faults.on(Fault::BodyBeforeSent);
-    if !may_be_sent(sent.len(), faults) && !too_long_first {
-        let told = faults.on(Fault::BadSentOrdinal);
-        let ordinal = if told { reading.ordinal as u16 } else { 0 };
-        return Assessed { number: Refusal::Argument as u8, ordinal, ..Assessed::default() };
-    }
-    if answer != Answer::Read {
-        return refused(&reading, first, body, faults);
-    }
-    let summary = &reading.summary;
-    let verdict = verdict(sent, summary, faults);
-    let untallied = verdict == Verdict::Close && faults.on(Fault::CloseUntallied);
-    let tally = if untallied { 0 } else { tally(sent, summary, faults) };
-    let payloads = summary.payloads as u16;
-    let untold = verdict == Verdict::Close && faults.on(Fault::CameBackUntold);
-    let cookie = if untold { Place::default() } else { Place::of(summary.cookie) };
-    let outcome = verdict as u8;
-    Assessed { outcome, payloads, tally, cookie, ..Assessed::default() }
-}
-
-/// With 3, 61 to 65 and 7.
-fn refused<'a>(reading: &Reading, first: u8, body: &[u8], faults: Faults) -> Assessed<'a> {
-    let (number, offset) = (reading.answer.number(faults), reading.answer.offset());
-    let ordinal = reading.ordinal as u16;
-    let unsplit = faults.on(Fault::AssessedUnsplit);
-    let untold = faults.on(Fault::AssessedNoOrdinal);
-    let counted = faults.on(Fault::AssessedFlawedCount);
-    let tallied = faults.on(Fault::RefusalTally);
-    Assessed {
-        number: if unsplit { flaws::unsplit(number) } else { number },
-        offset: offset as u16,
-        ordinal: if untold { 0 } else { ordinal },
-        payloads: if counted { ordinal } else { 0 },
-        tally: if tallied { unknown_before(first, body, offset, faults) } else { 0 },
-        ..Assessed::default()
-    }
-}
-
-fn verdict(sent: &[u8], summary: &Summary, faults: Faults) -> Verdict {
-    let error = told_error(&summary.errors, faults);
-    if closes(sent, summary, error.is_some(), faults) {
-        return Verdict::Close;
-    }
-    let swapped = faults.on(Fault::ErrorsSwapped);
-    match error {
-        None => Verdict::Accepted,
-        Some(NotifyType::UNEXPECTED_NAT_DETECTED) if swapped => Verdict::Unacceptable,
-        Some(NotifyType::UNACCEPTABLE_ADDRESSES) if swapped => Verdict::NatSeen,
-        Some(NotifyType::UNEXPECTED_NAT_DETECTED) => Verdict::NatSeen,
-        Some(NotifyType::UNACCEPTABLE_ADDRESSES) => Verdict::Unacceptable,
-        Some(_) => Verdict::Failed,
-    }
-}
-
-/// A cookie was sent, and a different one is there, or none and no error either.
-fn closes(sent: &[u8], summary: &Summary, error: bool, faults: Faults) -> bool {
-    let asked = !sent.is_empty();
-    match summary.cookie {
-        Some(_) if error && faults.on(Fault::ErrorBeforeClose) => false,
-        Some(cookie) => {
-            (asked || faults.on(Fault::UnaskedCloses)) && !same_cookie(sent, cookie.octets, faults)
-        }
-        None => {
-            (asked || faults.on(Fault::UnsentCloses))
-                && (!error || faults.on(Fault::MissingCloses))
-                && !faults.on(Fault::MissingAccepted)
-        }
-    }
-}
-
-fn same_cookie(sent: &[u8], there: &[u8], faults: Faults) -> bool {
-    if faults.on(Fault::CookiePrefix) {
-        return sent.iter().zip(there).all(|(one, other)| one == other);
-    }
-    sent == there
-}
-
-/// The first error in the chain's order.
-fn told_error(errors: &[NotifyType], faults: Faults) -> Option<NotifyType> {
-    let mut errors = errors.iter().copied();
-    if faults.on(Fault::Type0NoError) {
-        errors.find(|error| error.0 != 0)
-    } else if faults.on(Fault::LastError) {
-        errors.last()
-    } else if faults.on(Fault::ErrorByNumber) {
-        errors.max_by_key(|&error| match error {
-            NotifyType::UNEXPECTED_NAT_DETECTED => 2,
-            NotifyType::UNACCEPTABLE_ADDRESSES => 1,
-            _ => 0,
-        })
-    } else {
-        errors.next()
-    }
-}
-
-/// Unknown payloads and notifications as in step 1 but for errors, and a COOKIE2 not asked for.
-fn tally(sent: &[u8], summary: &Summary, faults: Faults) -> u32 {
-    let errors = if faults.on(Fault::ErrorsTallied) { 0 } else { summary.errors.len() };
-    let unknown = summary.unknown_payloads + summary.unknown_notifies.saturating_sub(errors);
-    let unasked = match summary.cookie {
-        Some(_) if faults.on(Fault::UnaskedUntallied) => false,
-        Some(cookie) if faults.on(Fault::DifferentTallied) => cookie.octets != sent,
-        Some(_) => sent.is_empty(),
-        None => false,
+pub fn assess<'a>(sent: &[u8], first: u8, body: &'a [u8], rules: &impl Rules) -> Assessed<'a> {
+    let reading = reader::read(first, body, rules.chain());
+    let assessed = match refusal(sent, &reading, rules) {
+        Some(refused) => refused,
+        None => of_read(sent, &reading.summary, rules.responses()),
     };
-    unknown as u32 + u32::from(unasked)
+    let (at, length) = assessed.cookie.as_told();
+    Assessed { handed_out: cookie::hand_out(body, at, length, rules.parts()), ..assessed }
 }
 
-/// The unknown payloads before a flaw, for the fault that tallies them.
-fn unknown_before(first: u8, body: &[u8], offset: usize, faults: Faults) -> u32 {
-    let payloads = chain::split(first, body).payloads;
-    let before = payloads.iter().take_while(|payload| payload.offset < offset);
-    before.filter(|payload| Class::of(payload.payload_type, faults) == Class::Unknown).count()
-        as u32
+/// What is given back where a check fails: of the first one in their order.
+fn refusal<'a>(sent: &[u8], reading: &Reading, rules: &impl Rules) -> Option<Assessed<'a>> {
+    let failed = rules.responses().order().into_iter().find(|check| match check {
+        Check::Sent => !rules.responses().allows_sent(sent.len()),
+        Check::Chain => reading.answer != Answer::Read,
+    });
+    failed.map(|check| match check {
+        Check::Sent => rules.responses().refused(Refusal::Argument as u8, 0, 0),
+        Check::Chain => {
+            let (number, offset) = (reading.answer.number(rules.chain()), reading.answer.offset());
+            rules.responses().refused(number, offset, reading.ordinal)
+        }
+    })
+}
+
+/// What is given back of a response that was read.
+fn of_read<'a>(
+    sent: &[u8],
+    summary: &Summary<'a>,
+    rules: &(impl ResponseRules + ?Sized),
+) -> Assessed<'a> {
+    let cookie = summary.cookie.map(|cookie| cookie.octets);
+    let error = rules.error(&summary.errors);
+    let verdict = if rules.closes(sent, cookie, error.is_some()) {
+        Verdict::Close
+    } else {
+        rules.verdict(error)
+    };
+    let unasked = usize::from(rules.is_unasked(sent, cookie));
+    rules.read(verdict, (rules.unknown(summary) + unasked) as u32, summary)
 }
 
 #[cfg(test)]
 mod tests {
     use super::*;
+    use crate::rules::Plain;
 
     const SENT: [u8; 8] = [1, 2, 3, 4, 5, 6, 7, 8];
     const OTHER: [u8; 8] = [1, 2, 3, 4, 5, 6, 7, 9];
@@ -216,7 +133,7 @@ mod tests {
     fn assessed(sent: &[u8], notifications: &[(u16, &[u8])], unknown: usize) -> Assessed<'static> {
         let (first, body) = response(notifications, unknown);
         let Assessed { number, outcome, payloads, offset, ordinal, tally, .. } =
-            assess(sent, first, &body, Faults::NONE);
+            assess(sent, first, &body, &Plain);
         Assessed { number, outcome, payloads, offset, ordinal, tally, ..Assessed::default() }
     }
 
@@ -288,11 +205,11 @@ mod tests {
     fn the_cookie_that_came_back_is_handed_out() {
         let (first, body) = response(&[(40, &[]), (COOKIE2, &SENT)], 0);
         for sent in [&SENT[..], &OTHER, &NONE] {
-            let assessed = assess(sent, first, &body, Faults::NONE);
+            let assessed = assess(sent, first, &body, &Plain);
             assert_eq!(assessed.cookie, Place::in_body(&body, 16, 8));
             assert_eq!(assessed.handed_out.octets, SENT);
         }
-        let refused = assess(&[1; 7], first, &body, Faults::NONE);
+        let refused = assess(&[1; 7], first, &body, &Plain);
         assert_eq!((refused.cookie, refused.handed_out), (Place::default(), Place::default()));
     }
 
@@ -301,7 +218,7 @@ mod tests {
         let refused =
             |number, offset, ordinal| Assessed { number, offset, ordinal, ..Assessed::default() };
         fn assess<'a>(sent: &[u8], first: u8, body: &'a [u8]) -> Assessed<'a> {
-            super::assess(sent, first, body, Faults::NONE)
+            super::assess(sent, first, body, &Plain)
         }
         for size in [1, 7, 65, 66, 300] {
             assert_eq!(assess(&vec![1; size], 41, &[0; 4097]), refused(1, 0, 0));

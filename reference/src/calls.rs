@@ -1,10 +1,10 @@
 // The table calls: what each is given, and the number it gives back.
 use crate::address::AddressPair;
 use crate::closing::{close_ike, close_ipsec};
-use crate::faults::Faults;
 use crate::opening::open_ipsec;
 use crate::opening_both::{open_both, Opening};
-use crate::policy::RuleList;
+use crate::policy::{set, RuleList};
+use crate::rules::{PolicyRules, Rules};
 use crate::tables::Tables;
 
 #[derive(Debug, Clone)]
@@ -44,6 +44,15 @@ pub enum Refusal {
     Policy = 12,
 }
 
+/// Who is lent the IPsec list.
+#[derive(Debug, Clone, Copy, PartialEq, Eq)]
+pub enum User {
+    OpeningBoth,
+    OpeningIpsec,
+    Closing,
+    Handler,
+}
+
 pub fn refuse_if(refused: bool, refusal: Refusal) -> Result<(), Refusal> {
     if refused {
         Err(refusal)
@@ -54,14 +63,17 @@ pub fn refuse_if(refused: bool, refusal: Refusal) -> Result<(), Refusal> {
 
 impl Call {
     /// Makes the call on the tables; its number, or for `Acceptable` 1 if the pair is, else 0.
-    pub fn make(&self, tables: &mut Tables, faults: Faults) -> u8 {
+    pub fn make(&self, tables: &mut Tables, rules: &impl Rules) -> u8 {
+        let (of_tables, of_policy) = (rules.tables(), rules.policy());
         let result = match self {
-            Call::OpenBoth(opening) => open_both(tables, opening, faults),
-            Call::OpenIpsec { spi, owner } => open_ipsec(tables, *spi, *owner, faults),
-            Call::CloseIke { spi } => close_ike(tables, *spi, faults),
-            Call::CloseIpsec { spi } => close_ipsec(tables, *spi, faults),
-            Call::SetPolicy { count, rules } => tables.policy.set(*count, rules, faults),
-            Call::Acceptable { pair } => return u8::from(tables.policy.asked(pair, faults)),
+            Call::OpenBoth(opening) => open_both(tables, opening, of_tables),
+            Call::OpenIpsec { spi, owner } => open_ipsec(tables, *spi, *owner, of_tables),
+            Call::CloseIke { spi } => close_ike(tables, *spi, of_tables),
+            Call::CloseIpsec { spi } => close_ipsec(tables, *spi, of_tables),
+            Call::SetPolicy { count, rules } => set(&mut tables.policy, *count, rules, of_policy),
+            Call::Acceptable { pair } => {
+                return u8::from(of_policy.asked(&mut tables.policy, pair));
+            }
         };
         result.map_or_else(|refusal| refusal as u8, |()| 0)
     }

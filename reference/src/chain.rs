@@ -1,5 +1,4 @@
 // The payload chain as a list: where each payload lies in the body, and how the chain ends.
-use crate::faults::{Fault, Faults};
 
 pub const HEADER_LENGTH: usize = 4;
 pub const CRITICAL: u8 = 0x80;
@@ -7,24 +6,12 @@ pub const CRITICAL: u8 = 0x80;
 pub const NO_NEXT_PAYLOAD: u8 = 0;
 pub const NOTIFY: u8 = 41;
 
-/// What a payload type means to this reader.
+/// What a payload type means to a reader.
 #[derive(Debug, Clone, Copy, PartialEq, Eq)]
 pub enum Class {
     Notify,
     Skipped,
     Unknown,
-}
-
-impl Class {
-    /// The class of any type but 0.
-    pub fn of(payload_type: u8, faults: Faults) -> Self {
-        match payload_type {
-            NOTIFY => Class::Notify,
-            33..=48 => Class::Skipped,
-            49..=54 if faults.on(Fault::Types49Known) => Class::Skipped,
-            _ => Class::Unknown,
-        }
-    }
 }
 
 /// A payload whose length keeps it inside the body.

@@ -1,12 +1,9 @@
 // The list that is given of what was seen: the octets at each place below the count, then zeros.
-use crate::address::{octet_count, Address};
-use crate::faults::{Fault, Faults};
+use crate::address::Address;
 use crate::hostile_lists::hostile;
+use crate::rules::PartRules;
 use crate::show;
-use crate::summary::{padded, MAX_KEPT};
-
-/// So many octets has the longest address.
-const MOST_OCTETS: usize = 16;
+use crate::summary::MAX_KEPT;
 
 /// What a host says was seen of the additional addresses.
 #[derive(Debug, Clone, Copy, Default, PartialEq, Eq)]
@@ -33,35 +30,13 @@ pub fn given_lists(
 }
 
 /// The addresses below the count, at most sixteen; zeros in the places after them.
-pub fn give(body: &[u8], seen: SeenList, faults: Faults) -> [Address; MAX_KEPT] {
-    let given = match usize::from(seen.count) {
-        _ if faults.on(Fault::ListPastCount) => MAX_KEPT,
-        count if count > MAX_KEPT && faults.on(Fault::ListOver16Empty) => 0,
-        count => count.min(MAX_KEPT),
-    };
+pub fn give(body: &[u8], seen: SeenList, rules: &(impl PartRules + ?Sized)) -> [Address; MAX_KEPT] {
     let mut list = [Address::ZERO; MAX_KEPT];
-    for (place, address) in list[..given].iter_mut().enumerate() {
-        *address = address_at(body, seen.offsets[place], seen.families[place], faults);
+    let listed = rules.listed(usize::from(seen.count));
+    for (place, address) in list[..listed].iter_mut().enumerate() {
+        *address = rules.address(body, usize::from(seen.offsets[place]), seen.families[place]);
     }
     list
-}
-
-/// The octets there as an address of the family; zeros at place 0, which means none, if they would run
-/// past the end of the body, or if the family has none.
-fn address_at(body: &[u8], place: u16, family: u8, faults: Faults) -> Address {
-    let others = if faults.on(Fault::OtherFamilyRead) { MOST_OCTETS } else { 0 };
-    let start = usize::from(place);
-    let end = start + octet_count(family).unwrap_or(others);
-    let counts_as_past = end == body.len() && faults.on(Fault::AddressAtEnd);
-    let none = start == 0 && !faults.on(Fault::AddressAtPlace0);
-    let octets = match body.get(start..end) {
-        _ if none => &[],
-        Some(octets) if !counts_as_past => octets,
-        _ if faults.on(Fault::PastEndNoFamily) => return Address::ZERO,
-        _ if faults.on(Fault::AddressCut) => body.get(start..).unwrap_or_default(),
-        _ => &[],
-    };
-    Address { family, octets: padded(octets) }
 }
 
 impl GivenList {
@@ -82,6 +57,7 @@ impl GivenList {
 #[cfg(test)]
 mod tests {
     use super::*;
+    use crate::rules::Plain;
 
     const BODY: [u8; 20] = [0, 1, 2, 3, 4, 5, 6, 7, 8, 9, 10, 11, 12, 13, 14, 15, 16, 17, 18, 19];
 
@@ -90,7 +66,7 @@ mod tests {
         for (at, &(place, family)) in first.iter().enumerate() {
             (seen.offsets[at], seen.families[at]) = (place, family);
         }
-        give(&BODY, seen, Faults::NONE)
+        give(&BODY, seen, &Plain)
     }
 
     fn zeros(family: u8) -> Address {

@@ -1,83 +1,38 @@
 // The request handler: what a request gives back and writes, and what it does to the tables.
-use crate::cookie::{self, hand_out};
-use crate::faults::{Fault, Faults};
-use crate::flaws::{self, Flaw};
-use crate::notifications::first_type;
+use crate::cookie::hand_out;
+use crate::notifications::{first_type, octets, Notification};
 use crate::outcome::Place;
-use crate::reader;
 use crate::reply::{Handled, Reply};
 use crate::request::{Failed, Passed, Request};
-use crate::response::{self, Standing};
-use crate::steps::{self, Effect, Unfit};
+use crate::response::Served;
+use crate::rules::{ChainRules, RequestRules, Rules};
+use crate::steps::{self, Effect};
 use crate::tables::Tables;
 
-pub fn handle<'a>(request: &'a Request, tables: &mut Tables, faults: Faults) -> Handled<'a> {
-    let (mut reply, response) = match request.check(tables, faults) {
-        Err(Failed::Refused(refusal)) => {
-            if faults.on(Fault::OtherListServed) {
-                serve_with_any_list(request, tables);
-            }
-            let ordinal = ordinal_of_refused(request, faults);
-            (Reply { number: refusal as u8, ordinal, ..Reply::default() }, vec![])
+pub fn handle<'a>(request: &'a Request, tables: &mut Tables, rules: &impl Rules) -> Handled<'a> {
+    let of_requests = rules.requests();
+    let (mut reply, response) = match request.check(tables, rules) {
+        Ok(passed) => serve(request, &passed, tables, rules),
+        Err(failed) => {
+            let (reply, response) = match failed {
+                Failed::Refused(refusal) => {
+                    (Reply { number: refusal as u8, ..Reply::default() }, vec![])
+                }
+                Failed::Flawed(flaw) => {
+                    let number = rules.chain().number(flaw.cause);
+                    let response = of_requests.to_flawed(request, &flaw);
+                    (of_requests.reply_to_flawed(number, &flaw), response)
+                }
+            };
+            (Reply { cookie: of_requests.cookie_of_refused(request), ..reply }, response)
         }
-        Err(Failed::Flawed(flaw)) => {
-            (told_flawed(flaw, faults), response::to_flawed(request, flaw, faults))
-        }
-        Ok(passed) => serve(request, &passed, tables, faults),
     };
-    if takes_cookie_of_refused(reply.number, faults) {
-        reply.cookie = Place::of(cookie::of_refused(request.first, &request.body, faults));
-    }
     let (at, length) = reply.cookie.as_told();
-    reply.handed_out = hand_out(&request.body, at, length, faults);
+    reply.handed_out = hand_out(&request.body, at, length, rules.parts());
+    let response = octets(&response);
     reply.first = first_type(&response);
     reply.length = response.len();
-    let mut output = request.output.clone();
-    if faults.on(Fault::RestCleared) {
-        output.fill(0);
-    }
-    output[..response.len()].copy_from_slice(&response);
-    Handled { reply, output }
-}
-
-/// What is told of a chain's flaw.
-fn told_flawed(flaw: Flaw, faults: Faults) -> Reply<'static> {
-    let number = flaw.cause.number(faults);
-    let unsplit = faults.on(Fault::RequestUnsplit);
-    let untold = faults.on(Fault::RequestNoOrdinal);
-    let counted = faults.on(Fault::RequestFlawedCount);
-    Reply {
-        number: if unsplit { flaws::unsplit(number) } else { number },
-        offset: flaw.offset,
-        ordinal: if untold { 0 } else { flaw.ordinal },
-        payloads: if counted { flaw.ordinal } else { 0 },
-        ..Reply::default()
-    }
-}
-
-/// 0; only `refused-ordinal-told` reads the chain of a request that is refused before.
-fn ordinal_of_refused(request: &Request, faults: Faults) -> usize {
-    if faults.on(Fault::RefusedOrdinalTold) {
-        reader::read(request.first, &request.body, faults).ordinal
-    } else {
-        0
-    }
-}
-
-/// Whether a fault tells the cookie with this number, which is one of a refusal.
-fn takes_cookie_of_refused(number: u8, faults: Faults) -> bool {
-    match number {
-        1..=5 => faults.on(Fault::RefusedCookieTold),
-        7 | 61..=65 => faults.on(Fault::FlawedCookieHandedOut),
-        _ => false,
-    }
-}
-
-/// Steps 1 to 3 whatever the length of the IPsec list, as only `other-list-served` takes them.
-fn serve_with_any_list(request: &Request, tables: &mut Tables) {
-    if let Ok(passed) = request.check(tables, Faults::only(Fault::ServedAnyList)) {
-        serve(request, &passed, tables, Faults::NONE);
-    }
+    Handled { reply, output: of_requests.output(&request.output, &response) }
 }
 
 /// Steps 1 to 4.
@@ -85,52 +40,36 @@ fn serve<'a>(
     request: &Request,
     passed: &Passed<'a>,
     tables: &mut Tables,
-    faults: Faults,
-) -> (Reply<'a>, Vec<u8>) {
+    rules: &impl Rules,
+) -> (Reply<'a>, Vec<Notification>) {
+    let of_requests = rules.requests();
     let Passed { place, summary } = passed;
-    let tally_before = tables.ike.records[*place].unknown;
-    steps::add_unknown(&mut tables.ike_mut()[*place], summary, faults);
-    let mut reply =
-        Reply { payloads: summary.payloads, cookie: Place::of(summary.cookie), ..Reply::default() };
-    let mut standing = standing(request, *place, tables, faults);
-    let updated = steps::update(request, passed, tables, faults);
+    let updated = steps::update(request, passed, tables, rules);
     let record = &mut tables.ike_mut()[*place];
-    if updated.is_ok() || faults.on(Fault::UnfitList) {
-        let update = updated.unwrap_or(Effect::None);
-        let (list, left_off) = steps::list(record, request.id, summary, update, faults);
-        (reply.update, reply.list, reply.left_off) = (update as u8, list as u8, left_off);
-        (standing.update, standing.list) = (update, list);
+    steps::tally(record, summary, updated, rules);
+    let (mut list, mut left_off) = (Effect::None, 0);
+    let update = updated.unwrap_or(Effect::None);
+    if of_requests.looks_at_list(updated) {
+        (list, left_off) = steps::list(record, request.id, summary, update, of_requests);
     }
+    let reply = Reply {
+        update: update as u8,
+        list: list as u8,
+        left_off,
+        payloads: summary.payloads,
+        cookie: Place::of(summary.cookie),
+        ..Reply::default()
+    };
     match updated {
-        Ok(_) => (reply, response::to_done(request, summary, &standing, faults)),
+        Ok(_) => {
+            let served = Served { request, summary, update, list, record };
+            (reply, of_requests.to_done(&served))
+        }
         Err(unfit) => {
-            if faults.on(Fault::UnfitUntallied) {
-                record.unknown = tally_before;
-            }
-            let response = response::to_unfit(request, unfit, summary, faults);
-            (told_unfit(reply, unfit, faults), response)
+            let response = of_requests.to_unfit(request, unfit, summary);
+            (of_requests.reply_to_unfit(unfit, reply), response)
         }
     }
-}
-
-/// How a request stands to its record before steps 2 and 3.
-fn standing(request: &Request, place: usize, tables: &Tables, faults: Faults) -> Standing {
-    let record = &tables.ike.records[place];
-    Standing {
-        update: Effect::None,
-        list: Effect::None,
-        late: !steps::exceeds(request.id, record.update_mark, faults),
-        acceptable: tables.policy.accepts(&request.pair, faults),
-        moved: request.pair != record.pair,
-    }
-}
-
-/// The count of payloads and the cookie are told as with 0.
-fn told_unfit<'a>(reply: Reply<'a>, unfit: Unfit, faults: Faults) -> Reply<'a> {
-    let payloads = if faults.on(Fault::UnfitCount) { 0 } else { reply.payloads };
-    let cookie = if faults.on(Fault::UnfitCookie) { Place::default() } else { reply.cookie };
-    let ordinal = if faults.on(Fault::UnfitOrdinal) { payloads } else { 0 };
-    Reply { number: unfit as u8, payloads, cookie, ordinal, ..reply }
 }
 
 #[cfg(test)]
@@ -139,6 +78,7 @@ mod tests {
     use crate::address::AddressPair;
     use crate::agreed::Agreed;
     use crate::policy::Rule;
+    use crate::rules::Plain;
     use crate::tables::{IkeRecord, IpsecRecord, Record};
 
     const OLD: AddressPair = AddressPair { family: 4, source_port: 1, ..AddressPair::ZERO };
@@ -181,7 +121,7 @@ mod tests {
 
     /// Number, update and list.
     fn made(tables: &mut Tables, request: &Request) -> (u8, u8, u8) {
-        let Reply { number, update, list, .. } = handle(request, tables, Faults::NONE).reply;
+        let Reply { number, update, list, .. } = handle(request, tables, &Plain).reply;
         (number, update, list)
     }
 
@@ -255,10 +195,10 @@ mod tests {
     fn a_cookie_is_handed_out_of_the_body_unless_refused() {
         let cookie = [&[0, 0, 0x40, 0x11][..], &[5; 8]].concat();
         let sound = request(1, IPV6, &[&UPDATE, &cookie]);
-        let handed_out = handle(&sound, &mut tables(), Faults::NONE).reply.handed_out;
+        let handed_out = handle(&sound, &mut tables(), &Plain).reply.handed_out;
         assert_eq!(handed_out, Place::in_body(&sound.body, 16, 8));
         let flawed = request(1, NEW, &[&UPDATE, &cookie, &UPDATE]);
-        let handed_out = handle(&flawed, &mut tables(), Faults::NONE).reply.handed_out;
+        let handed_out = handle(&flawed, &mut tables(), &Plain).reply.handed_out;
         assert_eq!(handed_out, Place::default());
     }
 
@@ -276,7 +216,7 @@ mod tests {
     /// Checks the response to a request that is done and changes no table.
     fn leaves_tables(tables: &Tables, request: &Request, response: &[u8]) {
         let mut after = tables.clone();
-        let handled = handle(request, &mut after, Faults::NONE);
+        let handled = handle(request, &mut after, &Plain);
         assert_eq!(handled.reply.number, 0);
         assert_eq!(handled.response(), response);
         assert_eq!(handled.reply.first, if response.is_empty() { 0 } else { 41 });
@@ -324,7 +264,7 @@ mod tests {
         let mut tables = tables();
         let listing = request(5, NEW, &[&source, &address(1), &destination]);
         for list in [1, 2] {
-            let handled = handle(&listing, &mut tables, Faults::NONE);
+            let handled = handle(&listing, &mut tables, &Plain);
             assert_eq!((handled.reply.update, handled.reply.list), (0, list));
             assert_eq!(handled.response(), values(0));
         }
@@ -337,7 +277,7 @@ mod tests {
     fn refused_updates_get_no_lent_values() {
         let chain: [&[u8]; 3] = [&detection(4), &detection(5), &UPDATE];
         let request = request(1, IPV6, &chain);
-        let handled = handle(&request, &mut tables(), Faults::NONE);
+        let handled = handle(&request, &mut tables(), &Plain);
         assert_eq!(handled.reply.number, 9);
         assert_eq!(handled.response(), [0, 0, 0, 8, 0, 0, 0, 40]);
     }
@@ -351,7 +291,7 @@ mod tests {
         let asked: [&[u8]; 4] = [&cookie, &detection(5), &detection(4), &UPDATE];
         for asked in [&asked[..], &asked[..3]] {
             let request = request(0, NEW, asked);
-            let handled = handle(&request, &mut tables(), Faults::NONE);
+            let handled = handle(&request, &mut tables(), &Plain);
             assert_eq!(handled.response(), expected);
             assert_eq!((handled.reply.cookie.offset, handled.reply.cookie.length), (8, 64));
         }

@@ -47,7 +47,7 @@ impl<T: Copy> BetweenRules<T> {
 mod tests {
     use super::*;
     use crate::address::AddressPair;
-    use crate::faults::Faults;
+    use crate::rules::{Plain, PolicyRules};
 
     #[test]
     fn a_change_around_is_noticed() {
@@ -71,7 +71,7 @@ mod tests {
             let mut policy = Policy { count: 1, ..Policy::EMPTY };
             policy.rules[0] = rule;
             let pair = AddressPair { family, source: [1; 16], ..AddressPair::ZERO };
-            assert!(policy.accepts(&pair, Faults::NONE));
+            assert!(Plain.accepts(&policy, &pair));
         }
     }
 }

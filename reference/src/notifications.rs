@@ -3,20 +3,29 @@ use crate::address::{octet_count, AddressPair};
 use crate::chain::{NOTIFY, NO_NEXT_PAYLOAD};
 use crate::notify::{NotifyType, NOTIFY_LENGTH};
 
-/// A chain of notifications with these types and data; flags, protocol IDs and SPI sizes are 0.
+/// A notify type and its data, of a notification without an SPI.
+pub type Notification = (NotifyType, Vec<u8>);
+
+/// A chain of notifications with these types and data.
 pub fn octets<D: AsRef<[u8]>>(notifications: &[(NotifyType, D)]) -> Vec<u8> {
     let mut octets = Vec::new();
     for (place, (notify_type, data)) in notifications.iter().enumerate() {
         let is_last = place + 1 == notifications.len();
         let data = data.as_ref();
-        let length = (NOTIFY_LENGTH + data.len()) as u16;
-        octets.extend([if is_last { NO_NEXT_PAYLOAD } else { NOTIFY }, 0]);
-        octets.extend(length.to_be_bytes());
-        octets.extend([0, 0]);
-        octets.extend(notify_type.0.to_be_bytes());
+        octets.extend(header(is_last, *notify_type, data.len()));
         octets.extend_from_slice(data);
     }
     octets
+}
+
+/// "The payload chain": next type, flags, length, protocol ID, SPI size and notify type. "The critical bit of known
+/// types, the reserved bits and the protocol ID are .. written as 0", and so is the SPI size, since an "SPI size
+/// there other than 0" is malformed. "Type 0 ends the chain."
+pub fn header(is_last: bool, notify_type: NotifyType, size: usize) -> [u8; NOTIFY_LENGTH] {
+    let next = if is_last { NO_NEXT_PAYLOAD } else { NOTIFY };
+    let [length_high, length_low] = ((NOTIFY_LENGTH + size) as u16).to_be_bytes();
+    let [type_high, type_low] = notify_type.0.to_be_bytes();
+    [next, 0, length_high, length_low, 0, 0, type_high, type_low]
 }
 
 /// The first type of a chain of notifications.

@@ -1,56 +1,39 @@
-// Opening another IPsec record of an IKE record: the checks in their order, the place that is taken.
-use crate::address::AddressPair;
-use crate::calls::{refuse_if, Refusal};
-use crate::faults::{Fault, Faults};
-use crate::list_length::{self, User};
-use crate::tables::{find, free_place, IpsecRecord, Record, Tables};
+// Opening another IPsec record of an IKE record: the checks in their order, then the place that is taken.
+use crate::calls::Refusal;
+use crate::rules::TableRules;
+use crate::tables::{find, free_place, Tables};
 
-/// Checks 1, 4 (the owner), 11, 10; the new record takes the pair of its IKE record.
+#[derive(Debug, Clone, Copy, PartialEq, Eq)]
+pub enum Check {
+    Spi0,
+    Owner0,
+    List,
+    Owner,
+    InUse,
+    Full,
+}
+
 pub fn open_ipsec(
     tables: &mut Tables,
     spi: u32,
     owner: u64,
-    faults: Faults,
+    rules: &(impl TableRules + ?Sized),
 ) -> Result<(), Refusal> {
-    let no_owner = owner == 0 && !faults.on(Fault::Owner0Unknown);
-    refuse_if(spi == 0 || no_owner, Refusal::Argument)?;
-    let list = list_length::check(tables, User::OpeningIpsec, faults);
-    if !faults.on(Fault::ListAfterRecord) && !faults.on(Fault::OtherListOpened) {
-        list?;
-    }
-    let ike_place = find(&tables.ike.records, owner, faults).ok_or(Refusal::NoSuchRecord);
-    if !faults.on(Fault::OwnerLast) {
-        ike_place?;
-    }
-    if !faults.on(Fault::OtherListOpened) {
-        list?;
-    }
-    let elsewhere = find(&tables.ike.records, u64::from(spi), faults).is_some();
-    refuse_if(elsewhere && faults.on(Fault::SpiAcrossTables), Refusal::SpiInUse)?;
-    let place = place_for(&tables.ipsec.records, u64::from(spi), faults)?;
-    let mut pair = tables.ike.records[ike_place?].pair;
-    if faults.on(Fault::IpsecPairZero) {
-        pair = AddressPair::ZERO;
-    }
-    tables.ipsec_mut()[place] = IpsecRecord { spi, owner, pair };
-    list
-}
-
-/// The lowest free place, unless the SPI is in use in that table (11) or all places are (10).
-fn place_for<R: Record>(records: &[R], spi: u64, faults: Faults) -> Result<usize, Refusal> {
-    let place = free_place(records, faults).ok_or(Refusal::AllInUse);
-    if faults.on(Fault::FullFirst) {
-        place?;
-    }
-    refuse_if(find(records, spi, faults).is_some(), Refusal::SpiInUse)?;
-    place
+    let mut order = rules.order_of_opening().iter();
+    order.try_for_each(|&check| rules.check_opening(check, tables, (spi, owner)))?;
+    let ike_place = find(&tables.ike.records, owner, rules).ok_or(Refusal::NoSuchRecord)?;
+    let place = free_place(&tables.ipsec.records, rules).ok_or(Refusal::AllInUse)?;
+    tables.ipsec_mut()[place] = rules.new_ipsec(spi, owner, &tables.ike.records[ike_place]);
+    Ok(())
 }
 
 #[cfg(test)]
 mod tests {
     use super::*;
+    use crate::address::AddressPair;
     use crate::agreed::Agreed;
-    use crate::tables::IkeRecord;
+    use crate::rules::Plain;
+    use crate::tables::{IkeRecord, IpsecRecord, Record};
 
     const IPV4: AddressPair = AddressPair { family: 4, ..AddressPair::ZERO };
     const IPV6: AddressPair = AddressPair { family: 6, source: [9; 16], ..AddressPair::ZERO };
@@ -65,7 +48,7 @@ mod tests {
     }
 
     fn open(tables: &mut Tables, spi: u32, owner: u64) -> Result<(), Refusal> {
-        open_ipsec(tables, spi, owner, Faults::NONE)
+        open_ipsec(tables, spi, owner, &Plain)
     }
 
     #[test]

@@ -2,11 +2,9 @@
 // is put into its place, so that there is never one without the other.
 use crate::address::AddressPair;
 use crate::agreed::Agreed;
-use crate::calls::{refuse_if, Refusal};
-use crate::faults::{Fault, Faults};
-use crate::list_length::{self, User};
-use crate::opening_both_faults as faulty;
-use crate::tables::{find, free_place, IkeRecord, IpsecRecord, Record, Tables};
+use crate::calls::Refusal;
+use crate::rules::TableRules;
+use crate::tables::{free_place, Tables};
 
 /// What the call is given.
 #[repr(C)]
@@ -32,12 +30,6 @@ pub enum Check {
     ChildFull,
 }
 
-use Check::{ChildFull, ChildInUse, ChildSpi0, IkeFull, IkeInUse, IkeSpi0, List, Pair};
-
-/// 1, then 11 of each table, then 10 of each.
-pub const ORDER: [Check; 8] =
-    [IkeSpi0, Pair, ChildSpi0, List, IkeInUse, ChildInUse, IkeFull, ChildFull];
-
 /// One of the two records.
 #[derive(Debug, Clone, Copy, PartialEq, Eq)]
 pub enum Half {
@@ -46,102 +38,55 @@ pub enum Half {
 }
 
 /// Opens both records, or neither; of several failing checks the first is told.
-pub fn open_both(tables: &mut Tables, opening: &Opening, faults: Faults) -> Result<(), Refusal> {
-    let not_agreed = !opening.agreed.has_mobike(faults);
-    refuse_if(faults.on(Fault::OpenNeedsMobike) && not_agreed, Refusal::MobikeNotAgreed)?;
-    let failing = failing(tables, opening, faults);
-    let opens = |half| failing.is_empty() || faulty::stays(half, &failing, faults);
-    if failing.is_empty() {
-        faulty::touch_orphans(tables, opening, faults);
+pub fn open_both(
+    tables: &mut Tables,
+    opening: &Opening,
+    rules: &(impl TableRules + ?Sized),
+) -> Result<(), Refusal> {
+    let failing = failing(tables, opening, rules);
+    let ike = free_place(&tables.ike.records, rules);
+    if let Some(place) = ike.filter(|_| rules.opens(Half::Ike, &failing)) {
+        tables.ike_mut()[place] = rules.new_ike(&tables.ike.records[place], opening);
     }
-    // The IPsec record first: some faults look at what the IKE table held before.
-    if let Some(place) = child_place(tables, faults).filter(|_| opens(Half::Child)) {
-        tables.ipsec_mut()[place] = new_child(tables, place, opening, faults);
-    }
-    if let Some(place) = ike_place(tables, faults).filter(|_| opens(Half::Ike)) {
-        tables.ike_mut()[place] = new_ike(&tables.ike.records[place], opening, faults);
+    let child = free_place(&tables.ipsec.records, rules);
+    if let Some(place) = child.filter(|_| rules.opens(Half::Child, &failing)) {
+        rules.put_child(tables.ipsec_mut(), place, opening);
     }
     failing.first().map_or(Ok(()), |failed| Err(failed.refusal()))
 }
 
 /// The checks that fail, in their order.
-pub fn failing(tables: &Tables, opening: &Opening, faults: Faults) -> Vec<Check> {
-    let fails = |check: &Check| {
-        check.fails(tables, opening, faults)
-            || faulty::fails_besides(*check, tables, opening, faults)
-    };
-    faulty::order(faults).into_iter().filter(fails).collect()
+pub fn failing(
+    tables: &Tables,
+    opening: &Opening,
+    rules: &(impl TableRules + ?Sized),
+) -> Vec<Check> {
+    let order = rules.order_of_opening_both().iter().copied();
+    order.filter(|&check| rules.opening_both_fails(check, tables, opening)).collect()
 }
 
 impl Check {
     fn refusal(self) -> Refusal {
         match self {
-            IkeSpi0 | Pair | ChildSpi0 | List => Refusal::Argument,
-            IkeInUse | ChildInUse => Refusal::SpiInUse,
-            IkeFull | ChildFull => Refusal::AllInUse,
+            Check::IkeSpi0 | Check::Pair | Check::ChildSpi0 | Check::List => Refusal::Argument,
+            Check::IkeInUse | Check::ChildInUse => Refusal::SpiInUse,
+            Check::IkeFull | Check::ChildFull => Refusal::AllInUse,
         }
     }
-
-    fn fails(self, tables: &Tables, opening: &Opening, faults: Faults) -> bool {
-        let (ike, ipsec) = (&tables.ike.records, &tables.ipsec.records);
-        match self {
-            IkeSpi0 => opening.spi == 0,
-            Pair => !opening.pair.is_sound(faults),
-            ChildSpi0 => opening.child == 0,
-            List => list_length::check(tables, User::OpeningBoth, faults).is_err(),
-            IkeInUse => find(ike, opening.spi, faults).is_some(),
-            ChildInUse => find(ipsec, u64::from(opening.child), faults).is_some(),
-            IkeFull => free_place(ike, faults).is_none(),
-            ChildFull => free_place(ipsec, faults).is_none(),
-        }
-    }
-}
-
-/// The lowest free place of the IKE table.
-pub fn ike_place(tables: &Tables, faults: Faults) -> Option<usize> {
-    place(&tables.ike.records, Fault::BothIkeHighest, faults)
-}
-
-/// The lowest free place of the IPsec list.
-fn child_place(tables: &Tables, faults: Faults) -> Option<usize> {
-    if faults.on(Fault::ChildAtIkePlace) {
-        return ike_place(tables, faults);
-    }
-    place(&tables.ipsec.records, Fault::BothChildHighest, faults)
-}
-
-fn place<R: Record>(records: &[R], highest: Fault, faults: Faults) -> Option<usize> {
-    if faults.on(highest) {
-        records.iter().rposition(|record| !record.is_in_use())
-    } else {
-        free_place(records, faults)
-    }
-}
-
-/// The new IKE record, whatever was left in its place: no marks, an empty list, tally 0.
-fn new_ike(left: &IkeRecord, opening: &Opening, faults: Faults) -> IkeRecord {
-    let Opening { spi, agreed, pair, .. } = *opening;
-    let new = IkeRecord { spi, agreed: agreed.kept(faults), pair, ..IkeRecord::FREE };
-    faulty::ike(new, left, faults)
-}
-
-/// The new IPsec record: of the new IKE record, and with its pair.
-fn new_child(tables: &Tables, place: usize, opening: &Opening, faults: Faults) -> IpsecRecord {
-    let Opening { spi: owner, pair, child: spi, .. } = *opening;
-    faulty::child(IpsecRecord { spi, owner, pair }, tables, place, faults)
 }
 
 #[cfg(test)]
 mod tests {
     use super::*;
-    use crate::tables::{IKE_PLACES, IPSEC_PLACES};
+    use crate::rules::Plain;
+    use crate::tables::{IkeRecord, IpsecRecord, Record, IKE_PLACES, IPSEC_PLACES};
 
     const IPV4: AddressPair = AddressPair { family: 4, ..AddressPair::ZERO };
     const IPV6: AddressPair = AddressPair { family: 6, source: [9; 16], ..AddressPair::ZERO };
 
     fn open(tables: &mut Tables, spi: u64, pair: AddressPair, child: u32) -> Result<(), Refusal> {
         let agreed = Agreed { mobike: 2 };
-        open_both(tables, &Opening { spi, agreed, pair, child }, Faults::NONE)
+        open_both(tables, &Opening { spi, agreed, pair, child }, &Plain)
     }
 
     /// Asserts that the call is refused so and changes nothing.

@@ -1,10 +1,8 @@
 // Demand 3: the other orders of a list of requests, and what must be the same in them.
 use crate::address::AddressPair;
-use crate::faults::{Fault, Faults};
-use crate::handler::handle;
 use crate::reply::Handled;
 use crate::request::Request;
-use crate::steps::mark;
+use crate::rules::{OrderRules, Plain, Rules};
 use crate::tables::{find, Record, Tables};
 use std::collections::BTreeSet;
 
@@ -22,15 +20,15 @@ pub struct Orders {
 }
 
 impl Orders {
-    pub fn new(tables: &Tables, requests: &[Request], chance: &Order, faults: Faults) -> Self {
+    pub fn new(tables: &Tables, requests: &[Request], chance: &Order, rules: &impl Rules) -> Self {
         let spis = spis(tables);
         let freed_spis: BTreeSet<u64> =
-            spis.iter().copied().filter(|&spi| is_freed(tables, requests, spi, faults)).collect();
-        let none = BTreeSet::new();
-        let kept_spis = if faults.on(Fault::AnySequence) { &none } else { &spis };
+            spis.iter().copied().filter(|&spi| is_freed(tables, requests, spi, rules)).collect();
+        let kept_spis =
+            spis.iter().copied().filter(|&spi| rules.orders().keeps_sequence(spi)).collect();
         let others = &spis - &freed_spis;
         Orders {
-            kept: keeping(kept_spis, requests, chance),
+            kept: keeping(&kept_spis, requests, chance),
             freed: keeping(&others, requests, chance),
             freed_spis,
         }
@@ -57,49 +55,31 @@ fn keeping(spis: &BTreeSet<u64>, requests: &[Request], chance: &Order) -> Order 
 }
 
 /// Whether the SA's requests are all sound on these tables and no two have the same ID.
-fn is_freed(tables: &Tables, requests: &[Request], spi: u64, faults: Faults) -> bool {
+fn is_freed(tables: &Tables, requests: &[Request], spi: u64, rules: &impl Rules) -> bool {
     let own = || requests.iter().filter(move |request| request.spi == spi);
-    let updates_only = faults.on(Fault::UpdateIdsOnly);
-    let compared = own().filter(|request| !updates_only || carries_update(request, tables));
+    let all_sound = own().all(|request| request.is_sound(tables, rules));
     let mut ids = BTreeSet::new();
-    let all_differ = compared.map(|request| request.id).all(|id| ids.insert(id));
-    let distinct = all_differ || faults.on(Fault::EqualIdsFreed);
-    let sound = if faults.on(Fault::DoneIsSound) {
-        all_done(tables, requests, spi)
-    } else {
-        own().all(|request| request.is_sound(tables, faults))
-    };
-    distinct && (sound || faults.on(Fault::UnsoundFreed))
-}
-
-/// Whether the SA's requests get answer 0 as they stand, which only `done-is-sound` asks for.
-fn all_done(tables: &Tables, requests: &[Request], spi: u64) -> bool {
-    let mut tables = tables.clone();
-    let numbers = requests
-        .iter()
-        .filter(|request| request.spi == spi)
-        .map(|request| handle(request, &mut tables, Faults::NONE).reply.number);
-    numbers.filter(|&number| number != 0).count() == 0
+    let ids_differ = own().all(|request| ids.insert(request.id));
+    rules.orders().is_freed(all_sound, ids_differ)
 }
 
 fn carries_update(request: &Request, tables: &Tables) -> bool {
-    request.check(tables, Faults::NONE).is_ok_and(|passed| passed.summary.update)
+    request.check(tables, &Plain).is_ok_and(|passed| passed.summary.update)
 }
 
 /// The pair that a freed SA must end with.
-fn pair_at_end(tables: &Tables, requests: &[Request], spi: u64, faults: Faults) -> AddressPair {
-    let place = find(&tables.ike.records, spi, Faults::NONE).expect("an SA has a record");
+fn pair_at_end(
+    tables: &Tables,
+    requests: &[Request],
+    spi: u64,
+    rules: &(impl OrderRules + ?Sized),
+) -> AddressPair {
+    let place = find(&tables.ike.records, spi, &Plain).expect("an SA has a record");
     let record = &tables.ike.records[place];
-    let mut updates = requests.iter().filter(|it| it.spi == spi && carries_update(it, tables));
-    let greatest = if faults.on(Fault::LastUpdateWins) {
-        updates.next_back()
-    } else {
-        updates.max_by_key(|request| request.id)
-    };
-    let moves = |request: &&Request| {
-        mark(request.id) > record.update_mark || faults.on(Fault::FirstMarkIgnored)
-    };
-    greatest.filter(moves).map_or(record.pair, |request| request.pair)
+    let updates = requests.iter().filter(|it| it.spi == spi && carries_update(it, tables));
+    let deciding = rules.deciding(&updates.collect::<Vec<_>>());
+    let moving = deciding.filter(|request| rules.moves(request.id, record.update_mark));
+    moving.map_or(record.pair, |request| request.pair)
 }
 
 /// What a handler made of the requests in one order.
@@ -131,21 +111,21 @@ pub fn broken(
     tables: &Tables,
     requests: &[Request],
     chance: &Order,
-    faults: Faults,
+    rules: &impl Rules,
     mut handle: impl for<'a> FnMut(&'a Request, &mut Tables) -> Handled<'a>,
 ) -> Vec<String> {
-    let orders = Orders::new(tables, requests, chance, faults);
+    let orders = Orders::new(tables, requests, chance, rules);
     let sequence: Order = (0..requests.len()).collect();
     let again = with_other_outputs(requests);
     let original = make(tables, requests, &sequence, &mut handle);
     let kept = make(tables, &again, &orders.kept, &mut handle);
     let freed = make(tables, requests, &orders.freed, &mut handle);
     let mut broken = broken_if_kept(&original, &kept, &again);
-    broken.extend(broken_if_freed([&original, &freed], faults));
+    broken.extend(broken_if_freed([&original, &freed], rules.orders()));
     for &spi in &orders.freed_spis {
         let records = &freed.tables.ike.records;
-        let pair = find(records, spi, Faults::NONE).map(|place| records[place].pair);
-        if pair != Some(pair_at_end(tables, requests, spi, faults)) {
+        let pair = find(records, spi, &Plain).map(|place| records[place].pair);
+        if pair != Some(pair_at_end(tables, requests, spi, rules.orders())) {
             broken.push(format!("freed order: SA {spi} ends with another pair"));
         }
     }
@@ -181,13 +161,12 @@ fn broken_if_kept(original: &Made, kept: &Made, requests: &[Request]) -> Vec<Str
 }
 
 /// What the second half asks but for the pairs: same tables.
-fn broken_if_freed([original, freed]: [&Made; 2], faults: Faults) -> Option<String> {
+fn broken_if_freed(
+    [original, freed]: [&Made; 2],
+    rules: &(impl OrderRules + ?Sized),
+) -> Option<String> {
+    let same_tables = original.tables == freed.tables;
     let same_answers = original.handled.iter().zip(&freed.handled).all(|(a, b)| a.same_answer(b));
-    if original.tables != freed.tables {
-        Some("freed order: the tables end otherwise".to_string())
-    } else if faults.on(Fault::FreedAnswers) && !same_answers {
-        Some("freed order: some request gets another answer".to_string())
-    } else {
-        None
-    }
+    let broken = rules.breaks_freed(same_tables, same_answers);
+    broken.then(|| "freed order: the tables end otherwise".to_string())
 }

@@ -1,9 +1,9 @@
 // A reading in the form in which the two programs are compared: every field, unused ones included.
 use crate::address::{Address, AddressPair};
 use crate::cookie::{hand_out, handed_out, HandedOut};
-use crate::faults::Faults;
 use crate::given_list::{give, given_lists, GivenList, SeenList};
 use crate::reader::Reading;
+use crate::rules::Rules;
 use crate::show;
 use crate::summary::{Part, MAX_KEPT};
 
@@ -49,11 +49,11 @@ pub struct Outcome<'a> {
 
 impl<'a> Outcome<'a> {
     /// The reading of this body.
-    pub fn of(reading: &Reading<'a>, body: &'a [u8], faults: Faults) -> Self {
+    pub fn of(reading: &Reading<'a>, body: &'a [u8], rules: &impl Rules) -> Self {
         let summary = &reading.summary;
         let cookie = Place::of(summary.cookie);
         let mut outcome = Outcome {
-            number: reading.answer.number(faults),
+            number: reading.answer.number(rules.chain()),
             offset: reading.answer.offset(),
             ordinal: reading.ordinal,
             critical_type: reading.critical_type,
@@ -67,7 +67,9 @@ impl<'a> Outcome<'a> {
             nat_source: Place::of(summary.nat_source),
             nat_destination: Place::of(summary.nat_destination),
             cookie,
-            handed_out: handed_out(body, cookie, |at, length| hand_out(body, at, length, faults)),
+            handed_out: handed_out(body, cookie, |at, length| {
+                hand_out(body, at, length, rules.parts())
+            }),
             no_nats: Place::of(summary.no_nats.map(|no_nats| no_nats.part)),
             no_nats_pair: summary.no_nats.map(|no_nats| no_nats.pair).unwrap_or_default(),
             addresses: summary.addresses,
@@ -79,7 +81,7 @@ impl<'a> Outcome<'a> {
             outcome.address_list[place] = kept.address;
         }
         let told = outcome.told_list();
-        outcome.given_lists = given_lists(body, told, |seen| give(body, seen, faults));
+        outcome.given_lists = given_lists(body, told, |seen| give(body, seen, rules.parts()));
         outcome
     }
 

@@ -1,49 +1,35 @@
 // Which chains are plainly read: told from their payloads alone, not by writing them again.
-use crate::chain::{self, Class, Payload, HEADER_LENGTH, NOTIFY};
-use crate::faults::{Fault, Faults};
-use crate::notify::{Notify, NotifyType};
+use crate::chain::{self, Payload, NOTIFY};
+use crate::notify::NotifyType;
 use crate::reader::{self, Answer};
-use crate::summary::MAX_KEPT;
+use crate::rules::{ChainRules, Plain, RoundTripRules, Rules};
 
-/// Whether the chain is read, and has the writer's order and payloads only, with zero flags and
-/// protocol IDs, one NAT source and one NAT destination or neither, and at most 16 addresses.
-pub fn plainly_read(first: u8, body: &[u8], faults: Faults) -> bool {
-    if reader::read(first, body, faults).answer != Answer::Read {
+/// Whether the chain is read, and has what the writer writes and nothing else.
+pub fn plainly_read(first: u8, body: &[u8], rules: &impl Rules) -> bool {
+    if reader::read(first, body, rules.chain()).answer != Answer::Read {
         return false;
     }
-    let mut payloads = chain::split(first, body).payloads;
-    payloads.retain(|payload| !is_let_through(payload, faults));
-    let types: Option<Vec<_>> = payloads.iter().map(|it| plain_type(it, faults)).collect();
-    types.is_some_and(|types| {
-        (has_order(&types) || faults.on(Fault::PlainAnyOrder))
-            && has_nat_kinds(&types, faults)
-            && has_few_addresses(&types, faults)
-            && !is_wrongly_refused(&types, faults)
+    let rules = rules.round_trips();
+    rules.written_types(&chain::split(first, body).payloads).is_some_and(|types| {
+        let times = |kind| types.iter().filter(|&&it| it == kind).count();
+        let sources = times(NotifyType::NAT_DETECTION_SOURCE_IP);
+        let destinations = times(NotifyType::NAT_DETECTION_DESTINATION_IP);
+        let addresses = types.iter().filter(|it| it.is_additional_address()).count();
+        rules.has_order(&types)
+            && rules.has_kinds(sources, destinations)
+            && rules.has_few(addresses)
     })
 }
 
-/// The notify type of a payload that has nothing but what the writer writes.
-fn plain_type(payload: &Payload, faults: Faults) -> Option<NotifyType> {
-    let ignored_flags = match () {
-        () if faults.on(Fault::PlainReserved) => 0x7f,
-        () if faults.on(Fault::PlainCritical) => 0x80,
-        () => 0,
-    };
-    let zero_flags = payload.flags & !ignored_flags == 0;
-    let notify_type = notify_type(payload)?;
-    let zero_protocol = payload.octets[HEADER_LENGTH] == 0 || faults.on(Fault::PlainProtocol);
-    let written = place_in_order(notify_type).is_some();
-    (zero_flags && zero_protocol && written).then_some(notify_type)
-}
-
-fn notify_type(payload: &Payload) -> Option<NotifyType> {
+/// The notify type of a payload, if it is a Notify.
+pub fn notify_type(payload: &Payload) -> Option<NotifyType> {
     let is_notify = payload.payload_type == NOTIFY;
-    let notify = is_notify.then(|| Notify::parse(payload, Faults::NONE))?;
+    let notify = is_notify.then(|| Plain.notify(payload))?;
     notify.map(|notify| notify.notify_type)
 }
 
 /// None of types that the writer never writes.
-fn place_in_order(notify_type: NotifyType) -> Option<u8> {
+pub fn place_in_order(notify_type: NotifyType) -> Option<u8> {
     match notify_type {
         NotifyType::UPDATE_SA_ADDRESSES => Some(0),
         NotifyType::NO_NATS_ALLOWED => Some(1),
@@ -54,54 +40,6 @@ fn place_in_order(notify_type: NotifyType) -> Option<u8> {
         NotifyType::COOKIE2 => Some(5),
         _ => None,
     }
-}
-
-fn has_order(types: &[NotifyType]) -> bool {
-    types.is_sorted_by_key(|&notify_type| place_in_order(notify_type))
-}
-
-fn has_nat_kinds(types: &[NotifyType], faults: Faults) -> bool {
-    let times = |kind| types.iter().filter(|&&it| it == kind).count();
-    let sources = times(NotifyType::NAT_DETECTION_SOURCE_IP);
-    let destinations = times(NotifyType::NAT_DETECTION_DESTINATION_IP);
-    match (sources, destinations) {
-        (0, 0) | (1, 1) => true,
-        (1, 0) => faults.on(Fault::PlainSourceAlone),
-        (0, 1) => faults.on(Fault::PlainDestinationAlone),
-        (2, 1) => faults.on(Fault::PlainTwoSources),
-        _ => false,
-    }
-}
-
-fn has_few_addresses(types: &[NotifyType], faults: Faults) -> bool {
-    let most = if faults.on(Fault::PlainSeventeen) { MAX_KEPT + 1 } else { MAX_KEPT };
-    types.iter().filter(|it| it.is_additional_address()).count() <= most
-}
-
-/// The payloads that a fault doesn't look at.
-fn is_let_through(payload: &Payload, faults: Faults) -> bool {
-    let notify_type = notify_type(payload);
-    match Class::of(payload.payload_type, faults) {
-        Class::Skipped => faults.on(Fault::PlainSkipped),
-        Class::Unknown => faults.on(Fault::PlainUnknown),
-        Class::Notify if notify_type == Some(NotifyType::MOBIKE_SUPPORTED) => {
-            faults.on(Fault::PlainMobike)
-        }
-        Class::Notify => {
-            faults.on(Fault::PlainUnknownNotify) && notify_type.is_some_and(|it| !it.is_known())
-        }
-    }
-}
-
-/// The chains that a fault says are not plainly read.
-fn is_wrongly_refused(types: &[NotifyType], faults: Faults) -> bool {
-    let families = types.iter().filter(|it| it.is_additional_address());
-    let none = NotifyType::NO_ADDITIONAL_ADDRESSES;
-    (faults.on(Fault::PlainFamilyOrder) && !families.is_sorted_by_key(|it| it.0))
-        || (faults.on(Fault::PlainNotEmpty) && types.is_empty())
-        || (faults.on(Fault::PlainWithoutNone) && types.contains(&none))
-        || (faults.on(Fault::PlainNeedsUpdate)
-            && types.first() != Some(&NotifyType::UPDATE_SA_ADDRESSES))
 }
 
 #[cfg(test)]
@@ -121,7 +59,7 @@ mod tests {
 
     fn is_plain(notifications: &[(NotifyType, &[u8])]) -> bool {
         let body = octets(notifications);
-        plainly_read(first_type(&body), &body, Faults::NONE)
+        plainly_read(first_type(&body), &body, &Plain)
     }
 
     #[test]
@@ -152,14 +90,14 @@ mod tests {
         for bit in 0..8 {
             let mut changed = update.clone();
             changed[1] = 1 << bit;
-            assert!(!plainly_read(41, &changed, Faults::NONE));
+            assert!(!plainly_read(41, &changed, &Plain));
         }
         let mut changed = update.clone();
         changed[4] = 1;
-        assert!(!plainly_read(41, &changed, Faults::NONE));
-        assert!(!plainly_read(41, &[&update[..], &[0]].concat(), Faults::NONE));
-        assert!(!plainly_read(41, &update[..7], Faults::NONE));
-        assert!(!plainly_read(33, &[0, 0, 0, 4], Faults::NONE));
-        assert!(!plainly_read(200, &[0, 0, 0, 4], Faults::NONE));
+        assert!(!plainly_read(41, &changed, &Plain));
+        assert!(!plainly_read(41, &[&update[..], &[0]].concat(), &Plain));
+        assert!(!plainly_read(41, &update[..7], &Plain));
+        assert!(!plainly_read(33, &[0, 0, 0, 4], &Plain));
+        assert!(!plainly_read(200, &[0, 0, 0, 4], &Plain));
     }
 }

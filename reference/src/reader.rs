@@ -1,9 +1,7 @@
 // The payload reader: the answer to a first payload type and a body, with what the chain says.
 use crate::chain;
-use crate::cookie;
-use crate::critical;
-use crate::faults::{Fault, Faults};
 use crate::flaws::{self, Flaw};
+use crate::rules::ChainRules;
 use crate::summary::{summarise, Summary};
 
 pub const MAX_BODY: usize = 4096;
@@ -16,11 +14,11 @@ pub enum Answer {
 }
 
 impl Answer {
-    pub fn number(self, faults: Faults) -> u8 {
+    pub fn number(self, rules: &(impl ChainRules + ?Sized)) -> u8 {
         match self {
             Answer::Read => 0,
             Answer::BodyTooLong => 3,
-            Answer::Flawed(flaw) => flaw.cause.number(faults),
+            Answer::Flawed(flaw) => rules.number(flaw.cause),
         }
     }
 
@@ -43,44 +41,34 @@ pub struct Reading<'a> {
     pub summary: Summary<'a>,
 }
 
-impl Reading<'_> {
-    fn refused(answer: Answer) -> Self {
-        Reading { answer, ordinal: 0, critical_type: 0, summary: Summary::default() }
-    }
-}
-
-pub fn read(first: u8, body: &[u8], faults: Faults) -> Reading<'_> {
-    let limit = if faults.on(Fault::LongBody) { MAX_BODY + 1 } else { MAX_BODY };
+pub fn read<'a>(first: u8, body: &'a [u8], rules: &(impl ChainRules + ?Sized)) -> Reading<'a> {
     let chain = chain::split(first, body);
-    let unflawed_ordinal = |fault| if faults.on(fault) { chain.payloads.len() } else { 0 };
-    if body.len() > limit {
-        let ordinal = unflawed_ordinal(Fault::LongBodyOrdinal);
-        return Reading { ordinal, ..Reading::refused(Answer::BodyTooLong) };
+    let unflawed = |answer, summary| {
+        let ordinal = rules.ordinal_without_flaw(&chain);
+        Reading { answer, ordinal, critical_type: 0, summary }
+    };
+    if body.len() > rules.longest_body() {
+        return unflawed(Answer::BodyTooLong, Summary::default());
     }
-    match flaws::told(&chain, faults) {
-        Some(flaw) => {
-            let mut reading = Reading::refused(Answer::Flawed(flaw));
-            reading.ordinal = flaw.ordinal;
-            reading.critical_type = critical::told_type(flaw, &chain, faults);
-            if faults.on(Fault::FlawedCookieTold) {
-                reading.summary.cookie = cookie::of_refused(first, body, faults);
-            }
-            if faults.on(Fault::FlawedCount) {
-                reading.summary.payloads = flaw.ordinal;
-            }
-            reading
-        }
-        None => {
-            let ordinal = unflawed_ordinal(Fault::ReadOrdinal);
-            let summary = summarise(&chain, faults);
-            Reading { ordinal, summary, ..Reading::refused(Answer::Read) }
-        }
+    match flaws::told(&chain, rules) {
+        None => unflawed(Answer::Read, summarise(&chain, rules)),
+        Some(flaw) => Reading {
+            answer: Answer::Flawed(flaw),
+            ordinal: flaw.ordinal,
+            critical_type: rules.type_told(&flaw, &chain),
+            summary: Summary {
+                payloads: rules.count_of_flawed(&flaw),
+                cookie: rules.cookie_of_flawed(first, body),
+                ..Summary::default()
+            },
+        },
     }
 }
 
 #[cfg(test)]
 mod tests {
     use super::*;
+    use crate::rules::Plain;
     use crate::summary::Part;
 
     const UPDATE: [u8; 8] = [0, 0, 0, 8, 0, 0, 0x40, 0x10];
@@ -93,13 +81,13 @@ mod tests {
 
     /// Number, offset and ordinal.
     fn answer(first: u8, body: &[u8]) -> (u8, usize, usize) {
-        let Reading { answer, ordinal, .. } = read(first, body, Faults::NONE);
-        (answer.number(Faults::NONE), answer.offset(), ordinal)
+        let Reading { answer, ordinal, .. } = read(first, body, &Plain);
+        (answer.number(&Plain), answer.offset(), ordinal)
     }
 
     #[test]
     fn row_a_empty_chain() {
-        let reading = read(0, &[], Faults::NONE);
+        let reading = read(0, &[], &Plain);
         assert_eq!(reading.answer, Answer::Read);
         assert_eq!(reading.summary.payloads, 0);
     }
@@ -111,7 +99,7 @@ mod tests {
 
     #[test]
     fn row_c_one_update() {
-        let reading = read(41, &UPDATE, Faults::NONE);
+        let reading = read(41, &UPDATE, &Plain);
         assert_eq!(reading.answer, Answer::Read);
         assert_eq!(reading.summary.payloads, 1);
         assert!(reading.summary.update);
@@ -130,7 +118,7 @@ mod tests {
     #[test]
     fn row_f_cookie_of_64() {
         let body = cookie(64);
-        let reading = read(41, &body, Faults::NONE);
+        let reading = read(41, &body, &Plain);
         assert_eq!(reading.answer, Answer::Read);
         assert_eq!(reading.summary.cookie, Some(Part { offset: 8, octets: &body[8..] }));
     }
@@ -142,7 +130,7 @@ mod tests {
 
     #[test]
     fn only_7_tells_a_type() {
-        let told = |first, body| read(first, body, Faults::NONE).critical_type;
+        let told = |first, body| read(first, body, &Plain).critical_type;
         assert_eq!(told(33, &[199, 0, 0, 4, 41, 0x80, 0, 4]), 199);
         assert_eq!(told(199, &[0, 0x80, 0, 5]), 0);
         assert_eq!(told(199, &[0, 0, 0, 4]), 0);
@@ -151,7 +139,7 @@ mod tests {
 
     #[test]
     fn row_h_unknown_not_critical() {
-        let reading = read(200, &[0, 0, 0, 4], Faults::NONE);
+        let reading = read(200, &[0, 0, 0, 4], &Plain);
         assert_eq!(reading.answer, Answer::Read);
         assert_eq!((reading.summary.payloads, reading.summary.unknown_payloads), (1, 1));
     }
@@ -161,7 +149,7 @@ mod tests {
         let body = [
             0x29, 0, 0, 8, 0, 0, 0x40, 0x10, 0, 0, 0, 16, 0, 0, 0x40, 0x11, 1, 2, 3, 4, 5, 6, 7, 8,
         ];
-        let summary = read(41, &body, Faults::NONE).summary;
+        let summary = read(41, &body, &Plain).summary;
         assert_eq!(summary.payloads, 2);
         assert!(summary.update);
         assert_eq!(summary.cookie, Some(Part { offset: 16, octets: &[1, 2, 3, 4, 5, 6, 7, 8] }));

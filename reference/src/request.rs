@@ -1,13 +1,12 @@
 // A request as it is given: checks 1 to 7 in their order, and whether it is sound.
 use crate::address::AddressPair;
-use crate::calls::{refuse_if, Refusal};
-use crate::faults::{Fault, Faults};
+use crate::calls::{refuse_if, Refusal, User};
 use crate::flaws::Flaw;
-use crate::list_length::{self, User};
-use crate::reader::{self, Answer, MAX_BODY};
+use crate::reader::{self, Answer};
+use crate::rules::{ChainRules, RequestRules, Rules, TableRules};
 use crate::steps;
 use crate::summary::Summary;
-use crate::tables::{find, same_spi, IkeRecord, Record, Tables};
+use crate::tables::{find, Tables};
 
 pub const NAT_VALUE_LENGTH: usize = 20;
 
@@ -27,6 +26,24 @@ pub struct Request {
     pub body: Vec<u8>,
     /// What the output holds before the call.
     pub output: Vec<u8>,
+}
+
+#[derive(Debug, Clone, Copy, PartialEq, Eq)]
+pub enum Check {
+    /// 1, of all but the IPsec list.
+    Argument,
+    /// 1, of the IPsec list.
+    List,
+    /// 2.
+    Output,
+    /// 3.
+    Body,
+    /// 4.
+    Record,
+    /// 5.
+    Agreed,
+    /// 61 to 65 and 7.
+    Chain,
 }
 
 /// A request that passed the checks: its record's place, and what its chain says.
@@ -50,68 +67,66 @@ impl From<Refusal> for Failed {
 }
 
 impl Request {
-    /// Checks 1 to 7 in number order, 61 to 65 in the place of 6, and these and 7 as the reader tells
-    /// them.
-    pub fn check(&self, tables: &Tables, faults: Faults) -> Result<Passed<'_>, Failed> {
-        let list = list_length::check(tables, User::Handler, faults);
-        self.check_arguments(list, faults)?;
-        let too_long = refuse_if(self.body.len() > MAX_BODY, Refusal::BodyTooLong);
-        if !faults.on(Fault::BodyLast) {
-            too_long?;
+    /// Checks 1 to 7 in their order, 61 to 65 in the place of 6, and these and 7 as the reader tells them.
+    pub fn check(&self, tables: &Tables, rules: &impl Rules) -> Result<Passed<'_>, Failed> {
+        let place = find(&tables.ike.records, self.spi, rules.tables());
+        let mut summary = None;
+        for check in rules.requests().order() {
+            match check {
+                Check::Chain => summary = Some(self.summary(rules)?),
+                _ => self.check_refusal(*check, place, tables, rules)?,
+            }
         }
-        let place = self.place(&tables.ike.records, faults)?;
-        let kept = tables.ike.records[place].agreed;
-        let agreed = refuse_if(!kept.has_mobike(faults), Refusal::MobikeNotAgreed);
-        if !faults.on(Fault::AgreementLast) {
-            agreed?;
-        }
-        too_long?;
-        let reading = reader::read(self.first, &self.body, faults);
-        if let Answer::Flawed(flaw) = reading.answer {
-            return Err(Failed::Flawed(flaw));
-        }
-        agreed?;
-        if reading.summary.update || !faults.on(Fault::ServedWithoutUpdate) {
-            list?;
-        }
-        Ok(Passed { place, summary: reading.summary })
+        let place = place.expect("check 4 passed");
+        Ok(Passed { place, summary: summary.expect("the chain was checked") })
     }
 
-    /// Checks 1 and 2, with that of the IPsec list.
-    fn check_arguments(&self, list: Result<(), Refusal>, faults: Faults) -> Result<(), Refusal> {
-        let lent = [&self.nat_source, &self.nat_destination];
-        let lent = if faults.on(Fault::NatSourceLengthOnly) { &lent[..1] } else { &lent[..] };
-        let of_other_length = lent.iter().any(|value| value.len() != NAT_VALUE_LENGTH);
-        let unsound = self.spi == 0 || !self.pair.is_sound(faults) || of_other_length;
-        let too_short = refuse_if(self.output.len() < LEAST_OUTPUT, Refusal::OutputTooShort);
-        if faults.on(Fault::OutputFirst) {
-            too_short?;
+    /// What the chain says, unless 61 to 65 or 7 is told of it.
+    fn summary(&self, rules: &impl Rules) -> Result<Summary<'_>, Failed> {
+        let reading = reader::read(self.first, &self.body, rules.chain());
+        match reading.answer {
+            Answer::Flawed(flaw) => Err(Failed::Flawed(flaw)),
+            Answer::Read | Answer::BodyTooLong => Ok(reading.summary),
         }
-        refuse_if(unsound, Refusal::Argument)?;
-        if faults.on(Fault::ServedListAfterOutput) {
-            too_short?;
-        }
-        if !faults.on(Fault::ServedListLast) && !faults.on(Fault::ServedWithoutUpdate) {
-            list?;
-        }
-        too_short
     }
 
-    /// Check 4.
-    fn place(&self, records: &[IkeRecord], faults: Faults) -> Result<usize, Refusal> {
-        let agreed = |record: &IkeRecord| {
-            let meant = record.is_in_use() && same_spi(record.spi, self.spi, faults);
-            meant && record.agreed.has_mobike(faults)
-        };
-        let twin =
-            if faults.on(Fault::AgreedTwin) { records.iter().position(agreed) } else { None };
-        twin.or(find(records, self.spi, faults)).ok_or(Refusal::NoSuchRecord)
+    /// One of 1 to 5, with the place of the record that is meant.
+    fn check_refusal(
+        &self,
+        check: Check,
+        place: Option<usize>,
+        tables: &Tables,
+        rules: &impl Rules,
+    ) -> Result<(), Refusal> {
+        let (of_tables, list) = (rules.tables(), tables.ipsec.records.len());
+        let is_agreed = |place: usize| of_tables.is_yes(tables.ike.records[place].agreed.mobike);
+        let longest = rules.chain().longest_body();
+        match check {
+            Check::Argument => refuse_if(!self.has_sound_arguments(rules), Refusal::Argument),
+            Check::List => {
+                refuse_if(!of_tables.allows_list(User::Handler, list), Refusal::Argument)
+            }
+            Check::Output => refuse_if(self.output.len() < LEAST_OUTPUT, Refusal::OutputTooShort),
+            Check::Body => refuse_if(self.body.len() > longest, Refusal::BodyTooLong),
+            Check::Record => refuse_if(place.is_none(), Refusal::NoSuchRecord),
+            Check::Agreed => refuse_if(!place.is_some_and(is_agreed), Refusal::MobikeNotAgreed),
+            // As `summary` tells it.
+            Check::Chain => Ok(()),
+        }
     }
 
-    /// Whether checks 1 to 7 pass and, if it carries an update, 8 and 9 would, whatever the mark.
-    pub fn is_sound(&self, tables: &Tables, faults: Faults) -> bool {
-        self.check(tables, faults).is_ok_and(|passed| {
-            !passed.summary.update || steps::is_fit(self, &passed, tables, faults).is_ok()
+    /// 1: "family not 4 or 6, IPv4 tail not zero, an SPI of 0, .. a lent NAT value not of 20 octets".
+    fn has_sound_arguments(&self, rules: &impl Rules) -> bool {
+        self.spi != 0
+            && rules.tables().is_pair_sound(&self.pair)
+            && rules.requests().allows_values(&self.nat_source, &self.nat_destination)
+    }
+
+    /// "A request is sound if checks 1 to 7 pass and, where it carries an update, those of 8 and 9 would pass too,
+    /// whatever the mark."
+    pub fn is_sound(&self, tables: &Tables, rules: &impl Rules) -> bool {
+        self.check(tables, rules).is_ok_and(|passed| {
+            !passed.summary.update || steps::is_fit(self, &passed, tables, rules).is_ok()
         })
     }
 }

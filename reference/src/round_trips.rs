@@ -1,9 +1,9 @@
 // Round trips: a request that is written and then read, and a chain that is read and then written.
 use crate::address::{Address, AddressPair};
 use crate::asking::{Arguments, Ask, LEAST_OUTPUT};
-use crate::faults::{Fault, Faults};
 use crate::outcome::Outcome;
 use crate::reader;
+use crate::rules::{RoundTripRules, Rules};
 use crate::show;
 use crate::summary::MAX_KEPT;
 use crate::writer::{self, Written};
@@ -15,15 +15,15 @@ pub trait Program {
 }
 
 /// This program.
-pub struct Model(pub Faults);
+pub struct Model<'r, R>(pub &'r R);
 
-impl Program for Model {
+impl<R: Rules> Program for Model<'_, R> {
     fn read<'a>(&self, first: u8, body: &'a [u8]) -> Outcome<'a> {
-        Outcome::of(&reader::read(first, body, self.0), body, self.0)
+        Outcome::of(&reader::read(first, body, self.0.chain()), body, self.0)
     }
 
     fn write(&self, arguments: &Arguments) -> Written {
-        writer::write(arguments, self.0)
+        writer::write(arguments, self.0.writer())
     }
 }
 
@@ -67,28 +67,21 @@ impl Content {
     }
 
     /// Of arguments that pass the writer's checks.
-    fn asked(arguments: &Arguments, faults: Faults) -> Self {
-        let Ask { update, no_nats, nat_source, nat_destination, no_additional, .. } = arguments.ask;
-        let value = |asked, value: &[u8]| {
-            if asked || faults.on(Fault::AskedValuesAlways) {
-                value.to_vec()
-            } else {
-                vec![]
-            }
-        };
-        let list = asked_list(arguments, faults);
-        let has_pair = no_nats || faults.on(Fault::AskedPairAlways);
+    fn asked(arguments: &Arguments, rules: &(impl RoundTripRules + ?Sized)) -> Self {
+        let Ask { update, no_nats, nat_source, nat_destination, no_additional, count } =
+            arguments.ask;
+        let list = rules.asked_list(arguments);
         Content {
             number: 0,
-            payloads: asked_payloads(arguments, faults),
+            payloads: rules.asked_payloads(arguments),
             unknown: 0,
             update: u8::from(update),
             no_additional: u8::from(no_additional),
             no_nats,
-            pair: if has_pair { arguments.pair } else { AddressPair::ZERO },
-            nat_source: value(nat_source, &arguments.nat_source),
-            nat_destination: value(nat_destination, &arguments.nat_destination),
-            addresses: usize::from(arguments.ask.count),
+            pair: rules.asked_pair(arguments),
+            nat_source: rules.asked_value(nat_source, &arguments.nat_source),
+            nat_destination: rules.asked_value(nat_destination, &arguments.nat_destination),
+            addresses: usize::from(count),
             families: list.map(|address| address.family),
             list,
             cookie: arguments.cookie.clone(),
@@ -118,28 +111,10 @@ impl Content {
     }
 }
 
-/// The addresses asked for, and 0 past them.
-fn asked_list(arguments: &Arguments, faults: Faults) -> [Address; MAX_KEPT] {
-    let mut list = arguments.addresses;
-    if !faults.on(Fault::AskedPastCount) {
-        list[arguments.asked_addresses(faults).len()..].fill(Address::ZERO);
-    }
-    list
-}
-
-/// How many payloads are asked for.
-fn asked_payloads(arguments: &Arguments, faults: Faults) -> usize {
-    let Ask { update, no_nats, nat_source, nat_destination, no_additional, count } = arguments.ask;
-    let cookie = !arguments.cookie.is_empty();
-    let single = [update, no_nats, nat_source, nat_destination, no_additional, cookie];
-    let once = faults.on(Fault::AskedListOnce);
-    let of_list = if once { count.min(1) } else { count };
-    single.into_iter().filter(|&asked| asked).count() + usize::from(of_list)
-}
-
 /// What reading what was written must give: what was asked for, and none if it isn't written.
-pub fn expected(arguments: &Arguments, faults: Faults) -> Option<Content> {
-    arguments.check(faults).is_ok().then(|| Content::asked(arguments, faults))
+pub fn expected(arguments: &Arguments, rules: &impl Rules) -> Option<Content> {
+    let asked = || Content::asked(arguments, rules.round_trips());
+    arguments.check(rules.writer()).is_ok().then(asked)
 }
 
 /// What the program reads of what it writes; none if it doesn't write it.

@@ -1,9 +1,9 @@
 // Steps 1 to 3 of a request that passed its checks: the tally, the update and the address list.
 use crate::address::{Address, AddressPair};
-use crate::faults::{Fault, Faults};
 use crate::request::{Passed, Request};
-use crate::summary::{Summary, MAX_KEPT};
-use crate::tables::{same_spi, IkeRecord, Record, Tables};
+use crate::rules::{PolicyRules, RequestRules, Rules, TableRules};
+use crate::summary::Summary;
+use crate::tables::{IkeRecord, Tables};
 
 /// What became of an update or of an address list.
 #[derive(Debug, Clone, Copy, PartialEq, Eq)]
@@ -21,66 +21,36 @@ pub enum Unfit {
     NotAcceptable = 9,
 }
 
-/// A message ID as marks keep it.
+/// A message ID as marks keep it; 0 is none.
 pub fn mark(id: u32) -> u64 {
     u64::from(id) + 1
 }
 
-/// Whether the ID exceeds the mark; every ID exceeds none.
-pub fn exceeds(id: u32, kept: u64, faults: Faults) -> bool {
-    match kept {
-        0 if faults.on(Fault::NoneIsId0) => id > 0,
-        kept if faults.on(Fault::EqualIdNew) => mark(id) >= kept,
-        kept => mark(id) > kept,
-    }
-}
-
-/// Step 1.
-pub fn add_unknown(record: &mut IkeRecord, summary: &Summary, faults: Faults) {
-    let mut count = (summary.unknown_payloads + summary.unknown_notifies) as u32;
-    let keepalive = summary.has_both_nat_kinds() && !summary.update;
-    if keepalive && faults.on(Fault::KeepaliveTallied) {
-        count += 2;
-    }
-    record.unknown = match record.unknown {
-        tally if faults.on(Fault::TallyWraps) => tally.wrapping_add(count),
-        tally if faults.on(Fault::TallyOnce) => tally.saturating_add(count.min(1)),
-        tally => tally.saturating_add(count),
-    };
-}
-
-/// What 8 and 9 are about: NO_NATS_ALLOWED first, then the policy.
+/// What 8 and 9 are about.
 pub fn is_fit(
     request: &Request,
     passed: &Passed,
     tables: &Tables,
-    faults: Faults,
+    rules: &impl Rules,
 ) -> Result<(), Unfit> {
+    let of_requests = rules.requests();
     let old = tables.ike.records[passed.place].pair;
-    let seen = if faults.on(Fault::NoNatsOldPair) { old } else { request.pair };
+    let seen = of_requests.compared(old, request.pair);
     let no_nats = passed.summary.no_nats;
-    let unaltered = no_nats.is_none_or(|no_nats| same_path(no_nats.pair, seen, faults));
-    let acceptable = tables.policy.accepts(&request.pair, faults);
-    if faults.on(Fault::PolicyFirst) && !acceptable {
-        Err(Unfit::NotAcceptable)
-    } else if !unaltered {
-        Err(Unfit::Altered)
-    } else if !acceptable {
-        Err(Unfit::NotAcceptable)
-    } else {
-        Ok(())
-    }
+    let altered = no_nats.is_some_and(|no_nats| !of_requests.same_path(no_nats.pair, seen));
+    let acceptable = rules.policy().accepts(&tables.policy, &request.pair);
+    of_requests.fitness(altered, acceptable)
 }
 
-/// Whether NO_NATS_ALLOWED tells the same addresses and ports; its length tells its family.
-fn same_path(mut told: AddressPair, seen: AddressPair, faults: Faults) -> bool {
-    if faults.on(Fault::NoNatsFamily) {
-        told.family = seen.family;
-    }
-    if faults.on(Fault::NoNatsPorts) {
-        (told.source_port, told.destination_port) = (seen.source_port, seen.destination_port);
-    }
-    told == seen
+/// Step 1, after step 2 has come to this.
+pub fn tally(
+    record: &mut IkeRecord,
+    summary: &Summary,
+    updated: Result<Effect, Unfit>,
+    rules: &impl Rules,
+) {
+    let unknown = rules.requests().unknown(summary);
+    record.unknown = rules.requests().tally(record.unknown, unknown, updated);
 }
 
 /// Step 2.
@@ -88,80 +58,32 @@ pub fn update(
     request: &Request,
     passed: &Passed,
     tables: &mut Tables,
-    faults: Faults,
+    rules: &impl Rules,
 ) -> Result<Effect, Unfit> {
-    if faults.on(Fault::ServedCountCut) {
-        tables.policy.cut_count();
+    let of_requests = rules.requests();
+    let fit = is_fit(request, passed, tables, rules);
+    if !of_requests.has_update(&passed.summary) {
+        return of_requests.without_update(fit);
     }
-    let fit = is_fit(request, passed, tables, faults);
-    if !passed.summary.update {
-        return without_update(request, passed, fit, tables, faults);
+    if !of_requests.exceeds(request.id, tables.ike.records[passed.place].update_mark) {
+        return of_requests.stale(fit);
     }
-    let kept = tables.ike.records[passed.place].update_mark;
-    if !exceeds(request.id, kept, faults) {
-        return if faults.on(Fault::StaleRefused) {
-            fit.map(|()| Effect::Stale)
-        } else {
-            Ok(Effect::Stale)
-        };
-    }
-    if fit.is_ok() || !faults.on(Fault::MarkWhenApplied) {
+    if of_requests.marks(fit) {
         tables.ike_mut()[passed.place].update_mark = mark(request.id);
     }
     fit?;
-    move_records(tables, passed.place, request.pair, faults);
+    move_records(tables, passed.place, request.pair, rules);
     Ok(Effect::Done)
 }
 
-/// Nothing is checked and nothing done, with both NAT detection kinds or without, but by faults.
-fn without_update(
-    request: &Request,
-    passed: &Passed,
-    fit: Result<(), Unfit>,
-    tables: &mut Tables,
-    faults: Faults,
-) -> Result<Effect, Unfit> {
-    if fit == Err(Unfit::Altered) && faults.on(Fault::NoNatsAlone) {
-        return Err(Unfit::Altered);
-    }
-    if !passed.summary.has_both_nat_kinds() {
-        return Ok(Effect::None);
-    }
-    match fit {
-        Err(Unfit::Altered) if faults.on(Fault::KeepaliveAltered) => fit?,
-        Err(Unfit::NotAcceptable) if faults.on(Fault::KeepaliveNotAcceptable) => fit?,
-        _ => {}
-    }
-    if faults.on(Fault::KeepaliveMarks) {
-        tables.ike_mut()[passed.place].update_mark = mark(request.id);
-    }
-    if faults.on(Fault::KeepaliveMoves) {
-        move_records(tables, passed.place, request.pair, faults);
-    }
-    Ok(if faults.on(Fault::KeepaliveApplied) { Effect::Done } else { Effect::None })
-}
-
 /// The IKE record and all its IPsec records take the pair.
-fn move_records(tables: &mut Tables, place: usize, pair: AddressPair, faults: Faults) {
-    let IkeRecord { spi, pair: old, .. } = tables.ike.records[place];
-    tables.ike_mut()[place].pair = pair;
-    if faults.on(Fault::MovedAgreed1) {
-        tables.ike_mut()[place].agreed.mobike = 1;
+fn move_records(tables: &mut Tables, place: usize, pair: AddressPair, rules: &impl Rules) {
+    let meant = tables.ike.records[place];
+    for place in rules.requests().moved(&tables.ike.records, place) {
+        rules.requests().move_ike(&mut tables.ike_mut()[place], pair);
     }
-    if faults.on(Fault::TwinsMove) {
-        let twins = tables.ike_mut().iter_mut().filter(|record| record.spi == spi);
-        twins.for_each(|twin| twin.pair = pair);
-    }
-    for record in tables.ipsec_mut() {
-        let owned = if faults.on(Fault::MovedByPair) {
-            record.pair == old
-        } else {
-            same_spi(record.owner, spi, faults)
-        };
-        if owned && (record.is_in_use() || faults.on(Fault::FreeOwnedMoved)) {
-            record.pair = pair;
-        }
-    }
+    let owned = tables.ipsec_mut().iter_mut().filter(|record| rules.tables().owns(&meant, record));
+    owned.for_each(|record| record.pair = pair);
 }
 
 /// Step 3, with the number of addresses left off.
@@ -170,34 +92,17 @@ pub fn list(
     id: u32,
     summary: &Summary,
     update: Effect,
-    faults: Faults,
+    rules: &(impl RequestRules + ?Sized),
 ) -> (Effect, usize) {
     if !summary.has_list() {
         return (Effect::None, 0);
     }
-    let left_off = summary.addresses - summary.kept.len();
-    let one = faults.on(Fault::OneMark);
-    let kept_mark = if one { &mut record.update_mark } else { &mut record.list_mark };
-    let stale_with_update = update == Effect::Stale && faults.on(Fault::ListWithUpdate);
-    if !exceeds(id, *kept_mark, faults) || stale_with_update {
-        return (Effect::Stale, if faults.on(Fault::StaleLeftOff) { left_off } else { 0 });
+    let kept_mark = rules.list_mark(record);
+    let effect = if rules.replaces(id, *kept_mark, update) { Effect::Done } else { Effect::Stale };
+    if effect == Effect::Done {
+        *kept_mark = mark(id);
+        let new: Vec<Address> = summary.kept.iter().map(|kept| kept.address).collect();
+        (record.count, record.addresses) = rules.kept_list(record, &new);
     }
-    *kept_mark = mark(id);
-    replace_list(record, summary, faults);
-    (Effect::Done, left_off)
-}
-
-/// The addresses kept of the request, and 0 past them.
-fn replace_list(record: &mut IkeRecord, summary: &Summary, faults: Faults) {
-    let mut list: Vec<Address> = summary.kept.iter().map(|kept| kept.address).collect();
-    if faults.on(Fault::ListAppended) {
-        let already = usize::from(record.count).min(MAX_KEPT);
-        list.splice(0..0, record.addresses[..already].iter().copied());
-        list.truncate(MAX_KEPT);
-    }
-    if !faults.on(Fault::ListLeftovers) {
-        record.addresses.fill(Address::ZERO);
-    }
-    record.count = list.len() as u16;
-    record.addresses[..list.len()].copy_from_slice(&list);
+    (effect, rules.left_off(effect, summary.addresses - summary.kept.len()))
 }

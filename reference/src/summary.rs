@@ -1,8 +1,8 @@
 // What a chain without flaws says: its counts, and the notifications that the gateway acts on.
 use crate::address::{Address, AddressOctets, AddressPair};
-use crate::chain::{Chain, Class, NOTIFY};
-use crate::faults::{Fault, Faults};
+use crate::chain::{Chain, Class};
 use crate::notify::{Notify, NotifyType};
+use crate::rules::ChainRules;
 
 /// So many additional addresses are kept.
 pub const MAX_KEPT: usize = 16;
@@ -37,8 +37,6 @@ pub struct Summary<'a> {
     pub no_additional: bool,
     pub no_nats: Option<NoNatsAllowed<'a>>,
     pub nat_source: Option<Part<'a>>,
-    /// How many NAT sources there are, of which the first is given.
-    pub nat_sources: usize,
     pub nat_destination: Option<Part<'a>>,
     pub cookie: Option<Part<'a>>,
     /// How many additional addresses there are, kept or not.
@@ -48,22 +46,17 @@ pub struct Summary<'a> {
 }
 
 /// Sums up a chain in which no flaw was found.
-pub fn summarise<'a>(chain: &Chain<'a>, faults: Faults) -> Summary<'a> {
-    let mut summary = Summary::default();
+pub fn summarise<'a>(chain: &Chain<'a>, rules: &(impl ChainRules + ?Sized)) -> Summary<'a> {
+    let mut summary = Summary { payloads: rules.count(chain), ..Summary::default() };
     for payload in &chain.payloads {
-        match Class::of(payload.payload_type, faults) {
+        match rules.class(payload.payload_type) {
             Class::Skipped => {}
             Class::Unknown => summary.unknown_payloads += 1,
             Class::Notify => {
-                let notify = Notify::parse(payload, faults).expect("a flawed Notify was refused");
-                summary.add(notify, faults);
+                let notify = rules.notify(payload).expect("a flawed Notify was refused");
+                summary.add(notify, rules);
             }
         }
-        let counted = payload.payload_type == NOTIFY || !faults.on(Fault::CountNotifies);
-        summary.payloads += usize::from(counted);
-    }
-    if faults.on(Fault::CountOctet) {
-        summary.payloads %= 256;
     }
     summary
 }
@@ -79,44 +72,37 @@ impl<'a> Summary<'a> {
         self.addresses > 0 || self.no_additional
     }
 
-    fn add(&mut self, notify: Notify<'a>, faults: Faults) {
+    fn add(&mut self, notify: Notify<'a>, rules: &(impl ChainRules + ?Sized)) {
         let part = Part { offset: notify.data_offset, octets: notify.data };
         match notify.notify_type {
             NotifyType::NAT_DETECTION_SOURCE_IP => {
-                self.nat_sources += 1;
-                if self.nat_source.is_none() || faults.on(Fault::NatSourceLast) {
-                    self.nat_source = Some(part);
-                }
+                self.nat_source = Some(rules.nat_source(self.nat_source, part));
             }
             NotifyType::NAT_DETECTION_DESTINATION_IP => self.nat_destination = Some(part),
             NotifyType::MOBIKE_SUPPORTED => {}
-            NotifyType::ADDITIONAL_IP4_ADDRESS => self.add_address(4, part, faults),
-            NotifyType::ADDITIONAL_IP6_ADDRESS => self.add_address(6, part, faults),
+            NotifyType::ADDITIONAL_IP4_ADDRESS => self.add_address(4, part, rules),
+            NotifyType::ADDITIONAL_IP6_ADDRESS => self.add_address(6, part, rules),
             NotifyType::NO_ADDITIONAL_ADDRESSES => self.no_additional = true,
             NotifyType::UPDATE_SA_ADDRESSES => self.update = true,
             NotifyType::COOKIE2 => self.cookie = Some(part),
-            NotifyType::NO_NATS_ALLOWED => self.no_nats = Some(no_nats(part, faults)),
-            unknown => self.add_unknown(unknown, faults),
+            NotifyType::NO_NATS_ALLOWED => self.no_nats = Some(rules.no_nats(part)),
+            unknown => self.add_unknown(unknown, rules),
         }
     }
 
-    fn add_address(&mut self, family: u8, part: Part, faults: Faults) {
-        let limit = if faults.on(Fault::FifteenAddresses) { MAX_KEPT - 1 } else { MAX_KEPT };
-        if self.kept.len() < limit {
+    fn add_address(&mut self, family: u8, part: Part, rules: &(impl ChainRules + ?Sized)) {
+        if self.kept.len() < rules.most_addresses() {
             let address = Address { family, octets: padded(part.octets) };
             self.kept.push(AdditionalAddress { data_offset: part.offset, address });
         }
         self.addresses += 1;
     }
 
-    fn add_unknown(&mut self, unknown: NotifyType, faults: Faults) {
-        if unknown.is_error(faults) {
+    fn add_unknown(&mut self, unknown: NotifyType, rules: &(impl ChainRules + ?Sized)) {
+        if rules.is_error(unknown) {
             self.errors.push(unknown);
-            if faults.on(Fault::ErrorsUntallied) {
-                return;
-            }
         }
-        self.unknown_notifies += 1;
+        self.unknown_notifies += usize::from(rules.is_tallied(unknown));
     }
 }
 
@@ -125,23 +111,4 @@ pub fn padded(address: &[u8]) -> AddressOctets {
     let mut octets = [0; 16];
     octets[..address.len()].copy_from_slice(address);
     octets
-}
-
-/// Source address, destination address, source port, destination port.
-fn no_nats(part: Part, faults: Faults) -> NoNatsAllowed {
-    let (family, size) = if part.octets.len() == 12 { (4, 4) } else { (6, 16) };
-    let (source, rest) = part.octets.split_at(size);
-    let (destination, ports) = rest.split_at(size);
-    let mut ports = [[ports[0], ports[1]], [ports[2], ports[3]]].map(u16::from_be_bytes);
-    if faults.on(Fault::PortsSwapped) {
-        ports.reverse();
-    }
-    let pair = AddressPair {
-        family,
-        source: padded(source),
-        destination: padded(destination),
-        source_port: ports[0],
-        destination_port: ports[1],
-    };
-    NoNatsAllowed { part, pair }
 }

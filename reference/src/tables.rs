@@ -1,8 +1,8 @@
 // The tables: IKE records and IPsec records in their places, and which place an SPI means.
 use crate::address::{Address, AddressPair};
 use crate::agreed::Agreed;
-use crate::faults::{Fault, Faults};
 use crate::policy::Policy;
+use crate::rules::TableRules;
 use crate::summary::MAX_KEPT;
 use std::rc::Rc;
 
@@ -112,30 +112,17 @@ impl Tables {
     }
 }
 
-/// The lowest place in use with the SPI.
-pub fn find<R: Record>(records: &[R], spi: u64, faults: Faults) -> Option<usize> {
-    let meant = |record: &R| record.is_in_use() && same_spi(record.spi(), spi, faults);
-    if faults.on(Fault::HighestTwin) {
-        records.iter().rposition(meant)
-    } else {
-        records.iter().position(meant)
-    }
+/// The place that the SPI means.
+pub fn find<R: Record>(
+    records: &[R],
+    spi: u64,
+    rules: &(impl TableRules + ?Sized),
+) -> Option<usize> {
+    let meant = |record: &R| record.is_in_use() && rules.same_spi(record.spi(), spi);
+    rules.meant(&mut (0..records.len()).filter(|&place| meant(&records[place])))
 }
 
-/// The lowest free place.
-pub fn free_place<R: Record>(records: &[R], faults: Faults) -> Option<usize> {
-    if faults.on(Fault::HighestFreePlace) {
-        records.iter().rposition(|record| !record.is_in_use())
-    } else {
-        records.iter().position(|record| !record.is_in_use())
-    }
-}
-
-pub fn same_spi(one: u64, other: u64, faults: Faults) -> bool {
-    let differing = one ^ other;
-    if faults.on(Fault::Spi32Bits) {
-        differing as u32 == 0
-    } else {
-        differing == 0
-    }
+/// The place that a new record takes.
+pub fn free_place<R: Record>(records: &[R], rules: &(impl TableRules + ?Sized)) -> Option<usize> {
+    rules.taken(&mut (0..records.len()).filter(|&place| !records[place].is_in_use()))
 }

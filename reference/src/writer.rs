@@ -1,11 +1,7 @@
-// The request writer at the display's end: the notifications asked for, in their order.
-use crate::address::{octet_count, Address, AddressPair};
+// The request writer at the initiator's end: the notifications asked for, in their order.
 use crate::asking::Arguments;
-use crate::chain::{HEADER_LENGTH, NOTIFY};
-use crate::faults::{Fault, Faults};
-use crate::notifications::{first_type, no_nats_data, octets};
-use crate::notify::{NotifyType, NOTIFY_LENGTH};
 use crate::reply::written_and_rest;
+use crate::rules::WriterRules;
 use crate::show;
 
 /// What the writer gives back, with the whole output after the call.
@@ -37,111 +33,35 @@ impl Written {
     }
 }
 
-pub fn write(arguments: &Arguments, faults: Faults) -> Written {
-    let mut output = arguments.output.clone();
-    if let Err(refusal) = arguments.check(faults) {
-        if faults.on(Fault::RefusalClears) {
-            output.fill(0);
-        }
+pub fn write(arguments: &Arguments, rules: &(impl WriterRules + ?Sized)) -> Written {
+    let before = &arguments.output;
+    if let Err(refusal) = arguments.check(rules) {
+        let output = rules.output_refused(before);
         return Written { number: refusal as u8, output, ..Written::default() };
     }
-    let chain = chain(arguments, faults);
-    // Some faults write more than there is room for.
-    output.iter_mut().zip(&chain).for_each(|(place, &octet)| *place = octet);
-    if let (true, Some(after)) = (faults.on(Fault::TailOverwritten), output.get_mut(chain.len())) {
-        *after = 0;
-    }
-    let first = if faults.on(Fault::EmptyFirst41) { NOTIFY } else { first_type(&chain) };
-    let length = chain.len() + usize::from(faults.on(Fault::LengthOffByOne));
-    Written { number: 0, first, length, output }
+    let chain = chain(arguments, rules);
+    let (first, length) = (rules.first_type(&chain), rules.length(&chain));
+    Written { number: 0, first, length, output: rules.output(before, &chain) }
 }
 
 /// What is written if nothing is refused.
-pub fn chain(arguments: &Arguments, faults: Faults) -> Vec<u8> {
-    let mut notifications = notifications(arguments, faults);
-    misplace(&mut notifications, faults);
-    let mut chain = octets(&notifications);
-    if let Some((_, data)) = notifications.last() {
-        let last = chain.len() - NOTIFY_LENGTH - data.len();
-        spoil_header(&mut chain[last..], faults);
+pub fn chain(arguments: &Arguments, rules: &(impl WriterRules + ?Sized)) -> Vec<u8> {
+    let notifications = rules.notifications(arguments);
+    let mut octets = Vec::new();
+    for (place, (notify_type, data)) in notifications.iter().enumerate() {
+        let is_last = place + 1 == notifications.len();
+        octets.extend(rules.header(is_last, *notify_type, data.len()));
+        octets.extend_from_slice(data);
     }
-    chain
-}
-
-/// A notify type and its data.
-type Notification = (NotifyType, Vec<u8>);
-
-fn notifications(arguments: &Arguments, faults: Faults) -> Vec<Notification> {
-    let Arguments { ask, pair, nat_source, nat_destination, cookie, .. } = arguments;
-    let mut listed = arguments.asked_addresses(faults).to_vec();
-    if faults.on(Fault::FamiliesSorted) {
-        listed.sort_by_key(|address| address.family);
-    }
-    let none = ask.no_additional || (listed.is_empty() && faults.on(Fault::ListOf0None));
-    let before_list = [
-        (ask.update, NotifyType::UPDATE_SA_ADDRESSES, vec![]),
-        (ask.no_nats, NotifyType::NO_NATS_ALLOWED, path(*pair, faults)),
-        (ask.nat_source, NotifyType::NAT_DETECTION_SOURCE_IP, nat_source.clone()),
-        (ask.nat_destination, NotifyType::NAT_DETECTION_DESTINATION_IP, nat_destination.clone()),
-        (none, NotifyType::NO_ADDITIONAL_ADDRESSES, vec![]),
-    ];
-    let asked = before_list.into_iter().filter(|(asked, ..)| *asked);
-    let mut notifications: Vec<_> = asked.map(|(_, kind, data)| (kind, data)).collect();
-    notifications.extend(listed.iter().map(|address| additional(address, faults)));
-    if !cookie.is_empty() {
-        notifications.push((NotifyType::COOKIE2, cookie.clone()));
-    }
-    notifications
-}
-
-fn path(mut pair: AddressPair, faults: Faults) -> Vec<u8> {
-    if faults.on(Fault::WrittenPortsSwapped) {
-        (pair.source_port, pair.destination_port) = (pair.destination_port, pair.source_port);
-    }
-    no_nats_data(&pair)
-}
-
-fn additional(address: &Address, faults: Faults) -> Notification {
-    let size = octet_count(address.family).unwrap_or(16);
-    let is_ipv4 = address.family == 4 || faults.on(Fault::Ipv6AsIpv4);
-    let notify_type = if is_ipv4 {
-        NotifyType::ADDITIONAL_IP4_ADDRESS
-    } else {
-        NotifyType::ADDITIONAL_IP6_ADDRESS
-    };
-    (notify_type, address.octets[..size].to_vec())
-}
-
-/// The faults of order: some type comes before all others.
-fn misplace(notifications: &mut [Notification], faults: Faults) {
-    let put_first = [
-        (Fault::NoNatsFirst, NotifyType::NO_NATS_ALLOWED),
-        (Fault::DestinationFirst, NotifyType::NAT_DETECTION_DESTINATION_IP),
-        (Fault::CookieFirst, NotifyType::COOKIE2),
-    ];
-    for (_, first) in put_first.iter().filter(|(fault, _)| faults.on(*fault)) {
-        notifications.sort_by_key(|(notify_type, _)| notify_type != first);
-    }
-}
-
-/// The faults of a single field, each in the last payload.
-fn spoil_header(payload: &mut [u8], faults: Faults) {
-    let fields = [
-        (Fault::NextAtEnd, 0, NOTIFY),
-        (Fault::FlagWritten, 1, 0x80),
-        (Fault::ReservedWritten, 1, 1),
-        (Fault::ProtocolWritten, HEADER_LENGTH, 1),
-        (Fault::SpiSizeWritten, HEADER_LENGTH + 1, 4),
-    ];
-    for (_, field, value) in fields.into_iter().filter(|(fault, ..)| faults.on(*fault)) {
-        payload[field] = value;
-    }
+    octets
 }
 
 #[cfg(test)]
 mod tests {
     use super::*;
+    use crate::address::{Address, AddressPair};
     use crate::asking::{Ask, LEAST_OUTPUT};
+    use crate::rules::Plain;
 
     const IPV4: Address =
         Address { family: 4, octets: [10, 0, 0, 1, 0, 0, 0, 0, 0, 0, 0, 0, 0, 0, 0, 0] };
@@ -180,7 +100,7 @@ mod tests {
     }
 
     fn written(arguments: &Arguments) -> (u8, u8, Vec<u8>) {
-        let written = write(arguments, Faults::NONE);
+        let written = write(arguments, &Plain);
         assert!(written.output[written.length..].iter().all(|&octet| octet == 0xee));
         (written.number, written.first, written.octets().to_vec())
     }

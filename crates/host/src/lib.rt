@@ -4,4 +4,5 @@ pub mod chain;
 pub mod handler;
 pub mod responses;
 pub mod trace;
+pub mod version;
 pub mod writer;

@@ -3,7 +3,8 @@
 --                      `ipsec_at`, and for good to `ipsec_store`
 --     finds-ike, reads-ike, stores-ike       a `&mut [IkeRecord; IKE_PLACES]` to `ike_place`, to `ike_at`, and for good
 --                      to `ike_store`.        changes-ike      the same to `ike_change`, beside a `&[u8]`
---     reads-policy, reads-lent, stores-policy      a `&Policy` to `policy_of`, a `&mut Policy` to it, and for good to `policy_store`.        asks-policy      a `&Policy` to `accepts_if`.        reads-rules      a `&[Rule; 16]` to `rules_of`
+--     reads-lent, stores-policy      a `&mut Policy` to `policy_of`, and for good to `policy_store`.        asks-policy      a `&Policy` to
+--                      `accepts_if`.        reads-rules      a `&[Rule; 16]` to `rules_of`
 -- Assumes `Given`, and that the table of calls is monotone under a frame.
 use Rattle.walks.proofs.Kit.{_≡_, refl, ℕ, _<_, _^_, List, [], _∷_, length, getD, set, URA, fullShare, Place, Body, erased, w32, w64, seq, call, vunit, vint, vptr, SProp, id⊢, Lft, Share, flft, fres, Memory, Routine, Heap, Env, Calls, Loops, Atoms, Fun, Given, Item, ‵, Post, runs, lands, Seq}
 use Rattle.walks.proofs.Kit.{Step, step, _$_, move, drop, split, join, fsplit, fjoin, u8, ShrSlice, owned, nothing, Opds, FmC, Is, uint-makes, uint-vals, uint-tells, nothing-tells, u32, u64, usize, RefT, MutRef, ShrRef, ptr-vals, MutSlice, Room, slice-vals, finally, only, Triple}
@@ -132,10 +133,6 @@ module _ {M : Type 1} {𝓤 : URA M} {H : Heap 𝓤} {A : Atoms 𝓤} {K : Type 
 
   module _ {κ : Lft} {q : Share} (x : RefT Policy) where
     module _ (known : Triple 𝓤 (C read-def.name) (Told 𝓤 H A read.ended (read.clauses 𝓤 H A at-mem run))) (os : (i j : Item 𝓤) → Opds K W (i ∷ j ∷ Γ) E ops (ptr-vals x)) where
-      pub reads-policy : (Is Kept.R (x .now) (Kept.policy-vals (x .now)) → Seq K W (‵ (ShrRef erased κ Kept.R .own x (ptr-vals x)) ∷ ‵ (flft κ q) ∷ Γ) (lands C Λ E d (only (Kept.policy-vals (x .now))) rest p)) → Seq K W (‵ (ShrRef erased κ Kept.R .own x (ptr-vals x)) ∷ ‵ (flft κ q) ∷ Γ) (runs C Λ E (seq (call read-def.name ops d) rest) p)
-      reads-policy s = copies-ref t tt Kept.R x [] tt tt tt tt $ calls-for t fm read.ended (read.clauses 𝓤 H A at-mem run) known (((κ, tt), (q, tt), tt, (x, tt), (ptr-vals x, tt)), tt) (id⊢ 𝓤 _) (os _ _)
-          Kept.policy-vals (LL.tells Y.the-type Y′.the-laws) (x .now) (λ r ws. id⊢ 𝓤 _) (λ is. no-token t $ move t (1 ∷ []) $ s is)
-
       pub reads-lent : (Is Kept.R (x .now) (Kept.policy-vals (x .now)) → Seq K W (‵ (MutRef erased κ Kept.R .own x (ptr-vals x)) ∷ ‵ (flft κ q) ∷ Γ) (lands C Λ E d (only (Kept.policy-vals (x .now))) rest p)) → Seq K W (‵ (MutRef erased κ Kept.R .own x (ptr-vals x)) ∷ ‵ (flft κ q) ∷ Γ) (runs C Λ E (seq (call read-def.name ops d) rest) p)
       reads-lent s = lent-ref t tt Kept.R x [] tt tt tt tt (λ ν δ. calls-for t fm read.ended (read.clauses 𝓤 H A at-mem run) known (((ν ∷ [], tt), (fullShare, tt), tt, (renamed δ x, tt), (ptr-vals x, tt)), tt) (id⊢ 𝓤 _) (os _ _)
           Kept.policy-vals (LL.tells Y.the-type Y′.the-laws) (x .now) (λ r ws. id⊢ 𝓤 _) (λ is. ref-over t tt Kept.R x $ s is))

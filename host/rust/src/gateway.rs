@@ -57,6 +57,7 @@ impl Gateway {
     }
 
     /// As [`acceptable`](crate::acceptable).
+    #[must_use]
     pub fn acceptable(&self, pair: &Pair) -> bool {
         crate::acceptable(&self.policy, pair)
     }
@@ -64,6 +65,34 @@ impl Gateway {
     /// As [`handle`](crate::handle).
     pub fn handle(&mut self, request: &Request<'_>, out: &mut [u8]) -> Reply {
         crate::handle(&mut self.ike, &mut self.ipsec[..], &self.policy, request, out)
+    }
+}
+
+/// Looking at records, such as for a host that is to move the SAs of its kernel.
+impl Gateway {
+    /// The IKE record with this SPI, at the lowest place if there are several; none for an SPI of 0.
+    pub fn ike_record(&self, spi: u64) -> Option<&IkeRecord> {
+        self.ike.iter().find(|record| spi != 0 && record.spi == spi)
+    }
+
+    /// The IPsec record with this SPI, likewise.
+    pub fn ipsec_record(&self, spi: u32) -> Option<&IpsecRecord> {
+        self.ipsec.iter().find(|record| spi != 0 && record.spi == spi)
+    }
+
+    /// The IPsec records in use that this IKE record owns: exactly those that an applied update moves.
+    pub fn owned(&self, owner: u64) -> impl Iterator<Item = &IpsecRecord> {
+        self.ipsec.iter().filter(move |record| record.spi != 0 && record.owner == owner)
+    }
+
+    /// The IPsec records that moved since `before`, a clone of them all: each as it was and as it is.
+    pub fn moved<'a>(
+        &'a self,
+        before: &'a [IpsecRecord; IPSEC_PLACES],
+    ) -> impl Iterator<Item = (&'a IpsecRecord, &'a IpsecRecord)> {
+        before.iter().zip(self.ipsec.iter()).filter(|(was, is)| {
+            is.spi != 0 && (was.spi, was.owner) == (is.spi, is.owner) && was.pair != is.pair
+        })
     }
 }
 

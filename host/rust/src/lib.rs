@@ -5,11 +5,14 @@
 //! the response. Each function here passes on whatever it is given and tells the number that comes
 //! back: nothing panics, and nothing is refused that the library doesn't refuse.
 //!
+//! What the host does around the calls stands in [`guide`].
+//!
 //! The tables are lent, and no table is copied. [`Gateway`] owns one set of them, for a host that has
 //! no other place for them.
 //!
-//! It links `libhost.a`, which `rt staticlib host` proves and writes to `target/staticlib`; the environment
-//! variable `UNMAVRETH_LIBRARY_DIRECTORY` names another directory.
+//! It links `libunmavreth.a`, which `host/archive` proves and writes to `target/staticlib`; the environment
+//! variable `UNMAVRETH_LIBRARY_DIRECTORY` names another directory. A library whose interface has another
+//! number than [`INTERFACE`] does not link.
 //!
 //! A whole exchange, from the initiator's update to what it makes of the response:
 //!
@@ -60,6 +63,10 @@
 #![deny(unsafe_op_in_unsafe_fn)]
 
 mod gateway;
+/// What a host does around the calls.
+///
+#[cfg_attr(doc, doc = include_str!("../../../docs/HOST.md"))]
+pub mod guide {}
 mod initiator;
 mod layout;
 pub mod limits;
@@ -69,7 +76,9 @@ mod raw;
 mod reader;
 mod records;
 mod responder;
+mod sockets;
 pub mod trace;
+mod version;
 mod words;
 
 pub use gateway::Gateway;
@@ -80,7 +89,9 @@ pub use layout::{
 };
 pub use numbers::{Effect, Number, Outcome};
 pub use policy::{acceptable, set_policy};
+pub use raw::INTERFACE;
 pub use reader::{addresses, cookie, nat_value, no_nats, read};
 pub use records::{close_ike, close_ipsec, open, open_ipsec};
 pub use responder::{handle, Request};
+pub use version::interface;
 pub use words::{notify_words, payload_words};

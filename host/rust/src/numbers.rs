@@ -1,6 +1,7 @@
 //! The numbers that the calls give back, by their meaning.
 
 /// The number that a call gives back. Any octet has a meaning here, so that looking at one never fails.
+#[must_use = "a number other than 0 is a refusal"]
 #[derive(Debug, Clone, Copy, PartialEq, Eq)]
 pub enum Number {
     /// 0: done.
@@ -52,6 +53,14 @@ impl Number {
     /// Whether the call was done.
     pub fn is_done(self) -> bool {
         self == Number::Done
+    }
+
+    /// Nothing if the call was done, and the number as an error if not.
+    pub fn ok(self) -> Result<(), Number> {
+        match self {
+            Number::Done => Ok(()),
+            refused => Err(refused),
+        }
     }
 
     /// Whether a chain is malformed, 61 to 65.

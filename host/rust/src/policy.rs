@@ -17,6 +17,7 @@ pub fn set_policy(policy: &mut Policy, count: u16, rules: &[Rule; RULES_MOST]) -
 }
 
 /// Whether some rule of the policy accepts the pair.
+#[must_use]
 #[inline]
 pub fn acceptable(policy: &Policy, pair: &Pair) -> bool {
     // SAFETY: the policy is lent for the call; the pair goes by value, and any may be given.

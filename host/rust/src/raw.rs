@@ -1,4 +1,4 @@
-//! The C interface of `libhost.a`. A start and a count are those of memory that the caller lends for
+//! The C interface of `libunmavreth.a`. A start and a count are those of memory that the caller lends for
 //! the call; nothing lent for writing may overlap anything else that is lent.
 use crate::layout::{
     AddressList, Ask, Assessment, EntryRead, EntryWritten, IkeRecord, IpsecRecord, Offsets,
@@ -6,7 +6,27 @@ use crate::layout::{
 };
 use crate::limits::{ENTRY_SLOTS, IKE_PLACES, RULES_MOST};
 
+/// The number of the interface that this crate was written for, and the library's symbol that ends in it:
+/// every program that has this crate refers to the symbol, so that it does not link with a library of
+/// another number.
+macro_rules! interface {
+    ($number:literal, $named:ident) => {
+        /// The number of the C interface that this crate is for: the layout of the structs and the calls.
+        pub const INTERFACE: u32 = $number;
+
+        extern "C" {
+            fn $named() -> u32;
+        }
+
+        #[used]
+        static LINKED: unsafe extern "C" fn() -> u32 = $named;
+    };
+}
+interface!(1, unmavreth_interface_1);
+
 extern "C" {
+    pub(crate) fn unmavreth_interface() -> u32;
+
     pub(crate) fn unmavreth_read(first: u8, body: *const u8, body_size: usize) -> Reading;
 
     /// `*out` must hold a valid part on entry.

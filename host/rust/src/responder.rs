@@ -4,7 +4,7 @@ use crate::limits::IKE_PLACES;
 use crate::{cookie, raw, Effect, Number};
 
 /// A request as it came: authenticated, decrypted, and within the message window.
-#[derive(Debug, Clone, Copy, PartialEq, Eq)]
+#[derive(Debug, Clone, Copy, Default, PartialEq, Eq)]
 pub struct Request<'a> {
     /// The gateway's SPI of the IKE SA.
     pub spi: u64,

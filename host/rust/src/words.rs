@@ -1,6 +1,7 @@
 //! The words for what the calls give back, and the names of payload and notify types: those of the C header
 //! `unmavreth_words.h` and of the program `show_chain`, from the one table `host/words/words.txt`.
 use crate::{Effect, Number, Outcome};
+use std::error::Error;
 use std::fmt;
 
 impl Number {
@@ -37,6 +38,8 @@ impl fmt::Display for Number {
         f.pad(self.words())
     }
 }
+
+impl Error for Number {}
 
 impl Effect {
     /// What became of an update. It has other words than a list, so that there is no `Display`.

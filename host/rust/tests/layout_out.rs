@@ -151,7 +151,8 @@ fn a_refused_reply() {
 fn the_two_marks_are_told_apart() {
     let mut gateway = gateway();
     let update = chain(&[notify(UPDATE, &[])]);
-    gateway.handle(&Request { id: 4, ..request(&update) }, &mut [0; 128]);
+    let reply = gateway.handle(&Request { id: 4, ..request(&update) }, &mut [0; 128]);
+    assert_eq!(reply.update(), Effect::Applied);
     assert_eq!((gateway.ike[0].update_mark, gateway.ike[0].list_mark), (5, 0));
     let list = chain(&[notify(NO_ADDITIONAL, &[])]);
     let reply = gateway.handle(&Request { id: 3, ..request(&list) }, &mut [0; 128]);

@@ -73,7 +73,8 @@ fn in_capitals(name: &str) -> String {
 fn numbers() {
     for octet in (0..=5).chain(7..=12).chain(20..=22).chain(61..=65) {
         let name = format!("{:?}", Number::from(octet));
-        let (words, whose) = if !(20..=22).contains(&octet) { (NUMBERS, "Number") } else { (REFUSALS, "Refusal") };
+        let (words, whose) =
+            if !(20..=22).contains(&octet) { (NUMBERS, "Number") } else { (REFUSALS, "Refusal") };
         assert!(says(words, &format!("{whose}::{name} => {octet}")), "{name} in the library");
         let word = in_capitals(&name);
         assert!(says(HEADER, &format!("UNMAVRETH{word} = {octet}")), "{name} in the header");

@@ -1,6 +1,6 @@
 // The command line of the comparison.
 use crate::kinds;
-use reference::faults::NamedFault;
+use reference::faults::Fault;
 use reference::kind::Kind;
 use std::str::FromStr;
 
@@ -19,12 +19,11 @@ pub enum Mode {
     EachFault,
 }
 
-#[derive(Debug)]
 pub struct Arguments {
     pub seed: u64,
     pub cases: u64,
     pub only: Option<Kind>,
-    pub fault: Option<NamedFault>,
+    pub fault: Option<Fault>,
     pub mode: Mode,
 }
 
@@ -58,8 +57,8 @@ impl Arguments {
                 self.only = Some(kind);
             }
             "--fault" => {
-                let named = kinds::faults().find(|named| named.name == value);
-                self.fault = Some(named.ok_or_else(|| format!("no fault {value}"))?);
+                let named = Fault::named(value).ok_or_else(|| format!("no fault {value}"))?;
+                self.fault = Some(named);
             }
             _ => return Err(format!("no option {option}")),
         }

@@ -4,13 +4,13 @@ use crate::ours;
 use crate::report::{self, Detail};
 use reference::assess;
 use reference::cases::assess::Case;
-use reference::faults::Faults;
+use reference::rules::Rules;
 use reference::show::hex;
 
-pub fn run(case: Case, faults: Faults, detail: Detail) -> Verdict {
+pub fn run(case: Case, rules: &impl Rules, detail: Detail) -> Verdict {
     let Case { sent, first, body } = case;
     let ours = ours::assess::assess(&sent, first, &body);
-    let reference = assess::assess(&sent, first, &body, faults);
+    let reference = assess::assess(&sent, first, &body, rules);
     Verdict::of(ours == reference, detail, || {
         let mut lines = vec![format!("  cookie sent: {}", hex(&sent))];
         lines.extend(report::chain(first, &body));

@@ -3,13 +3,13 @@ use crate::kinds::Verdict;
 use crate::ours::entries::Ours;
 use crate::report::{self, Detail};
 use reference::cases::entries::Case;
-use reference::faults::Faults;
+use reference::rules::Rules;
 use reference::show::hex;
 use reference::trace::codec::{shown, Model};
 
-pub fn run(case: Case, faults: Faults, detail: Detail) -> Verdict {
+pub fn run(case: Case, rules: &impl Rules, detail: Detail) -> Verdict {
     let ours = case.outcome(&Ours);
-    let reference = case.outcome(&Model(faults));
+    let reference = case.outcome(&Model(rules));
     let broken = ours.broken(&case.lent, &case.buffer);
     Verdict::of(ours == reference && broken.is_empty(), detail, || {
         let mut lines = report::input(&input(&case));

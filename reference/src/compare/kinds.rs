@@ -18,8 +18,8 @@ use reference::cases::round_trips::RoundTripsCases;
 use reference::cases::tables::TablesCases;
 use reference::cases::traces::TracesCases;
 use reference::cases::writer::WriterCases;
-use reference::faults::{Faults, NamedFault};
 use reference::kind::Kind;
+use reference::rules::{Plain, Rules};
 use std::io;
 
 /// The kinds of the library's calls, in the order in which they take turns in a run of all.
@@ -48,12 +48,6 @@ pub fn turns() -> Vec<Kind> {
 
 pub fn named(name: &str) -> Option<Kind> {
     turns().into_iter().find(|kind| kind.name() == name)
-}
-
-/// The deliberate faults of these kinds.
-pub fn faults() -> impl Iterator<Item = NamedFault> {
-    let kinds = turns();
-    NamedFault::all().filter(move |named| kinds.contains(&named.kind))
 }
 
 /// What came of one case.
@@ -99,33 +93,33 @@ impl Cases {
         }
     }
 
-    /// Whether the case can tell a program with these faults from a sound one. Of a trace this is found
+    /// Whether the case can tell a program with these rules from a sound one. Of a trace this is found
     /// without starting a program; other cases are just run.
-    pub fn may_tell(&self, kind: Kind, number: u64, faults: Faults) -> bool {
+    pub fn may_tell(&self, kind: Kind, number: u64, rules: &impl Rules) -> bool {
         if kind != Kind::Traces {
             return true;
         }
         let case = self.traces.case(number);
-        case.printed(faults) != case.printed(Faults::NONE)
+        case.printed(rules) != case.printed(&Plain)
     }
 
     pub fn run(
         &self,
         kind: Kind,
         number: u64,
-        faults: Faults,
+        rules: &impl Rules,
         detail: Detail,
     ) -> io::Result<Verdict> {
         Ok(match kind {
-            Kind::Reader => reader::run(self.reader.case(number), faults, detail),
-            Kind::Tables => tables::run(self.tables.case(number), faults, detail),
-            Kind::Requests => requests::run(self.requests.case(number), faults, detail),
-            Kind::Orders => orders::run(self.orders.case(number), faults, detail),
-            Kind::Assess => assess::run(self.assess.case(number), faults, detail),
-            Kind::Writer => writer::run(self.writer.case(number), faults, detail),
-            Kind::RoundTrips => round_trips::run(self.round_trips.case(number), faults, detail),
-            Kind::Traces => traces::run(self.traces.case(number), faults, detail)?,
-            Kind::Entries => entries::run(self.entries.case(number), faults, detail),
+            Kind::Reader => reader::run(self.reader.case(number), rules, detail),
+            Kind::Tables => tables::run(self.tables.case(number), rules, detail),
+            Kind::Requests => requests::run(self.requests.case(number), rules, detail),
+            Kind::Orders => orders::run(self.orders.case(number), rules, detail),
+            Kind::Assess => assess::run(self.assess.case(number), rules, detail),
+            Kind::Writer => writer::run(self.writer.case(number), rules, detail),
+            Kind::RoundTrips => round_trips::run(self.round_trips.case(number), rules, detail),
+            Kind::Traces => traces::run(self.traces.case(number), rules, detail)?,
+            Kind::Entries => entries::run(self.entries.case(number), rules, detail),
         })
     }
 }

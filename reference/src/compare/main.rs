@@ -15,8 +15,9 @@ mod writer;
 
 use arguments::{Arguments, Mode, USAGE};
 use kinds::Cases;
-use reference::faults::{Faults, NamedFault};
+use reference::faults::Fault;
 use reference::kind::Kind;
+use reference::rules::{Plain, Rules};
 use report::Detail;
 use std::env;
 use std::io::{self, BufWriter, Write};
@@ -31,11 +32,16 @@ fn main() -> ExitCode {
             return ExitCode::from(2);
         }
     };
+    if let Some(Fault { name, wrong, .. }) = arguments.fault {
+        eprintln!("compare: with the fault {name}: {wrong}");
+    }
     let mut out = BufWriter::new(io::stdout().lock());
     let run = Run::new(&arguments);
     let passed = match arguments.mode {
-        Mode::Compare => run.compare(0..arguments.cases, Detail::DifferingFields, &mut out),
-        Mode::OneCase(number) => run.compare(number..number + 1, Detail::AllFields, &mut out),
+        Mode::Compare => run.with_its_fault(0..arguments.cases, Detail::DifferingFields, &mut out),
+        Mode::OneCase(number) => {
+            run.with_its_fault(number..number + 1, Detail::AllFields, &mut out)
+        }
         Mode::EachFault => run.each_fault(&mut out),
     };
     match passed.and_then(|passed| out.flush().map(|()| passed)) {
@@ -57,7 +63,7 @@ struct Run<'a> {
 
 impl<'a> Run<'a> {
     fn new(arguments: &'a Arguments) -> Self {
-        let only = arguments.only.or(arguments.fault.map(|named| named.kind));
+        let only = arguments.only.or(arguments.fault.map(|fault| fault.kind));
         let turns = only.map_or_else(kinds::turns, |kind| vec![kind]);
         Run { arguments, cases: Cases::new(arguments.seed), turns }
     }
@@ -71,21 +77,34 @@ impl<'a> Run<'a> {
         (kind, rounds * of_kind(&self.turns) + of_kind(&self.turns[..turn]))
     }
 
-    /// Runs these cases, prints each difference and the last line; true if there was none.
-    fn compare(
+    /// Compares with the second program, or with the fault that was asked for.
+    fn with_its_fault(
         &self,
         places: Range<u64>,
         detail: Detail,
         out: &mut impl Write,
     ) -> io::Result<bool> {
+        match self.arguments.fault {
+            None => self.compare(&Plain, places, detail, out),
+            Some(fault) => self.compare(&fault.program, places, detail, out),
+        }
+    }
+
+    /// Runs these cases, prints each difference and the last line; true if there was none.
+    fn compare(
+        &self,
+        rules: &impl Rules,
+        places: Range<u64>,
+        detail: Detail,
+        out: &mut impl Write,
+    ) -> io::Result<bool> {
         let fault = self.arguments.fault;
-        let faults = fault.map_or(Faults::NONE, |named| Faults::only(named.fault));
-        let fault_option = fault.map_or(String::new(), |named| format!(" --fault {}", named.name));
+        let fault_option = fault.map_or(String::new(), |fault| format!(" --fault {}", fault.name));
         let compared = places.end - places.start;
         let mut differences = 0;
         for place in places {
             let (kind, number) = self.kind_and_number(place);
-            let verdict = self.cases.run(kind, number, faults, detail)?;
+            let verdict = self.cases.run(kind, number, rules, detail)?;
             if !verdict.agrees {
                 differences += 1;
             }
@@ -106,10 +125,10 @@ impl<'a> Run<'a> {
     /// Compares with each deliberate fault of these kinds; true if each makes a difference.
     fn each_fault(&self, out: &mut impl Write) -> io::Result<bool> {
         let (mut tried, mut found) = (0, 0);
-        for named in kinds::faults().filter(|named| self.turns.contains(&named.kind)) {
-            let (name, kind) = (named.name, named.kind.name());
+        for fault in Fault::all().filter(|fault| self.turns.contains(&fault.kind)) {
+            let (name, kind) = (fault.name, fault.kind.name());
             tried += 1;
-            match self.first_difference(named)? {
+            match self.first_difference(fault)? {
                 Some(number) => {
                     found += 1;
                     writeln!(out, "{name}: found in {kind} case {number}")?;
@@ -123,15 +142,11 @@ impl<'a> Run<'a> {
     }
 
     /// The number of the first case of the fault's kind in which it makes a difference.
-    fn first_difference(
-        &self,
-        NamedFault { fault, kind, .. }: NamedFault,
-    ) -> io::Result<Option<u64>> {
+    fn first_difference(&self, Fault { kind, program, .. }: Fault) -> io::Result<Option<u64>> {
         let places = (0..self.arguments.cases).map(|place| self.kind_and_number(place));
         let numbers = places.filter(|place| place.0 == kind).map(|place| place.1);
-        let faults = Faults::only(fault);
-        for number in numbers.filter(|&number| self.cases.may_tell(kind, number, faults)) {
-            if !self.cases.run(kind, number, faults, Detail::Nothing)?.agrees {
+        for number in numbers.filter(|&number| self.cases.may_tell(kind, number, &program)) {
+            if !self.cases.run(kind, number, &program, Detail::Nothing)?.agrees {
                 return Ok(Some(number));
             }
         }

@@ -4,16 +4,16 @@ use crate::report::Detail;
 use crate::requests::Step;
 use crate::tables::changes;
 use reference::cases::orders::Case;
-use reference::faults::Faults;
 use reference::orders::{broken, Order, Orders};
+use reference::rules::Rules;
 use reference::tables::Tables;
 
-pub fn run(case: Case, faults: Faults, detail: Detail) -> Verdict {
+pub fn run(case: Case, rules: &impl Rules, detail: Detail) -> Verdict {
     let Case { tables, requests, chance } = &case;
     let (mut steps, mut differing) = (0, 0);
     let mut shown_steps = Vec::new();
-    let broken = broken(tables, requests, chance, faults, |request, tables| {
-        let step = Step::take(request, tables, faults);
+    let broken = broken(tables, requests, chance, rules, |request, tables| {
+        let step = Step::take(request, tables, rules);
         let agrees = step.agrees();
         if detail.shows(agrees) {
             shown_steps.push((steps, step.lines(request, tables, detail)));
@@ -26,9 +26,9 @@ pub fn run(case: Case, faults: Faults, detail: Detail) -> Verdict {
     let agrees = differing == 0 && broken.is_empty();
     let mut lines = Vec::new();
     if detail.shows(agrees) {
-        lines.extend(introduction(&case, &broken, faults, detail));
+        lines.extend(introduction(&case, &broken, rules, detail));
         for (step, step_lines) in shown_steps {
-            lines.push(heading(&case, step, faults));
+            lines.push(heading(&case, step, rules));
             lines.extend(step_lines);
         }
     }
@@ -36,8 +36,8 @@ pub fn run(case: Case, faults: Faults, detail: Detail) -> Verdict {
 }
 
 /// The orders, what demand 3 asks and isn't so, and in full also the tables at first.
-fn introduction(case: &Case, broken: &[String], faults: Faults, detail: Detail) -> Vec<String> {
-    let orders = Orders::new(&case.tables, &case.requests, &case.chance, faults);
+fn introduction(case: &Case, broken: &[String], rules: &impl Rules, detail: Detail) -> Vec<String> {
+    let orders = Orders::new(&case.tables, &case.requests, &case.chance, rules);
     let mut lines = vec![
         format!("  kept order: {:?}", orders.kept),
         format!("  freed order: {:?}", orders.freed),
@@ -52,8 +52,8 @@ fn introduction(case: &Case, broken: &[String], faults: Faults, detail: Detail) 
 }
 
 /// Which request a step makes, in which of the three orders.
-fn heading(case: &Case, step: usize, faults: Faults) -> String {
-    let orders = Orders::new(&case.tables, &case.requests, &case.chance, faults);
+fn heading(case: &Case, step: usize, rules: &impl Rules) -> String {
+    let orders = Orders::new(&case.tables, &case.requests, &case.chance, rules);
     let count = case.requests.len();
     let sequence: Order = (0..count).collect();
     let named =

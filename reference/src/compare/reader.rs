@@ -3,14 +3,14 @@ use crate::kinds::Verdict;
 use crate::ours;
 use crate::report::{self, Detail};
 use reference::cases::reader::Case;
-use reference::faults::Faults;
 use reference::outcome::Outcome;
 use reference::reader;
+use reference::rules::Rules;
 
-pub fn run(case: Case, faults: Faults, detail: Detail) -> Verdict {
+pub fn run(case: Case, rules: &impl Rules, detail: Detail) -> Verdict {
     let ours = ours::reader::read(case.first, &case.body);
-    let reading = reader::read(case.first, &case.body, faults);
-    let reference = Outcome::of(&reading, &case.body, faults);
+    let reading = reader::read(case.first, &case.body, rules.chain());
+    let reference = Outcome::of(&reading, &case.body, rules);
     Verdict::of(ours == reference, detail, || {
         let mut lines = report::chain(case.first, &case.body);
         lines.extend(report::compared(&ours.fields(), &reference.fields(), detail));

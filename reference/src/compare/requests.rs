@@ -4,16 +4,16 @@ use crate::ours;
 use crate::report::{self, Detail};
 use crate::tables::changes;
 use reference::cases::requests::Case;
-use reference::faults::Faults;
 use reference::handler;
 use reference::reply::Handled;
 use reference::request::Request;
 use reference::request_fields;
+use reference::rules::Rules;
 use reference::table_fields::of_differing_places;
 use reference::tables::Tables;
 
-pub fn run(case: Case, faults: Faults, detail: Detail) -> Verdict {
-    let step = Step::take(&case.request, &case.tables, faults);
+pub fn run(case: Case, rules: &impl Rules, detail: Detail) -> Verdict {
+    let step = Step::take(&case.request, &case.tables, rules);
     Verdict::of(step.agrees(), detail, || {
         let mut lines = Vec::new();
         if detail == Detail::AllFields {
@@ -36,10 +36,10 @@ pub struct Step<'a> {
 }
 
 impl<'a> Step<'a> {
-    pub fn take(request: &'a Request, tables: &Tables, faults: Faults) -> Self {
+    pub fn take(request: &'a Request, tables: &Tables, rules: &impl Rules) -> Self {
         let (mut our_tables, mut reference_tables) = (tables.clone(), tables.clone());
         let (ours, kept_around) = ours::requests::handle(request, &mut our_tables);
-        let reference = handler::handle(request, &mut reference_tables, faults);
+        let reference = handler::handle(request, &mut reference_tables, rules);
         Step { ours, our_tables, kept_around, reference, reference_tables }
     }
 

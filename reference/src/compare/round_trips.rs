@@ -5,12 +5,12 @@ use crate::report::{self, Detail};
 use reference::asking::Arguments;
 use reference::asking_fields;
 use reference::cases::{reader, round_trips::Case};
-use reference::faults::Faults;
 use reference::outcome::Outcome;
 use reference::plain::plainly_read;
 use reference::round_trips::{
     expected, is_written_again, written_and_read, Content, Model, Program,
 };
+use reference::rules::Rules;
 use reference::writer::Written;
 
 /// The library.
@@ -26,19 +26,19 @@ impl Program for Ours {
     }
 }
 
-pub fn run(case: Case, faults: Faults, detail: Detail) -> Verdict {
-    let agrees = case.holds_of(&Ours, faults) && case.holds_of(&Model(faults), faults);
+pub fn run(case: Case, rules: &impl Rules, detail: Detail) -> Verdict {
+    let agrees = case.holds_of(&Ours, rules) && case.holds_of(&Model(rules), rules);
     Verdict::of(agrees, detail, || match &case {
-        Case::Asked(arguments) => asked_lines(arguments, faults, detail),
-        Case::Chain(chain) => chain_lines(chain, faults, detail),
+        Case::Asked(arguments) => asked_lines(arguments, rules, detail),
+        Case::Chain(chain) => chain_lines(chain, rules, detail),
     })
 }
 
 /// What is asked for, and what each program reads of what it writes beside what it must read.
-fn asked_lines(arguments: &Arguments, faults: Faults, detail: Detail) -> Vec<String> {
-    let expected = fields(expected(arguments, faults));
+fn asked_lines(arguments: &Arguments, rules: &impl Rules, detail: Detail) -> Vec<String> {
+    let expected = fields(expected(arguments, rules));
     let ours = fields(written_and_read(&Ours, arguments));
-    let reference = fields(written_and_read(&Model(faults), arguments));
+    let reference = fields(written_and_read(&Model(rules), arguments));
     let mut lines = report::input(&asking_fields::of(arguments));
     for (name, read) in [("ours", ours), ("reference", reference)] {
         lines.extend(report::side_by_side([(name, &read), ("asked for", &expected)], detail));
@@ -53,12 +53,12 @@ fn fields(content: Option<Content>) -> Vec<(String, String)> {
 }
 
 /// The chain, and whether each program writes it again beside whether it is plainly read.
-fn chain_lines(chain: &reader::Case, faults: Faults, detail: Detail) -> Vec<String> {
+fn chain_lines(chain: &reader::Case, rules: &impl Rules, detail: Detail) -> Vec<String> {
     let reader::Case { first, body } = chain;
     let field = |value: bool| [("the same chain".to_string(), value.to_string())];
-    let plain = field(plainly_read(*first, body, faults));
+    let plain = field(plainly_read(*first, body, rules));
     let ours = field(is_written_again(&Ours, *first, body));
-    let reference = field(is_written_again(&Model(faults), *first, body));
+    let reference = field(is_written_again(&Model(rules), *first, body));
     let mut lines = report::chain(*first, body);
     for (name, again) in [("ours", ours), ("reference", reference)] {
         lines.extend(report::side_by_side([(name, &again), ("plainly read", &plain)], detail));

@@ -4,14 +4,14 @@ use crate::ours;
 use crate::report::{self, Detail};
 use reference::calls::Call;
 use reference::cases::tables::Case;
-use reference::faults::Faults;
+use reference::rules::Rules;
 use reference::table_fields::{call_line, of_differing_places};
 use reference::tables::Tables;
 
-pub fn run(case: Case, faults: Faults, detail: Detail) -> Verdict {
+pub fn run(case: Case, rules: &impl Rules, detail: Detail) -> Verdict {
     let mut programs = Programs::new(case.tables.clone());
-    let agrees = case.calls.iter().all(|call| programs.make(call, faults).agrees(&programs));
-    let shown = if detail.shows(agrees) { show(&case, faults, detail) } else { String::new() };
+    let agrees = case.calls.iter().all(|call| programs.make(call, rules).agrees(&programs));
+    let shown = if detail.shows(agrees) { show(&case, rules, detail) } else { String::new() };
     Verdict { agrees, shown }
 }
 
@@ -34,9 +34,9 @@ impl Programs {
         Programs { ours: tables.clone(), reference: tables }
     }
 
-    fn make(&mut self, call: &Call, faults: Faults) -> Replies {
+    fn make(&mut self, call: &Call, rules: &impl Rules) -> Replies {
         let (ours, kept_around) = ours::tables::make(call, &mut self.ours);
-        Replies { ours, kept_around, reference: call.make(&mut self.reference, faults) }
+        Replies { ours, kept_around, reference: call.make(&mut self.reference, rules) }
     }
 }
 
@@ -53,7 +53,7 @@ impl Replies {
 }
 
 /// The calls up to the first that differs, with its differences; in full, also what each changes.
-fn show(case: &Case, faults: Faults, detail: Detail) -> String {
+fn show(case: &Case, rules: &impl Rules, detail: Detail) -> String {
     let mut lines = Vec::new();
     if detail == Detail::AllFields {
         lines.push("  tables at first, where not 0 or none:".to_string());
@@ -62,7 +62,7 @@ fn show(case: &Case, faults: Faults, detail: Detail) -> String {
     let mut programs = Programs::new(case.tables.clone());
     for (place, call) in case.calls.iter().enumerate() {
         let before = programs.reference.clone();
-        let replies = programs.make(call, faults);
+        let replies = programs.make(call, rules);
         lines.push(format!("  call {place}: {}", call_line(call)));
         lines.push(replies.line());
         if detail == Detail::AllFields {

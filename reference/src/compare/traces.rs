@@ -3,7 +3,7 @@ use crate::kinds::Verdict;
 use crate::ours::replay::{self, Ended};
 use crate::report::{self, Detail};
 use reference::cases::traces::Case;
-use reference::faults::Faults;
+use reference::rules::Rules;
 use reference::show::hex;
 use std::io;
 
@@ -11,9 +11,9 @@ use std::io;
 const MOST_OCTETS: usize = 1_000;
 const MOST_LINES: usize = 20;
 
-pub fn run(case: Case, faults: Faults, detail: Detail) -> io::Result<Verdict> {
+pub fn run(case: Case, rules: &impl Rules, detail: Detail) -> io::Result<Verdict> {
     let ours = replay::run(&case)?;
-    let printed = case.printed(faults);
+    let printed = case.printed(rules);
     let reference = Ended { printed, errors: Vec::new(), status: Some(0) };
     Ok(Verdict::of(ours == reference, detail, || {
         let in_full = detail == Detail::AllFields;

@@ -1,12 +1,11 @@
 // The two calls on single entries as they are compared: what is read at a place of some octets, what is
 // written of slots, and both round trips.
 use super::entry::{Entry, Rule};
-use super::reading::{self, Read, Unread};
+use super::reading::{self, Read};
 use super::slots::{self, Meant, Slots, SLOTS};
 use super::writing::{self, Written};
-use super::Refusal;
-use crate::faults::{Fault, Faults};
 use crate::reply::written_and_rest;
+use crate::rules::{Plain, Rules, TraceRules};
 use crate::show::hex;
 
 /// What the writer is given but for the output.
@@ -19,8 +18,8 @@ pub struct Lent {
 }
 
 impl Lent {
-    pub fn meant(&self, faults: Faults) -> Option<Meant> {
-        slots::meant(self.kind, &self.slots, &self.source, faults)
+    pub fn meant(&self, rules: &(impl TraceRules + ?Sized)) -> Option<Meant> {
+        slots::meant(self.kind, &self.slots, &self.source, rules)
     }
 }
 
@@ -46,7 +45,7 @@ impl Told {
     /// These fields, with what they mean in the octets.
     pub fn of(number: u8, kind: u8, next: usize, slots: Box<Slots>, octets: &[u8]) -> Self {
         let known = (number == 0).then_some(kind);
-        let meant = known.and_then(|kind| slots::meant(kind, &slots, octets, Faults::NONE));
+        let meant = known.and_then(|kind| slots::meant(kind, &slots, octets, &Plain));
         let meant = meant.map(|Meant { entry, within }| Meant { entry: counted(entry), within });
         Told { number, kind, next, slots, meant }
     }
@@ -68,66 +67,34 @@ pub trait Codec {
 }
 
 /// This program.
-pub struct Model(pub Faults);
+pub struct Model<'r, R>(pub &'r R);
 
-impl Codec for Model {
+impl<R: Rules> Codec for Model<'_, R> {
     fn read(&self, octets: &[u8], place: usize) -> Told {
-        let Model(faults) = *self;
-        let low = place % (1 << 16);
-        let wraps = faults.on(Fault::PlaceWraps) && place > octets.len() && low < octets.len();
-        let place = if wraps { low } else { place };
-        match reading::read(octets, place, faults) {
+        let rules = self.0.trace();
+        let place = rules.read_at(octets, place);
+        match reading::read(octets, place, rules) {
             Ok(Read { entry, next }) => {
-                let start = if faults.on(Fault::ReadOffsetsOfEntry) { 0 } else { place };
-                let mut told = slots::of_entry(&entry, start);
-                if faults.on(Fault::ReadSlotBehind) {
-                    spoil_behind(&entry, &mut told);
-                }
-                let next = if faults.on(Fault::ReadNextOfEntry) { next - place } else { next };
-                let kind = entry.kind() as u8;
+                let (kind, slots) = (entry.kind() as u8, Box::new(rules.slots(&entry, place)));
                 let meant = Some(Meant { entry, within: true });
-                Told { number: 0, kind, next, slots: Box::new(told), meant }
+                Told { number: 0, kind, next: rules.next(place, next), slots, meant }
             }
-            Err(unread) => refused(octets, place, unread, faults),
+            Err(refusal) => {
+                let (number, kind) = rules.told_refused(refusal, octets, place);
+                Told { number, kind, next: 0, slots: Box::new([0; SLOTS]), meant: None }
+            }
         }
     }
 
     fn write(&self, lent: &Lent, output: &[u8]) -> Written {
-        let Model(faults) = *self;
-        match lent.meant(faults) {
-            Some(meant) => writing::write_meant(&meant, output, faults),
+        let rules = self.0.trace();
+        match lent.meant(rules) {
+            Some(meant) => writing::write_meant(&meant, output, rules),
             None => {
-                let refusal = match output.len() {
-                    _ if faults.on(Fault::WrittenUnknownKind22) => Refusal::TooLarge,
-                    0 if faults.on(Fault::WrittenRoomBeforeKind) => Refusal::OutputTooShort,
-                    _ => Refusal::UnknownKind,
-                };
-                let output = output.to_vec();
+                let (refusal, output) = (rules.refusal_of_kind(output.len()), output.to_vec());
                 Written { number: refusal as u8, length: 0, output, around_kept: true }
             }
         }
-    }
-}
-
-/// All but the number is 0, but by faults.
-fn refused(octets: &[u8], place: usize, unread: Unread, faults: Faults) -> Told {
-    let Unread { refusal, field } = unread;
-    let kind = match octets.get(place) {
-        // A kind that is known is one octet.
-        Some(&kind) if refusal == Refusal::TooLarge && faults.on(Fault::RefusedKindTold) => kind,
-        _ => 0,
-    };
-    let next = if faults.on(Fault::RefusedNextTold) { field } else { 0 };
-    let ends = place == octets.len() && faults.on(Fault::EndRead);
-    let number = if ends { 0 } else { refusal as u8 };
-    Told { number, kind, next, slots: Box::new([0; SLOTS]), meant: None }
-}
-
-/// A slot that the entry doesn't have, which only a fault fills.
-fn spoil_behind(entry: &Entry, slots: &mut Slots) {
-    let items = if let Entry::Policy { count, .. } = entry { *count as usize } else { 0 };
-    if let Some(behind) = slots.get_mut(slots::count(entry.kind() as u8, items)) {
-        *behind = 1;
     }
 }
 
@@ -162,7 +129,7 @@ impl Outcome {
     pub fn broken(&self, lent: &Lent, buffer: &Buffer) -> Vec<&'static str> {
         let Outcome { written, read_back, told, written_again } = self;
         let is_read_back = read_back.as_ref().is_none_or(|back| {
-            let given = lent.meant(Faults::NONE).map(|Meant { entry, within }| {
+            let given = lent.meant(&Plain).map(|Meant { entry, within }| {
                 let entry = counted(entry);
                 Meant { entry, within }
             });
@@ -244,7 +211,7 @@ mod tests {
         let (mut back, mut again) = (0, 0);
         for number in 0..12_000 {
             let case = cases.case(number);
-            let outcome = case.outcome(&Model(Faults::NONE));
+            let outcome = case.outcome(&Model(&Plain));
             assert_eq!(outcome.broken(&case.lent, &case.buffer), Vec::<&str>::new(), "{case:?}");
             back += usize::from(outcome.read_back.is_some());
             again += usize::from(outcome.written_again.is_some());
@@ -257,7 +224,7 @@ mod tests {
         let cases = EntriesCases::new(2);
         for number in 0..12_000 {
             let Buffer { octets, place } = cases.case(number).buffer;
-            let told = Model(Faults::NONE).read(&octets, place);
+            let told = Model(&Plain).read(&octets, place);
             let Told { number, kind, next, slots, .. } = told.clone();
             assert_eq!(Told::of(number, kind, next, slots, &octets), told);
             assert!(number == 0 || (kind, next, *told.slots) == (0, 0, [0; SLOTS]));

@@ -1,18 +1,17 @@
 // Making the call of an entry on tables, and what the replay tells of it.
-use super::entry::{Entry, Pair, Request, Rule, Rules};
+use super::entry::{self, Entry, Pair, Request, Rule};
 use crate::address::AddressPair;
 use crate::agreed::Agreed;
 use crate::calls::Call;
-use crate::faults::{Fault, Faults};
-use crate::flaws;
 use crate::handler::handle;
 use crate::opening_both::Opening;
 use crate::policy::{self, RuleList};
-use crate::request::{self, LEAST_OUTPUT};
+use crate::request;
+use crate::rules::{ReplayRules, Rules};
 use crate::tables::Tables;
 
 /// What is told of a call; the outcomes as a reply has them.
-#[derive(Debug, Clone, Copy, PartialEq, Eq)]
+#[derive(Debug, Clone, Copy, Default, PartialEq, Eq)]
 pub struct Answer {
     pub number: u8,
     /// 0 none, 1 applied, 2 stale.
@@ -23,9 +22,9 @@ pub struct Answer {
 
 impl Entry {
     /// Makes the call of an entry that was read, so that its numbers have the room of their fields.
-    pub fn make(&self, tables: &mut Tables, faults: Faults) -> Answer {
+    pub fn make(&self, tables: &mut Tables, of: &impl Rules) -> Answer {
         let call = match self {
-            Entry::Request(request) => return request.make(tables, faults),
+            Entry::Request(request) => return request.make(tables, of),
             Entry::OpenBoth { spi, agreed, pair, child } => {
                 let agreed = Agreed { mobike: *agreed as u8 };
                 let (pair, child) = (pair.narrow(), *child as u32);
@@ -38,29 +37,12 @@ impl Entry {
                 Call::SetPolicy { count: *count as u16, rules: Box::new(rule_list(rules)) }
             }
         };
-        let left_out = match &call {
-            Call::SetPolicy { .. } => faults.on(Fault::PolicyLeftOut),
-            Call::CloseIpsec { .. } => faults.on(Fault::CloseIpsecLeftOut),
-            _ => false,
-        };
-        let number = if left_out {
-            call.make(&mut tables.clone(), faults)
-        } else {
-            call.make(tables, faults)
-        };
-        if let (Call::OpenBoth(opening), 0) = (&call, number) {
-            if faults.on(Fault::HalfOpened) {
-                Call::CloseIpsec { spi: opening.child }.make(tables, faults);
-            }
-        }
-        Answer { number, update: 0, list: 0 }
+        Answer { number: call.make(tables, of), ..Answer::default() }
     }
 }
 
 impl Request {
-    /// Lends the least output that a request is served with.
-    fn make(&self, tables: &mut Tables, faults: Faults) -> Answer {
-        let output = if faults.on(Fault::Lent127) { LEAST_OUTPUT - 1 } else { LEAST_OUTPUT };
+    fn make(&self, tables: &mut Tables, of: &impl Rules) -> Answer {
         let request = request::Request {
             spi: self.spi,
             id: self.id as u32,
@@ -69,12 +51,10 @@ impl Request {
             nat_destination: self.nat_destination.clone(),
             first: self.first as u8,
             body: self.body.clone(),
-            output: vec![0; output],
+            output: vec![0; of.replay().output_lent()],
         };
-        let reply = handle(&request, tables, faults).reply;
-        let unsplit = faults.on(Fault::ReplayUnsplit);
-        let number = if unsplit { flaws::unsplit(reply.number) } else { reply.number };
-        Answer { number, update: reply.update, list: reply.list }
+        let reply = handle(&request, tables, of).reply;
+        Answer { number: reply.number, update: reply.update, list: reply.list }
     }
 }
 
@@ -90,7 +70,7 @@ impl Pair {
     }
 }
 
-fn rule_list(rules: &Rules) -> RuleList {
+fn rule_list(rules: &entry::Rules) -> RuleList {
     let narrow = |rule: Rule| policy::Rule {
         family: rule.family as u8,
         source: rule.source,

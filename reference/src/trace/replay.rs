@@ -1,93 +1,54 @@
 // The replay of a trace: each entry is read and its call made, from empty tables and policy, up to the
 // end or to the first entry that can't be read.
+use super::lines::pairs;
+use super::making::Answer;
 use super::pieces::Pieces;
-use super::reading::{self, Unread};
-use super::{lines, Refusal};
-use crate::faults::{Fault, Faults};
+use super::reading;
+use crate::rules::{ReplayRules, Rules};
 use crate::tables::Tables;
 
 /// All that is printed for a trace whose octets come at once.
-pub fn replay(trace: &[u8], faults: Faults) -> Vec<u8> {
-    replay_in_pieces(trace, &Pieces::at_once(), faults)
+pub fn replay(trace: &[u8], rules: &impl Rules) -> Vec<u8> {
+    replay_in_pieces(trace, &Pieces::at_once(), rules)
 }
 
-/// All that is printed for a trace, which is the same however its octets come but by faults.
-pub fn replay_in_pieces(trace: &[u8], pieces: &Pieces, faults: Faults) -> Vec<u8> {
-    let first = if faults.on(Fault::FirstPieceOnly) { pieces.end(0, trace) } else { trace.len() };
-    let trace = &trace[..first];
+/// All that is printed for a trace, which is the same however its octets come.
+pub fn replay_in_pieces(trace: &[u8], pieces: &Pieces, rules: &impl Rules) -> Vec<u8> {
+    let of_replay = rules.replay();
     let mut tables = Tables::empty();
-    let mut printed = String::new();
-    let (mut ordinal, mut offset) = (0, 0);
-    let last = loop {
-        if offset == trace.len() {
-            break lines::pairs(&tables, faults);
-        }
-        match reading::read(window(trace, pieces, offset, faults), offset, faults) {
+    let mut lines = Vec::new();
+    let (mut ordinal, mut offset, mut goes_on) = (0, 0, true);
+    while goes_on && offset < trace.len() {
+        match reading::read(of_replay.window(trace, pieces, offset), offset, rules.trace()) {
             Ok(read) => {
-                let answer = read.entry.make(&mut tables, faults);
-                printed += &lines::entry(ordinal, answer, faults);
+                let mut answer = Answer::default();
+                if of_replay.makes(read.entry.kind()) {
+                    answer = read.entry.make(&mut tables, rules);
+                }
+                lines.push(of_replay.entry(ordinal, &answer));
                 (ordinal, offset) = (ordinal + 1, read.next);
-                if answer.number != 0 && faults.on(Fault::RefusedCallEnds) {
-                    break lines::pairs(&tables, faults);
-                }
+                goes_on = of_replay.goes_on(answer.number);
             }
-            Err(Unread { refusal: Refusal::Cut, .. }) if faults.on(Fault::CutEnds) => {
-                break lines::pairs(&tables, faults);
-            }
-            Err(unread) => {
-                let told = told_offset(ordinal, offset, unread, faults);
-                let mut last = lines::refusal(unread.refusal, told);
-                if faults.on(Fault::PairsAfterRefusal) {
-                    last += &lines::pairs(&tables, faults);
-                }
-                if faults.on(Fault::RefusedUnmade) {
-                    printed.clear();
-                }
-                break last;
+            Err(refusal) => {
+                let line = of_replay.refusal(refusal, offset, ordinal);
+                let pairs = || pairs(&tables, of_replay);
+                lines.extend(of_replay.after_refusal(refusal, line, &pairs));
+                return of_replay.joined(&lines).into_bytes();
             }
         }
-    };
-    printed += &last;
-    if faults.on(Fault::LastLineUnended) {
-        printed.pop();
     }
-    if trace.is_empty() && faults.on(Fault::EmptyTraceLine) {
-        printed.push('\n');
-    }
-    printed.into_bytes()
-}
-
-/// As many octets as some faults take for the whole trace.
-const WINDOW: usize = 12_352;
-
-/// What the entry at this offset is read of: the trace.
-fn window<'a>(trace: &'a [u8], pieces: &Pieces, offset: usize, faults: Faults) -> &'a [u8] {
-    let end = match faults {
-        _ if faults.on(Fault::WindowEnds) => (offset / WINDOW + 1) * WINDOW,
-        _ if faults.on(Fault::PieceEnds) => pieces.end(offset, trace),
-        _ => trace.len(),
-    };
-    &trace[..end.min(trace.len())]
-}
-
-/// That of the entry's first octet.
-fn told_offset(ordinal: u64, offset: usize, unread: Unread, faults: Faults) -> usize {
-    match faults {
-        _ if faults.on(Fault::RefusalOwnOffset) => unread.field,
-        _ if faults.on(Fault::RefusalOrdinal) => ordinal as usize,
-        _ if faults.on(Fault::RefusalWindowOffset) => offset % WINDOW,
-        _ if faults.on(Fault::Offset16Bits) => offset % 65_536,
-        _ => offset,
-    }
+    lines.extend(pairs(&tables, of_replay));
+    of_replay.joined(&lines).into_bytes()
 }
 
 #[cfg(test)]
 mod tests {
     use super::*;
     use crate::cases::traces::examples::{self, Example};
+    use crate::rules::Plain;
 
     fn printed(trace: &[u8]) -> String {
-        String::from_utf8(replay(trace, Faults::NONE)).expect("only plain characters")
+        String::from_utf8(replay(trace, &Plain)).expect("only plain characters")
     }
 
     #[test]
@@ -102,7 +63,7 @@ mod tests {
         let mut starts = vec![0];
         let mut offset = 0;
         while offset < trace.len() {
-            offset = reading::read(trace, offset, Faults::NONE).expect("a whole trace").next;
+            offset = reading::read(trace, offset, &Plain).expect("a whole trace").next;
             starts.push(offset);
         }
         starts

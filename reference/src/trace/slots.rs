@@ -2,10 +2,10 @@
 // number has one; an address one, its offset in octets that are lent; a string two, its offset there and its
 // length; a list one for its count, and those of its items.
 use super::entry::{Entry, Pair, Request, Rule, Rules};
-use super::fields::{Field, MOST_OCTETS};
+use super::fields::Field;
 use super::writing::{pieces, Piece};
 use crate::address::AddressOctets;
-use crate::faults::{Fault, Faults};
+use crate::rules::{Plain, TraceRules};
 
 /// As many as a policy of sixteen rules has.
 pub const SLOTS: usize = 81;
@@ -16,8 +16,8 @@ pub type Slots = [u64; SLOTS];
 pub fn of_entry(entry: &Entry, start: usize) -> Slots {
     let mut offset = start;
     let mut told = Vec::new();
-    for piece in pieces(entry, Faults::NONE) {
-        let behind = offset + piece.octets(Faults::NONE).len();
+    for piece in pieces(entry, &Plain) {
+        let behind = offset + piece.octets(&Plain).len();
         match piece {
             Piece::Number(Field::Length, length) => told.extend([behind as u64, length]),
             Piece::Number(_, number) => told.push(number),
@@ -51,8 +51,13 @@ pub struct Meant {
 }
 
 /// None if there is no such kind.
-pub fn meant(kind: u8, slots: &Slots, source: &[u8], faults: Faults) -> Option<Meant> {
-    let mut taking = Taking { slots: slots.iter(), source, within: true, faults };
+pub fn meant(
+    kind: u8,
+    slots: &Slots,
+    source: &[u8],
+    rules: &(impl TraceRules + ?Sized),
+) -> Option<Meant> {
+    let mut taking = Taking { slots: slots.iter(), source, within: true, rules };
     let entry = match kind {
         0 => Entry::OpenBoth {
             spi: taking.number(),
@@ -71,14 +76,14 @@ pub fn meant(kind: u8, slots: &Slots, source: &[u8], faults: Faults) -> Option<M
 }
 
 /// Slots as they are taken, one behind the other.
-struct Taking<'a> {
+struct Taking<'a, R: ?Sized> {
     slots: std::slice::Iter<'a, u64>,
     source: &'a [u8],
     within: bool,
-    faults: Faults,
+    rules: &'a R,
 }
 
-impl Taking<'_> {
+impl<R: TraceRules + ?Sized> Taking<'_, R> {
     fn number(&mut self) -> u64 {
         *self.slots.next().expect("no kind has more slots")
     }
@@ -95,27 +100,9 @@ impl Taking<'_> {
     }
 
     fn part(&mut self, offset: u64, length: u64) -> Vec<u8> {
-        let size = self.source.len() as u64;
-        if offset.checked_add(length).is_some_and(|end| end <= size) {
-            return self.source[offset as usize..][..length as usize].to_vec();
-        }
-        if length <= MOST_OCTETS as u64 && self.is_taken(offset, length) {
-            return vec![0; length as usize];
-        }
-        self.within = false;
-        Vec::new()
-    }
-
-    /// Whether a fault takes a part that isn't within the source.
-    fn is_taken(&self, offset: u64, length: u64) -> bool {
-        let size = self.source.len() as u64;
-        let on = |fault| self.faults.on(fault);
-        match length {
-            0 => on(Fault::WrittenEmptyOutside),
-            _ if on(Fault::WrittenOutsideByOne) => offset.checked_add(length) == Some(size + 1),
-            _ if on(Fault::WrittenEndWraps) => offset.wrapping_add(length) <= size,
-            _ => on(Fault::WrittenOutsideZeros),
-        }
+        let part = self.rules.part(self.source, offset, length);
+        self.within &= part.is_some();
+        part.unwrap_or_default()
     }
 
     fn pair(&mut self) -> Pair {
@@ -147,7 +134,7 @@ impl Taking<'_> {
         for (place, rule) in rules.iter_mut().enumerate() {
             let within = self.within;
             *rule = self.rule();
-            if place as u64 >= count && !self.faults.on(Fault::WrittenOutsidePastCount) {
+            if !self.rules.looks_at_rule(place as u64, count) {
                 self.within = within;
             }
         }
@@ -180,7 +167,7 @@ mod tests {
             let items = if let Entry::Policy { count, .. } = &entry { *count as usize } else { 0 };
             let used = count(entry.kind() as u8, items);
             assert!(slots[used..].iter().all(|&slot| slot == 0));
-            let told = meant(entry.kind() as u8, &slots, &octets, Faults::NONE);
+            let told = meant(entry.kind() as u8, &slots, &octets, &Plain);
             // Past a count, slots of 0 mean what stands at offset 0.
             let Meant { entry: told, within } = told.expect("a known kind");
             assert_eq!((counted(told), within), (entry, true));
@@ -201,7 +188,7 @@ mod tests {
     fn what_is_not_within_the_source_is_told() {
         let mut slots = [0; SLOTS];
         let within = |slots: &Slots, kind, size| {
-            meant(kind, slots, &vec![1; size], Faults::NONE).is_some_and(|meant| meant.within)
+            meant(kind, slots, &vec![1; size], &Plain).is_some_and(|meant| meant.within)
         };
         assert!(!within(&slots, 0, 15) && within(&slots, 0, 16));
         slots[3] = 1;
@@ -211,6 +198,6 @@ mod tests {
         (slots[7], slots[8]) = (u64::MAX, 1);
         assert!(!within(&slots, 4, 17));
         assert!(within(&[0; SLOTS], 5, 0) && !within(&[1; SLOTS], 5, 0));
-        assert!(meant(6, &slots, &[], Faults::NONE).is_none());
+        assert!(meant(6, &slots, &[], &Plain).is_none());
     }
 }

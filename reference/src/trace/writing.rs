@@ -1,10 +1,9 @@
 // Writing an entry: every field that is too large is found first (22), then an output too short (2).
 use super::entry::{Entry, Pair, Request, Rule};
-use super::fields::{Field, MOST_RULES};
+use super::fields::{Field, Part};
 use super::slots::Meant;
-use super::{numbers, Refusal};
 use crate::address::AddressOctets;
-use crate::faults::{Fault, Faults};
+use crate::rules::{Plain, TraceRules};
 
 /// What an entry consists of, in its order.
 #[derive(Debug, Clone, Copy, PartialEq, Eq)]
@@ -28,71 +27,33 @@ pub struct Written {
 }
 
 /// Writes an entry to the start of the output, or nothing.
-pub fn write(entry: &Entry, output: &[u8], faults: Faults) -> Written {
-    write_meant(&Meant { entry: entry.clone(), within: true }, output, faults)
+pub fn write(entry: &Entry, output: &[u8], rules: &(impl TraceRules + ?Sized)) -> Written {
+    write_meant(&Meant { entry: entry.clone(), within: true }, output, rules)
 }
 
 /// The same of an entry that was told by slots; what isn't within the source is as what is too large.
-pub fn write_meant(meant: &Meant, output: &[u8], faults: Faults) -> Written {
+pub fn write_meant(meant: &Meant, output: &[u8], rules: &(impl TraceRules + ?Sized)) -> Written {
     let Meant { entry, within } = meant;
-    let mut pieces = pieces(entry, faults);
-    pieces.iter_mut().for_each(|piece| piece.spoil(faults));
-    let fitting = pieces.iter().take_while(|piece| piece.fits(faults)).count();
-    let fits = fitting == pieces.len() && *within && !past_count_unfit(entry, faults);
-    let octets = octets(&pieces, faults);
-    let mut output = output.to_vec();
-    let (number, length) = match refusal(fits, octets.len(), output.len(), faults) {
-        None => {
-            put(&mut output, &octets);
-            if faults.on(Fault::WrittenRestCleared) {
-                output.iter_mut().skip(octets.len()).for_each(|octet| *octet = 0);
-            }
-            (0, octets.len())
-        }
-        Some(Refusal::OutputTooShort) => {
-            if faults.on(Fault::WrittenPartWith2) {
-                put(&mut output, &octets);
-            }
-            (2, if faults.on(Fault::WrittenLengthWith2) { octets.len() } else { 0 })
-        }
+    let pieces = pieces(entry, rules);
+    let fits = *within && pieces.iter().all(|piece| piece.fits(rules));
+    let octets = octets(&pieces, rules);
+    let too_short = output.len() < rules.needed(octets.len());
+    let (number, length, output) = match rules.refusal(!fits, too_short) {
+        None => (0, octets.len(), rules.output(output, &octets)),
         Some(refusal) => {
-            if faults.on(Fault::WrittenBefore22) {
-                put(&mut output, &self::octets(&pieces[..fitting], faults));
-            }
-            (refusal as u8, 0)
+            let output = rules.output_refused(output, refusal, &octets);
+            (refusal as u8, rules.length_refused(&octets), output)
         }
     };
     Written { number, length, output, around_kept: true }
 }
 
-/// 22, then 2.
-fn refusal(fits: bool, length: usize, room: usize, faults: Faults) -> Option<Refusal> {
-    let needed = match length {
-        _ if faults.on(Fault::WrittenOneShort) => length - 1,
-        _ if faults.on(Fault::WrittenOneOver) => length + 1,
-        _ if faults.on(Fault::WrittenFixedRoom) => length.max(LONGEST),
-        _ => length,
-    };
-    let too_large = (!fits).then_some(Refusal::TooLarge);
-    let too_short = (room < needed).then_some(Refusal::OutputTooShort);
-    if faults.on(Fault::WrittenRoomFirst) {
-        too_short.or(too_large)
-    } else {
-        too_large.or(too_short)
-    }
-}
-
 /// The longest entry: a request.
 pub const LONGEST: usize = 12_352;
 
-/// As many of the octets as the output has room for.
-fn put(output: &mut [u8], octets: &[u8]) {
-    output.iter_mut().zip(octets).for_each(|(place, octet)| *place = *octet);
-}
-
 /// The octets of an entry whose numbers all fit; of another one, what no reader takes.
 pub fn entry_octets(entry: &Entry) -> Vec<u8> {
-    octets(&pieces(entry, Faults::NONE), Faults::NONE)
+    octets(&pieces(entry, &Plain), &Plain)
 }
 
 /// The octets of a whole trace.
@@ -100,111 +61,94 @@ pub fn trace_octets(entries: &[Entry]) -> Vec<u8> {
     entries.iter().flat_map(entry_octets).collect()
 }
 
-fn octets(pieces: &[Piece], faults: Faults) -> Vec<u8> {
-    pieces.iter().flat_map(|piece| piece.octets(faults)).collect()
+fn octets(pieces: &[Piece], rules: &(impl TraceRules + ?Sized)) -> Vec<u8> {
+    pieces.iter().flat_map(|piece| piece.octets(rules)).collect()
 }
 
 impl Piece<'_> {
-    fn fits(&self, faults: Faults) -> bool {
+    fn fits(&self, rules: &(impl TraceRules + ?Sized)) -> bool {
         match self {
-            Piece::Number(field, value) => *value <= field.most(faults),
+            Piece::Number(field, value) => rules.fits(*field, *value),
             Piece::Kind(_) | Piece::Address(_) | Piece::Octets(_) => true,
         }
     }
 
-    /// Makes a number that is too large fit, which only faults do.
-    fn spoil(&mut self, faults: Faults) {
-        if let Piece::Number(field, value) = self {
-            if faults.on(Fault::WrittenCut) && !matches!(field, Field::Count | Field::Length) {
-                *value &= field.most(faults);
-            }
-            if faults.on(Fault::WrittenAgreedYes) && *field == Field::Agreed {
-                *value = (*value).min(1);
-            }
-        }
-    }
-
-    pub fn octets(&self, faults: Faults) -> Vec<u8> {
+    pub fn octets(&self, rules: &(impl TraceRules + ?Sized)) -> Vec<u8> {
         match self {
-            Piece::Number(Field::Family, value) if faults.on(Fault::WrittenFamilyBare) => {
-                vec![*value as u8]
-            }
-            Piece::Kind(value) | Piece::Number(_, value) => numbers::write(*value, faults),
+            Piece::Number(field, value) if rules.is_bare(*field) => vec![*value as u8],
+            Piece::Kind(value) | Piece::Number(_, value) => rules.number(*value),
             Piece::Address(octets) => octets.to_vec(),
             Piece::Octets(octets) => octets.to_vec(),
         }
     }
 }
 
-pub fn pieces(entry: &Entry, faults: Faults) -> Vec<Piece<'_>> {
+/// The kind, then what each part of it consists of.
+pub fn pieces<'a>(entry: &'a Entry, rules: &(impl TraceRules + ?Sized)) -> Vec<Piece<'a>> {
     let mut pieces = vec![Piece::Kind(entry.kind())];
-    match entry {
-        Entry::OpenBoth { spi, agreed, pair, child } => {
-            pieces.push(Piece::Number(Field::IkeSpi, *spi));
-            pieces.push(Piece::Number(Field::Agreed, *agreed));
-            push_pair(&mut pieces, pair);
-            let place = if faults.on(Fault::WrittenChildSecond) { 2 } else { pieces.len() };
-            pieces.insert(place, Piece::Number(Field::IpsecSpi, *child));
-        }
-        Entry::AddIpsec { spi, owner } => {
-            pieces.push(Piece::Number(Field::IpsecSpi, *spi));
-            pieces.push(Piece::Number(Field::IkeSpi, *owner));
-        }
-        Entry::CloseIke { spi } => pieces.push(Piece::Number(Field::IkeSpi, *spi)),
-        Entry::CloseIpsec { spi } => pieces.push(Piece::Number(Field::IpsecSpi, *spi)),
-        Entry::Request(request) => push_request(&mut pieces, request),
-        Entry::Policy { count, rules } => {
-            pieces.push(Piece::Number(Field::Count, *count));
-            let all = faults.on(Fault::WrittenAllRules);
-            let written = if all { MOST_RULES } else { in_list(*count) };
-            rules[..written].iter().for_each(|rule| push_rule(&mut pieces, rule));
+    for part in rules.layout(entry.kind()) {
+        match entry {
+            Entry::Policy { count, rules: listed } => {
+                pieces.push(Piece::Number(Field::Count, *count));
+                for rule in &listed[..rules.rules_in(*count)] {
+                    let layout = rules.layout_of_rule().iter();
+                    pieces.extend(layout.map(|&part| of_rule(rule, part)));
+                }
+            }
+            Entry::Request(request) => pieces.extend(of_request(request, part)),
+            _ => pieces.push(of_table_call(entry, part)),
         }
     }
     pieces
 }
 
-/// How many of the sixteen places a count takes in.
-fn in_list(count: u64) -> usize {
-    count.min(MOST_RULES as u64) as usize
+fn of_table_call(entry: &Entry, part: Part) -> Piece<'_> {
+    match (entry, part) {
+        (Entry::OpenBoth { spi, .. }, Part::IkeSpi) => Piece::Number(Field::IkeSpi, *spi),
+        (Entry::OpenBoth { agreed, .. }, Part::Agreed) => Piece::Number(Field::Agreed, *agreed),
+        (Entry::OpenBoth { child, .. }, Part::IpsecSpi) => Piece::Number(Field::IpsecSpi, *child),
+        (Entry::OpenBoth { pair, .. }, _) => of_pair(pair, part),
+        (Entry::AddIpsec { owner, .. }, Part::IkeSpi) => Piece::Number(Field::IkeSpi, *owner),
+        (Entry::AddIpsec { spi, .. }, _) => Piece::Number(Field::IpsecSpi, *spi),
+        (Entry::CloseIke { spi }, _) => Piece::Number(Field::IkeSpi, *spi),
+        (Entry::CloseIpsec { spi }, _) => Piece::Number(Field::IpsecSpi, *spi),
+        (Entry::Request(_) | Entry::Policy { .. }, _) => unreachable!("no call on records"),
+    }
 }
 
-fn push_request<'a>(pieces: &mut Vec<Piece<'a>>, request: &'a Request) {
-    pieces.push(Piece::Number(Field::IkeSpi, request.spi));
-    pieces.push(Piece::Number(Field::Id, request.id));
-    push_pair(pieces, &request.pair);
-    push_string(pieces, &request.nat_source);
-    push_string(pieces, &request.nat_destination);
-    pieces.push(Piece::Number(Field::FirstType, request.first));
-    push_string(pieces, &request.body);
+fn of_request(request: &Request, part: Part) -> Vec<Piece<'_>> {
+    let string = |octets| {
+        vec![Piece::Number(Field::Length, <[u8]>::len(octets) as u64), Piece::Octets(octets)]
+    };
+    match part {
+        Part::IkeSpi => vec![Piece::Number(Field::IkeSpi, request.spi)],
+        Part::Id => vec![Piece::Number(Field::Id, request.id)],
+        Part::FirstType => vec![Piece::Number(Field::FirstType, request.first)],
+        Part::NatSource => string(&request.nat_source),
+        Part::NatDestination => string(&request.nat_destination),
+        Part::Body => string(&request.body),
+        _ => vec![of_pair(&request.pair, part)],
+    }
 }
 
-fn push_pair<'a>(pieces: &mut Vec<Piece<'a>>, pair: &'a Pair) {
-    pieces.push(Piece::Number(Field::Family, pair.family));
-    pieces.push(Piece::Address(&pair.source));
-    pieces.push(Piece::Address(&pair.destination));
-    pieces.push(Piece::Number(Field::Port, pair.source_port));
-    pieces.push(Piece::Number(Field::Port, pair.destination_port));
+fn of_pair(pair: &Pair, part: Part) -> Piece<'_> {
+    match part {
+        Part::Family => Piece::Number(Field::Family, pair.family),
+        Part::Source => Piece::Address(&pair.source),
+        Part::Destination => Piece::Address(&pair.destination),
+        Part::SourcePort => Piece::Number(Field::Port, pair.source_port),
+        _ => Piece::Number(Field::Port, pair.destination_port),
+    }
 }
 
-fn push_rule<'a>(pieces: &mut Vec<Piece<'a>>, rule: &'a Rule) {
-    pieces.push(Piece::Number(Field::Family, rule.family));
-    pieces.push(Piece::Address(&rule.source));
-    pieces.push(Piece::Address(&rule.destination));
-    pieces.push(Piece::Number(Field::PrefixLength, rule.source_length));
-    pieces.push(Piece::Number(Field::PrefixLength, rule.destination_length));
-}
-
-fn push_string<'a>(pieces: &mut Vec<Piece<'a>>, octets: &'a [u8]) {
-    pieces.push(Piece::Number(Field::Length, octets.len() as u64));
-    pieces.push(Piece::Octets(octets));
-}
-
-/// Whether a rule past the count has no room, which only a fault looks at.
-fn past_count_unfit(entry: &Entry, faults: Faults) -> bool {
-    let Entry::Policy { count, rules } = entry else { return false };
-    let mut past = Vec::new();
-    rules[in_list(*count)..].iter().for_each(|rule| push_rule(&mut past, rule));
-    faults.on(Fault::WrittenPastCount) && past.iter().any(|piece| !piece.fits(faults))
+fn of_rule(rule: &Rule, part: Part) -> Piece<'_> {
+    match part {
+        Part::Family => Piece::Number(Field::Family, rule.family),
+        Part::Source => Piece::Address(&rule.source),
+        Part::Destination => Piece::Address(&rule.destination),
+        Part::SourceLength => Piece::Number(Field::PrefixLength, rule.source_length),
+        _ => Piece::Number(Field::PrefixLength, rule.destination_length),
+    }
 }
 
 #[cfg(test)]
@@ -213,7 +157,7 @@ mod tests {
     use crate::trace::entry::Rules;
 
     fn written(entry: &Entry, output: &[u8]) -> (u8, usize, Vec<u8>) {
-        let Written { number, length, output, .. } = write(entry, output, Faults::NONE);
+        let Written { number, length, output, .. } = write(entry, output, &Plain);
         (number, length, output)
     }
 

@@ -2,6 +2,7 @@
 
 /// What [`handle`](crate::handle) gives: all but the tables and the response's octets.
 #[repr(C)]
+#[must_use = "its number may be a refusal"]
 #[derive(Debug, Clone, Copy, PartialEq, Eq)]
 pub struct Reply {
     pub(crate) number: u8,
@@ -19,6 +20,7 @@ pub struct Reply {
 
 /// What [`write`](crate::write) gives beside the octets.
 #[repr(C)]
+#[must_use = "its number may be a refusal"]
 #[derive(Debug, Clone, Copy, PartialEq, Eq)]
 pub struct Written {
     pub(crate) number: u8,
@@ -28,6 +30,7 @@ pub struct Written {
 
 /// What [`assess`](crate::assess) gives.
 #[repr(C)]
+#[must_use = "its number may be a refusal"]
 #[derive(Debug, Clone, Copy, PartialEq, Eq)]
 pub struct Assessment {
     pub(crate) number: u8,

@@ -59,6 +59,7 @@ pub struct Seen {
 
 /// What [`read`](crate::read) gives.
 #[repr(C)]
+#[must_use = "its number may be a refusal"]
 #[derive(Debug, Clone, Copy, PartialEq, Eq)]
 pub struct Reading {
     pub(crate) number: u8,

@@ -39,7 +39,7 @@ mod tests {
     use super::*;
     use crate::assess::assess;
     use crate::cases::seeded::met;
-    use crate::faults::Faults;
+    use crate::rules::Plain;
 
     #[test]
     fn random_cases_meet_every_answer_often() {
@@ -50,7 +50,7 @@ mod tests {
         let with_sent = with_sent.iter().map(|&(number, outcome)| (number, outcome, false));
         let without = without.iter().map(|&(number, outcome)| (number, outcome, true));
         met::assert_often(&with_sent.chain(without).collect::<Vec<_>>(), |case: Case| {
-            let assessed = assess(&case.sent, case.first, &case.body, Faults::NONE);
+            let assessed = assess(&case.sent, case.first, &case.body, &Plain);
             (assessed.number, assessed.outcome, case.sent.is_empty())
         });
     }

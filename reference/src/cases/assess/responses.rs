@@ -2,10 +2,10 @@
 use super::super::reader::draft::{ChainDraft, Draft};
 use super::super::reader::{self, atoms, damage::Damage, mutation, well_formed};
 use super::Case;
-use crate::faults::Faults;
 use crate::notify::NotifyType;
 use crate::reader::read;
 use crate::rng::Rng;
+use crate::rules::Plain;
 
 const ERRORS: [u16; 9] = [40, 41, 40, 41, 7, 1, 14, 0, 16383];
 const STATUSES: [u16; 5] = [16384, 16385, 16403, 40960, 65535];
@@ -43,7 +43,7 @@ fn cookie_sent(rng: &mut Rng) -> Vec<u8> {
 /// One of the reader's chains; often the cookie in it is the one that was sent.
 fn any_chain(rng: &mut Rng, sent: Vec<u8>) -> Case {
     let response = reader::random(rng);
-    let summary = read(response.first, &response.body, Faults::NONE).summary;
+    let summary = read(response.first, &response.body, &Plain).summary;
     let there = summary.cookie.map(|cookie| cookie.octets.to_vec());
     let sent = there.filter(|_| rng.one_in(2)).unwrap_or(sent);
     Case::of(sent, response)

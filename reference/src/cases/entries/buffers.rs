@@ -1,7 +1,7 @@
 // Octets to read an entry of, and the place at which it is read.
 use super::super::traces;
-use crate::faults::Faults;
 use crate::rng::Rng;
+use crate::rules::Plain;
 use crate::trace::codec::Buffer;
 use crate::trace::entry::Entry;
 use crate::trace::reading;
@@ -30,7 +30,7 @@ pub fn drawn(rng: &mut Rng, entry: &Entry) -> Buffer {
 fn starts(octets: &[u8]) -> Vec<usize> {
     let mut starts = vec![0];
     let mut place = 0;
-    while let Ok(read) = reading::read(octets, place, Faults::NONE) {
+    while let Ok(read) = reading::read(octets, place, &Plain) {
         place = read.next;
         starts.push(place);
     }

@@ -1,6 +1,6 @@
 // Changes of an entry's numbers, to such that their fields have no room for.
-use crate::faults::Faults;
 use crate::rng::Rng;
+use crate::rules::{Plain, TraceRules};
 use crate::trace::entry::{Entry, Pair, Rule};
 use crate::trace::fields::{Field, MOST_OCTETS};
 
@@ -59,7 +59,7 @@ pub fn enlarge(rng: &mut Rng, entry: &mut Entry) {
     let numbers = numbers(entry);
     let chosen = rng.below(numbers.len());
     if let Some((field, number)) = numbers.into_iter().nth(chosen) {
-        let most = field.most(Faults::NONE);
+        let most = Plain.most(field);
         let more = [most.saturating_add(1), most.saturating_mul(2), u64::MAX];
         *number = rng.pick(&more);
     }

@@ -1,6 +1,6 @@
 // Slots to write an entry of, with the source that their offsets are of.
-use crate::faults::Faults;
 use crate::rng::Rng;
+use crate::rules::Plain;
 use crate::trace::codec::Lent;
 use crate::trace::entry::Entry;
 use crate::trace::fields::Field;
@@ -21,7 +21,7 @@ pub enum Slot {
 /// The slots of an entry, those of rules past the count too.
 pub fn sorts(entry: &Entry) -> Vec<Slot> {
     let mut sorts = Vec::new();
-    for piece in pieces(entry, Faults::NONE) {
+    for piece in pieces(entry, &Plain) {
         match piece {
             Piece::Number(Field::Length, _) => sorts.extend([Slot::Start, Slot::Length]),
             Piece::Number(..) => sorts.push(Slot::Number),
@@ -36,7 +36,7 @@ pub fn sorts(entry: &Entry) -> Vec<Slot> {
 pub fn packed(entry: &Entry) -> Lent {
     let mut source = Vec::new();
     let mut slots = Vec::new();
-    for piece in pieces(&whole(entry), Faults::NONE) {
+    for piece in pieces(&whole(entry), &Plain) {
         match piece {
             Piece::Number(Field::Length, length) => slots.extend([source.len() as u64, length]),
             Piece::Number(_, number) => slots.push(number),

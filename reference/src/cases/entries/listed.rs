@@ -7,7 +7,7 @@ use super::super::traces::listed::{request, samples};
 use super::changes::numbers;
 use super::lending::{about, as_read, packed, sorts};
 use super::Case;
-use crate::faults::Faults;
+use crate::rules::{Plain, TraceRules};
 use crate::trace::codec::{Buffer, Lent};
 use crate::trace::entry::{Entry, Request, Rules};
 use crate::trace::fields::{Field, MOST_OCTETS, MOST_RULES};
@@ -80,7 +80,7 @@ const VALUES: usize = 12;
 
 /// About the greatest that the field has room for, and about what another octet is needed for.
 fn values(field: Field) -> [u64; VALUES] {
-    let most = field.most(Faults::NONE);
+    let most = Plain.most(field);
     let over = most.saturating_add(1);
     [0, 1, 2, 127, 128, 16_383, 16_384, most - 1, most, over, most.saturating_mul(2), u64::MAX]
 }

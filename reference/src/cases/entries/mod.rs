@@ -7,8 +7,8 @@ mod listed;
 
 use super::seeded::{Kinded, Seeded};
 use super::traces::any_fields;
-use crate::faults::Faults;
 use crate::rng::Rng;
+use crate::rules::Plain;
 use crate::trace::codec::{Buffer, Codec, Lent, Outcome};
 use crate::trace::writing::entry_octets;
 
@@ -52,7 +52,7 @@ impl Kinded for Case {
 impl Lent {
     /// How many octets the entry takes, though it may not fit; 0 if there is no such kind.
     fn length(&self) -> usize {
-        self.meant(Faults::NONE).map_or(0, |meant| entry_octets(&meant.entry).len())
+        self.meant(&Plain).map_or(0, |meant| entry_octets(&meant.entry).len())
     }
 }
 
@@ -73,7 +73,7 @@ mod tests {
     #[test]
     fn random_entries_meet_every_answer_often() {
         let answer = |case: Case| {
-            let Outcome { written, told, .. } = case.outcome(&Model(Faults::NONE));
+            let Outcome { written, told, .. } = case.outcome(&Model(&Plain));
             (written.number, told.number)
         };
         let all = [0, 2, 21, 22].map(|written| [0, 20, 21, 22].map(|read| (written, read)));

@@ -50,9 +50,10 @@ fn random(rng: &mut Rng) -> Case {
 #[cfg(test)]
 mod tests {
     use super::*;
-    use crate::faults::{Fault, Faults};
+    use crate::faults::Fault;
     use crate::handler::handle;
     use crate::orders::{self, Orders};
+    use crate::rules::{Plain, Rules};
 
     const CASES: u64 = 2_000;
 
@@ -62,8 +63,8 @@ mod tests {
     }
 
     /// What of demand 3 isn't so of a handler with this fault.
-    fn broken(Case { tables, requests, chance }: Case, of_handler: Faults) -> Vec<String> {
-        orders::broken(&tables, &requests, &chance, Faults::NONE, |request, tables| {
+    fn broken(Case { tables, requests, chance }: Case, of_handler: &impl Rules) -> Vec<String> {
+        orders::broken(&tables, &requests, &chance, &Plain, |request, tables| {
             handle(request, tables, of_handler)
         })
     }
@@ -71,35 +72,35 @@ mod tests {
     #[test]
     fn demand_3_holds_of_the_model() {
         for case in cases() {
-            assert_eq!(broken(case, Faults::NONE), Vec::<String>::new());
+            assert_eq!(broken(case, &Plain), Vec::<String>::new());
         }
     }
 
     #[test]
     fn demand_3_does_not_hold_of_faulty_handlers() {
-        let told = |fault, start: &str| {
-            let mut broken = cases().flat_map(|case| broken(case, Faults::only(fault)));
+        let told = |name, start: &str| {
+            let program = Fault::named(name).expect("a fault of the table").program;
+            let mut broken = cases().flat_map(|case| broken(case, &program));
             broken.any(|broken| broken.starts_with(start))
         };
-        assert!(told(Fault::RestCleared, "kept order: request"));
-        assert!(told(Fault::MovedByPair, "kept order: the tables"));
-        assert!(told(Fault::ListAppended, "freed order: the tables"));
-        assert!(told(Fault::NoneIsId0, "freed order: SA"));
-        assert!(told(Fault::KeepaliveMoves, "freed order: SA"));
-        assert!(told(Fault::KeepaliveMarks, "freed order: SA"));
+        assert!(told("rest-cleared", "kept order: request"));
+        assert!(told("moved-by-pair", "kept order: the tables"));
+        assert!(told("list-appended", "freed order: the tables"));
+        assert!(told("none-is-id-0", "freed order: SA"));
+        assert!(told("keepalive-moves", "freed order: SA"));
     }
 
     #[test]
     fn orders_really_differ_and_sas_are_really_freed() {
         let (mut kept_differ, mut freed_differ, mut moved_when_freed) = (0, 0, 0);
         for Case { tables, requests, chance } in cases() {
-            let orders = Orders::new(&tables, &requests, &chance, Faults::NONE);
+            let orders = Orders::new(&tables, &requests, &chance, &Plain);
             let sequence: Order = (0..requests.len()).collect();
             kept_differ += u64::from(orders.kept != sequence);
             let differ = orders.freed != orders.kept;
             freed_differ += u64::from(differ);
             let mut ended = tables.clone();
-            let applies = |it| handle(it, &mut ended, Faults::NONE).reply.update == 1;
+            let applies = |it| handle(it, &mut ended, &Plain).reply.update == 1;
             let applied =
                 requests.iter().filter(|it| orders.freed_spis.contains(&it.spi)).map(applies);
             moved_when_freed += u64::from(differ && applied.filter(|&it| it).count() >= 2);

@@ -1,8 +1,8 @@
 // Random lists of requests over few SPIs, so drawn that an SA's requests are often all sound.
 use super::super::requests::{arguments, starts};
-use crate::faults::Faults;
 use crate::request::Request;
 use crate::rng::Rng;
+use crate::rules::Plain;
 use crate::tables::{find, Tables};
 
 /// How the requests of one SPI are drawn.
@@ -54,7 +54,7 @@ fn source(rng: &mut Rng, tables: &mut Tables, spi: u64) -> Source {
     if !rng.one_in(16) {
         starts::agree(rng, tables, spi);
     }
-    let place = find(&tables.ike.records, spi, Faults::NONE);
+    let place = find(&tables.ike.records, spi, &Plain);
     let marks = place.map_or([0; 2], |place| {
         let record = &tables.ike.records[place];
         [record.update_mark, record.list_mark]
@@ -86,7 +86,7 @@ impl Source {
     fn drawn(&self, rng: &mut Rng, tables: &Tables, id: u32, sound: bool) -> Request {
         for _ in 0..TRIES {
             let request = Request { id, ..arguments::plain_request(rng, tables, self.spi) };
-            if request.is_sound(tables, Faults::NONE) == sound {
+            if request.is_sound(tables, &Plain) == sound {
                 return request;
             }
         }

@@ -1,9 +1,9 @@
 // Single flaws, each put into a chain at a random place: one kind for every way to be refused.
 use super::atoms;
 use super::draft::{ChainDraft, Draft};
-use crate::faults::Faults;
 use crate::notify::NotifyType;
 use crate::rng::Rng;
+use crate::rules::{ChainRules, Plain};
 
 #[derive(Debug, Clone, Copy, PartialEq, Eq)]
 pub enum Damage {
@@ -153,7 +153,7 @@ fn notify_with_long_spi(rng: &mut Rng) -> Draft {
 fn wrong_data(rng: &mut Rng, notify_type: NotifyType) -> Vec<u8> {
     let allowed = rng.pick(atoms::allowed_sizes(notify_type));
     let mut size = rng.pick(&[allowed + 1, allowed.saturating_sub(1), 0, 4, 7, 16, 20, 65, 300]);
-    if notify_type.allows_data(size, Faults::NONE) {
+    if Plain.allows_data(notify_type, size) {
         size = 67;
     }
     rng.octets(size)

@@ -86,13 +86,13 @@ fn damaged(rng: &mut Rng, flaws: usize) -> Case {
 mod tests {
     use super::*;
     use crate::cases::seeded::met;
-    use crate::faults::Faults;
     use crate::reader::read;
+    use crate::rules::Plain;
 
     #[test]
     fn random_cases_meet_every_answer_often() {
         met::assert_often(&[0, 3, 7, 61, 62, 63, 64, 65], |Case { first, body }| {
-            read(first, &body, Faults::NONE).answer.number(Faults::NONE)
+            read(first, &body, &Plain).answer.number(&Plain)
         });
     }
 }

@@ -273,16 +273,16 @@ fn after_the_end() -> Vec<Told> {
 #[cfg(test)]
 mod tests {
     use super::*;
-    use crate::faults::Faults;
     use crate::reader::read;
+    use crate::rules::Plain;
     use std::collections::BTreeMap;
 
     #[test]
     fn each_chain_is_told_as_it_is_meant() {
         for told in told() {
             let case = told.chain.assemble();
-            let reading = read(case.first, &case.body, Faults::NONE);
-            let got = (reading.answer.number(Faults::NONE), reading.ordinal);
+            let reading = read(case.first, &case.body, &Plain);
+            let got = (reading.answer.number(&Plain), reading.ordinal);
             assert_eq!(got, (told.number, told.ordinal), "{case:?}");
         }
     }

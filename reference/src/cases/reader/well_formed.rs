@@ -96,14 +96,14 @@ fn fits(chain: &ChainDraft, payload: &Draft) -> bool {
 #[cfg(test)]
 mod tests {
     use super::*;
-    use crate::faults::Faults;
     use crate::reader::{read, Answer};
+    use crate::rules::Plain;
 
     #[test]
     fn chains_have_no_flaw() {
         for number in 0..5_000 {
             let case = chain(&mut Rng::from_words(&[number])).assemble();
-            let reading = read(case.first, &case.body, Faults::NONE);
+            let reading = read(case.first, &case.body, &Plain);
             assert_eq!(reading.answer, Answer::Read, "{case:?}");
         }
     }

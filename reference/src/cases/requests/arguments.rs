@@ -2,9 +2,9 @@
 use super::super::tables::{pairs, rules, scripts};
 use super::chains;
 use crate::address::{octet_count, AddressPair};
-use crate::faults::Faults;
 use crate::request::{Request, LEAST_OUTPUT, NAT_VALUE_LENGTH};
 use crate::rng::Rng;
+use crate::rules::Plain;
 use crate::tables::{find, IkeRecord, Record, Tables};
 
 /// Mostly that of a record; else one that is hardly in use, or 0.
@@ -13,7 +13,7 @@ pub fn spi(rng: &mut Rng, tables: &Tables) -> u64 {
 }
 
 pub fn request(rng: &mut Rng, tables: &Tables, spi: u64) -> Request {
-    let place = find(&tables.ike.records, spi, Faults::NONE);
+    let place = find(&tables.ike.records, spi, &Plain);
     let record = place.map_or(IkeRecord::FREE, |place| tables.ike.records[place]);
     let pair = packet_pair(rng, tables, &record);
     let chain = chains::chain(rng, &pair, &record.pair);

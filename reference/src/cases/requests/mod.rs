@@ -45,8 +45,8 @@ fn random(rng: &mut Rng) -> Case {
 mod tests {
     use super::*;
     use crate::cases::seeded::met;
-    use crate::faults::Faults;
     use crate::handler::handle;
+    use crate::rules::Plain;
     use crate::tables::find;
 
     #[test]
@@ -56,7 +56,7 @@ mod tests {
         let refused = numbers.map(|number| (number, 0, 0));
         let answers: Vec<_> = done.chain(refused).collect();
         met::assert_often(&answers, |Case { mut tables, request }| {
-            let reply = handle(&request, &mut tables, Faults::NONE).reply;
+            let reply = handle(&request, &mut tables, &Plain).reply;
             (reply.number, reply.update, reply.list)
         });
     }
@@ -64,9 +64,9 @@ mod tests {
     #[test]
     fn random_cases_are_done_often_whatever_octet_says_yes() {
         let met = met::answers(5_000, |Case { mut tables, request }| {
-            let place = find(&tables.ike.records, request.spi, Faults::NONE);
+            let place = find(&tables.ike.records, request.spi, &Plain);
             let octet = place.map(|place| tables.ike.records[place].agreed.mobike.min(2));
-            let reply = handle(&request, &mut tables, Faults::NONE).reply;
+            let reply = handle(&request, &mut tables, &Plain).reply;
             (octet, reply.number, reply.update)
         });
         for octet in [1, 2] {
@@ -81,7 +81,7 @@ mod tests {
         let done = (0..3).flat_map(|update| [false, true].map(|values| Some((update, values))));
         let answers: Vec<_> = done.chain([None]).collect();
         met::assert_often(&answers, |Case { mut tables, request }| {
-            let handled = handle(&request, &mut tables, Faults::NONE);
+            let handled = handle(&request, &mut tables, &Plain);
             let values = handled.response().get(6..8) == Some(&[0x40, 4]);
             (handled.reply.number == 0).then_some((handled.reply.update, values))
         });

@@ -1,9 +1,9 @@
 // The tables that random requests are made on; their policies accept nothing, some pairs or all.
 use super::super::tables::shapes::Shape;
 use super::super::tables::{agreements, pairs};
-use crate::faults::Faults;
 use crate::policy::{Policy, Rule};
 use crate::rng::Rng;
+use crate::rules::Plain;
 use crate::tables::{find, Tables};
 
 const WEIGHTS: [(usize, Shape); 5] = [
@@ -41,7 +41,7 @@ pub fn open(policy: &mut Policy) {
 
 /// Makes MOBIKE agreed in the record that the SPI means, if there is one and it isn't yet.
 pub fn agree(rng: &mut Rng, tables: &mut Tables, spi: u64) {
-    if let Some(place) = find(&tables.ike.records, spi, Faults::NONE) {
+    if let Some(place) = find(&tables.ike.records, spi, &Plain) {
         if tables.ike.records[place].agreed.mobike == 0 {
             tables.ike_mut()[place].agreed.mobike = agreements::yes(rng);
         }

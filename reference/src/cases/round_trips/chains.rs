@@ -5,9 +5,9 @@ use super::super::writer::asks;
 use super::changes::Change;
 use crate::asking::Arguments;
 use crate::chain::{self, HEADER_LENGTH};
-use crate::faults::Faults;
 use crate::notifications::first_type;
 use crate::rng::Rng;
+use crate::rules::Plain;
 use crate::writer;
 
 pub fn random(rng: &mut Rng) -> reader::Case {
@@ -26,7 +26,7 @@ pub fn random(rng: &mut Rng) -> reader::Case {
 
 /// What the writer writes if nothing is refused.
 pub fn written(arguments: &Arguments) -> reader::Case {
-    let body = writer::chain(arguments, Faults::NONE);
+    let body = writer::chain(arguments, &Plain);
     reader::Case { first: first_type(&body), body }
 }
 

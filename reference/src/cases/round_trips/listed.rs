@@ -6,9 +6,9 @@ use super::chains::{draft_of, written};
 use super::changes::Change;
 use super::Case;
 use crate::asking::Arguments;
-use crate::faults::Faults;
 use crate::notify::NotifyType;
 use crate::rng::Rng;
+use crate::rules::Plain;
 use crate::summary::MAX_KEPT;
 
 /// How often each change is made, at changing places of changing requests.
@@ -16,7 +16,7 @@ const REQUESTS_PER_CHANGE: usize = 60;
 
 pub fn all() -> Vec<Case> {
     let asks = asks::all();
-    let accepted: Vec<_> = asks.iter().filter(|ask| ask.check(Faults::NONE).is_ok()).collect();
+    let accepted: Vec<_> = asks.iter().filter(|ask| ask.check(&Plain).is_ok()).collect();
     let chains = [
         accepted.iter().map(|ask| written(ask)).collect(),
         changed(&accepted),

@@ -7,10 +7,10 @@ use super::reader;
 use super::writer::asks;
 use crate::asking::Arguments;
 use crate::cases::seeded::{Kinded, Seeded};
-use crate::faults::Faults;
 use crate::plain::plainly_read;
 use crate::rng::Rng;
 use crate::round_trips::{expected, is_written_again, written_and_read, Program};
+use crate::rules::Rules;
 
 #[derive(Debug, Clone)]
 pub enum Case {
@@ -20,13 +20,13 @@ pub enum Case {
 
 impl Case {
     /// Whether the program reads what was asked for, or writes again exactly what is plainly read.
-    pub fn holds_of(&self, program: &impl Program, faults: Faults) -> bool {
+    pub fn holds_of(&self, program: &impl Program, rules: &impl Rules) -> bool {
         match self {
             Case::Asked(arguments) => {
-                written_and_read(program, arguments) == expected(arguments, faults)
+                written_and_read(program, arguments) == expected(arguments, rules)
             }
             Case::Chain(reader::Case { first, body }) => {
-                is_written_again(program, *first, body) == plainly_read(*first, body, faults)
+                is_written_again(program, *first, body) == plainly_read(*first, body, rules)
             }
         }
     }
@@ -56,6 +56,7 @@ mod tests {
     use crate::cases::seeded::met;
     use crate::reader::{read, Answer};
     use crate::round_trips::Model;
+    use crate::rules::Plain;
     use std::collections::BTreeMap;
 
     /// What a case is about, and what comes of it.
@@ -70,14 +71,14 @@ mod tests {
 
     fn sort(case: Case) -> Sort {
         match case {
-            Case::Asked(arguments) => match expected(&arguments, Faults::NONE) {
+            Case::Asked(arguments) => match expected(&arguments, &Plain) {
                 Some(_) => Sort::Written,
                 None => Sort::NotWritten,
             },
             Case::Chain(reader::Case { first, body }) => {
-                let answer = read(first, &body, Faults::NONE).answer;
+                let answer = read(first, &body, &Plain).answer;
                 match answer {
-                    Answer::Read if plainly_read(first, &body, Faults::NONE) => Sort::PlainlyRead,
+                    Answer::Read if plainly_read(first, &body, &Plain) => Sort::PlainlyRead,
                     Answer::Read => Sort::Read,
                     _ => Sort::NotRead,
                 }
@@ -108,7 +109,7 @@ mod tests {
     fn round_trips_hold_of_the_model() {
         let random = (0..20_000).map(|number| Case::random(&mut Rng::from_words(&[number])));
         for case in listed::all().into_iter().chain(random) {
-            assert!(case.holds_of(&Model(Faults::NONE), Faults::NONE), "{case:?}");
+            assert!(case.holds_of(&Model(&Plain), &Plain), "{case:?}");
         }
     }
 }

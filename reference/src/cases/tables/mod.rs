@@ -54,8 +54,8 @@ fn random(rng: &mut Rng) -> Case {
 #[cfg(test)]
 mod tests {
     use super::*;
-    use crate::faults::Faults;
-    use crate::opening_both::{failing, Check, ORDER};
+    use crate::opening_both::{failing, Check};
+    use crate::rules::{Plain, TableRules};
     use crate::tables::{find, IkeRecord, IpsecRecord, Record};
     use std::collections::BTreeSet;
 
@@ -80,7 +80,7 @@ mod tests {
         let (mut met, mut octets) = (BTreeSet::new(), BTreeSet::new());
         for Case { mut tables, calls } in random_cases(2_000) {
             for call in &calls {
-                let given_back = call.make(&mut tables, Faults::NONE);
+                let given_back = call.make(&mut tables, &Plain);
                 let (name, allowed) = numbers(call);
                 assert!(allowed.contains(&given_back), "{name} gives back {given_back}");
                 met.insert((name, given_back));
@@ -100,9 +100,9 @@ mod tests {
         for Case { mut tables, calls } in cases {
             for call in calls {
                 if let Call::OpenBoth(opening) = &call {
-                    met.push(failing(&tables, opening, Faults::NONE));
+                    met.push(failing(&tables, opening, &Plain));
                 }
-                call.make(&mut tables, Faults::NONE);
+                call.make(&mut tables, &Plain);
             }
         }
         met
@@ -122,7 +122,7 @@ mod tests {
         let sets = failing_sets(random_cases(5_000));
         let times = |set: &[Check]| sets.iter().filter(|it| *it == set).count();
         assert!(times(&[]) > 400, "{}", times(&[]));
-        for check in ORDER {
+        for &check in Plain.order_of_opening_both() {
             assert!(times(&[check]) > 40, "{check:?}: {}", times(&[check]));
         }
     }
@@ -132,15 +132,15 @@ mod tests {
         let (ike, ipsec) = (&tables.ike.records, &tables.ipsec.records);
         for (place, record) in ike.iter().enumerate() {
             if record.is_in_use() {
-                assert_eq!(find(ike, record.spi, Faults::NONE), Some(place));
+                assert_eq!(find(ike, record.spi, &Plain), Some(place));
             } else {
                 assert_eq!(*record, IkeRecord::FREE);
             }
         }
         for (place, record) in ipsec.iter().enumerate() {
             if record.is_in_use() {
-                assert_eq!(find(ipsec, record.spi(), Faults::NONE), Some(place));
-                let owner = find(ike, record.owner, Faults::NONE).expect("no orphan");
+                assert_eq!(find(ipsec, record.spi(), &Plain), Some(place));
+                let owner = find(ike, record.owner, &Plain).expect("no orphan");
                 assert_eq!(ike[owner].pair, record.pair);
             } else {
                 assert_eq!(*record, IpsecRecord::FREE);
@@ -156,7 +156,7 @@ mod tests {
             let mut tables = shape.tables(&mut rng);
             assert_reached(&tables);
             for call in scripts::calls(&mut rng, &tables) {
-                call.make(&mut tables, Faults::NONE);
+                call.make(&mut tables, &Plain);
                 assert_reached(&tables);
             }
         }

@@ -1,9 +1,9 @@
 // Random calls: up to twelve in a row, each drawn to suit the tables that the one before left.
 use super::{agreements, pairs, rules, spis};
 use crate::calls::Call;
-use crate::faults::Faults;
 use crate::opening_both::Opening;
 use crate::rng::Rng;
+use crate::rules::Plain;
 use crate::tables::{Record, Tables, IKE_PLACES, IPSEC_PLACES};
 
 #[derive(Debug, Clone, Copy)]
@@ -33,7 +33,7 @@ pub fn calls(rng: &mut Rng, tables: &Tables) -> Vec<Call> {
     let mut calls = Vec::with_capacity(count);
     for _ in 0..count {
         let call = call(rng, &tables);
-        call.make(&mut tables, Faults::NONE);
+        call.make(&mut tables, &Plain);
         calls.push(call);
     }
     calls

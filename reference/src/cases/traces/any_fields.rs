@@ -1,7 +1,7 @@
 // Entries of which every field is drawn for itself, about the bounds of its room and of its octets.
 use super::super::tables::{pairs, spis};
-use crate::faults::Faults;
 use crate::rng::Rng;
+use crate::rules::{Plain, TraceRules};
 use crate::trace::entry::{Entry, Pair, Request, Rule};
 use crate::trace::fields::{Field, MOST_OCTETS, MOST_RULES};
 
@@ -40,7 +40,7 @@ pub fn entry(rng: &mut Rng) -> Entry {
 
 /// One that the field has room for.
 pub fn number(rng: &mut Rng, field: Field) -> u64 {
-    let most = field.most(Faults::NONE);
+    let most = Plain.most(field);
     let common = match field {
         Field::IkeSpi => rng.pick(&spis::FEW_IKE),
         Field::IpsecSpi => u64::from(rng.pick(&spis::FEW_IPSEC)),

@@ -1,9 +1,8 @@
 // Damage to a trace: numbers in forms that aren't read or have no room, octets changed, lost or added.
-use crate::faults::Faults;
 use crate::rng::Rng;
+use crate::rules::{Plain, TraceRules};
 use crate::trace::entry::Entry;
 use crate::trace::fields::Field;
-use crate::trace::numbers;
 use crate::trace::writing::{pieces, Piece};
 
 /// Kinds that aren't known, next to those that are and about powers of two.
@@ -26,7 +25,7 @@ pub const UNKNOWN_KINDS: [u64; 14] = [
 
 /// The octets of an entry, apart for each of its numbers.
 pub fn parts(entry: &Entry) -> Vec<Vec<u8>> {
-    pieces(entry, Faults::NONE).iter().map(|piece| piece.octets(Faults::NONE)).collect()
+    pieces(entry, &Plain).iter().map(|piece| piece.octets(&Plain)).collect()
 }
 
 /// The places of the numbers among the parts of an entry, with what no reader takes there, or what
@@ -37,18 +36,18 @@ pub fn numbers_with_forms(entry: &Entry) -> Vec<(usize, Vec<Vec<u8>>)> {
         Piece::Number(field, value) => Some([forms(*value), about_room(*field)].concat()),
         Piece::Address(_) | Piece::Octets(_) => None,
     };
-    let pieces = pieces(entry, Faults::NONE);
+    let pieces = pieces(entry, &Plain);
     let all = pieces.iter().enumerate();
     all.filter_map(|(place, piece)| of_piece(piece).map(|forms| (place, forms))).collect()
 }
 
 fn shortest(value: u64) -> Vec<u8> {
-    numbers::write(value, Faults::NONE)
+    Plain.number(value)
 }
 
 /// Numbers about the greatest that the field has room for, and about powers of two.
 fn about_room(field: Field) -> Vec<Vec<u8>> {
-    let most = field.most(Faults::NONE);
+    let most = Plain.most(field);
     let about = [most - 1, most, most.saturating_add(1), most.saturating_add(2)];
     let others = [0, 1, 2, 127, 128, 255, 256, (1 << 32) - 1, 1 << 32, 1 << 63, u64::MAX];
     about.iter().chain(&others).map(|&value| shortest(value)).collect()

@@ -2,11 +2,10 @@
 // bound, one trace cut at every octet, those about the end of a window, some in pieces, and long ones.
 use super::damage::{numbers_with_forms, parts, UNKNOWN_KINDS};
 use super::{examples, nights, piecewise, windows, Case};
-use crate::faults::Faults;
 use crate::rng::Rng;
+use crate::rules::{Plain, TraceRules};
 use crate::trace::entry::{Entry, Pair, Request, Rule};
 use crate::trace::fields::{MOST_OCTETS, MOST_RULES};
-use crate::trace::numbers;
 use crate::trace::writing::{entry_octets, trace_octets};
 
 pub fn all() -> Vec<Case> {
@@ -95,7 +94,7 @@ fn forms() -> Vec<Vec<u8>> {
 fn kinds() -> Vec<Vec<u8>> {
     let mut traces = Vec::new();
     for kind in (0..=260).chain(UNKNOWN_KINDS) {
-        let kind = numbers::write(kind, Faults::NONE);
+        let kind = Plain.number(kind);
         traces.push([&kind[..], &[0; 100]].concat());
         traces.push([start(), kind].concat());
     }

@@ -8,8 +8,8 @@ mod piecewise;
 mod windows;
 
 use super::seeded::{Kinded, Seeded};
-use crate::faults::Faults;
 use crate::rng::Rng;
+use crate::rules::Rules;
 use crate::trace::entry::Entry;
 use crate::trace::pieces::Pieces;
 use crate::trace::replay::replay_in_pieces;
@@ -28,8 +28,8 @@ impl Case {
     }
 
     /// All that this program prints for it.
-    pub fn printed(&self, faults: Faults) -> Vec<u8> {
-        replay_in_pieces(&self.trace, &self.pieces, faults)
+    pub fn printed(&self, rules: &impl Rules) -> Vec<u8> {
+        replay_in_pieces(&self.trace, &self.pieces, rules)
     }
 }
 
@@ -137,11 +137,12 @@ fn noise(rng: &mut Rng, size: usize) -> Vec<u8> {
 #[cfg(test)]
 mod tests {
     use super::*;
+    use crate::rules::Plain;
     use crate::trace::replay::replay;
     use std::collections::BTreeMap;
 
     fn printed(trace: &[u8]) -> String {
-        String::from_utf8(replay(trace, Faults::NONE)).expect("only plain characters")
+        String::from_utf8(replay(trace, &Plain)).expect("only plain characters")
     }
 
     /// How often these traces print lines of each sort: an answer, a refusal, or a record's pair.

@@ -1,10 +1,10 @@
 // Traces as a gateway might leave them: calls on the records that are there, and requests to them.
 use super::super::requests::{arguments, starts};
 use super::super::tables::{pairs, rules, scripts, spis};
-use crate::faults::Faults;
 use crate::policy::Policy;
 use crate::request;
 use crate::rng::Rng;
+use crate::rules::Plain;
 use crate::tables::{Record, Tables};
 use crate::trace::entry::{Entry, Pair, Request, Rule};
 use crate::trace::fields::MOST_OCTETS;
@@ -56,12 +56,12 @@ pub fn entries(rng: &mut Rng, size: usize) -> Vec<Entry> {
     let mut octets = 0;
     for entry in &entries {
         octets += entry_octets(entry).len();
-        entry.make(&mut tables, Faults::NONE);
+        entry.make(&mut tables, &Plain);
     }
     while octets < size {
         let entry = entry(rng, &tables, &weights);
         octets += entry_octets(&entry).len();
-        entry.make(&mut tables, Faults::NONE);
+        entry.make(&mut tables, &Plain);
         entries.push(entry);
     }
     entries

@@ -57,13 +57,13 @@ pub fn drawn(rng: &mut Rng, length: usize) -> Pieces {
 mod tests {
     use super::super::super::seeded::Kinded;
     use super::*;
-    use crate::faults::Faults;
+    use crate::rules::Plain;
     use crate::trace::replay::replay;
 
     #[test]
     fn what_is_printed_is_the_same_however_it_comes() {
         for case in all() {
-            assert_eq!(case.printed(Faults::NONE), replay(&case.trace, Faults::NONE));
+            assert_eq!(case.printed(&Plain), replay(&case.trace, &Plain));
         }
     }
 

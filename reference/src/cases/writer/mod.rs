@@ -24,11 +24,11 @@ pub type WriterCases = Seeded<Arguments>;
 mod tests {
     use super::*;
     use crate::cases::seeded::met;
-    use crate::faults::Faults;
+    use crate::rules::Plain;
     use crate::writer::write;
 
     fn number(arguments: &Arguments) -> u8 {
-        write(arguments, Faults::NONE).number
+        write(arguments, &Plain).number
     }
 
     #[test]
@@ -52,7 +52,7 @@ mod tests {
     fn sound_asks_are_written() {
         for number in 0..2_000 {
             let arguments = asks::sound(&mut Rng::from_words(&[number]));
-            assert_eq!(arguments.check(Faults::NONE), Ok(()), "{arguments:?}");
+            assert_eq!(arguments.check(&Plain), Ok(()), "{arguments:?}");
         }
     }
 

@@ -21,7 +21,7 @@ const _: () = assert!(offset_of!(CAssessed, payloads) == 2 && offset_of!(CAssess
 const _: () =
     assert!(offset_of!(CAssessed, ordinal) == 6 && offset_of!(CAssessed, cookie_len) == 14);
 
-#[link(name = "host", kind = "static")]
+#[link(name = "unmavreth", kind = "static")]
 extern "C" {
     fn unmavreth_assess(
         sent: *const u8,

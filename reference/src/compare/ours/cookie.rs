@@ -7,7 +7,7 @@ struct COctets {
     length: usize,
 }
 
-#[link(name = "host", kind = "static")]
+#[link(name = "unmavreth", kind = "static")]
 extern "C" {
     fn unmavreth_cookie(
         out: *mut COctets,

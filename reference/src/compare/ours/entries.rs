@@ -22,7 +22,7 @@ const _: () = assert!(size_of::<CEntryRead>() == 664 && offset_of!(CEntryRead, k
 const _: () = assert!(offset_of!(CEntryRead, next) == 8 && offset_of!(CEntryRead, slots) == 16);
 const _: () = assert!(size_of::<CEntryWritten>() == 16 && offset_of!(CEntryWritten, length) == 8);
 
-#[link(name = "host", kind = "static")]
+#[link(name = "unmavreth", kind = "static")]
 extern "C" {
     fn unmavreth_read_entry(trace: *const u8, trace_len: usize, at: usize) -> CEntryRead;
     fn unmavreth_write_entry(

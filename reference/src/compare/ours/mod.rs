@@ -12,5 +12,5 @@ pub mod writer;
 
 const _: &str = env!(
     "UNMAVRETH_LIBRARY_DIRECTORY",
-    "the directory of libhost.a must be set: build this program by running ./compare"
+    "the directory of libunmavreth.a must be set: build this program by running ./compare"
 );

@@ -59,7 +59,7 @@ const _: () = assert!(size_of::<AddressPair>() == 38);
 const _: () = assert!(offset_of!(AddressPair, source_port) == 34);
 const _: () = assert!(size_of::<CAddressList>() == 272 && size_of::<Address>() == 17);
 
-#[link(name = "host", kind = "static")]
+#[link(name = "unmavreth", kind = "static")]
 extern "C" {
     fn unmavreth_read(first: u8, body: *const u8, len: usize) -> CReading;
     fn unmavreth_no_nats(body: *const u8, len: usize, at: u16, no_nats_len: u16) -> AddressPair;

@@ -27,7 +27,7 @@ struct CReply {
 const _: () = assert!(size_of::<CReply>() == 18 && offset_of!(CReply, left_off) == 4);
 const _: () = assert!(offset_of!(CReply, ordinal) == 10 && offset_of!(CReply, cookie) == 12);
 
-#[link(name = "host", kind = "static")]
+#[link(name = "unmavreth", kind = "static")]
 extern "C" {
     fn unmavreth_handle(
         ike: *mut IkeRecord,

@@ -20,7 +20,7 @@ const _: () = assert!(size_of::<Policy>() == 562 && offset_of!(Policy, rules) ==
 const _: () = assert!(size_of::<RuleList>() == 560);
 
 // Each start of IKE records is that of 32.
-#[link(name = "host", kind = "static")]
+#[link(name = "unmavreth", kind = "static")]
 extern "C" {
     fn unmavreth_open(
         ike: *mut IkeRecord,

@@ -26,7 +26,7 @@ struct CAsk {
 const _: () = assert!(size_of::<CAsk>() == 8 && offset_of!(CAsk, count) == 6);
 const _: () = assert!(size_of::<CWritten>() == 4 && offset_of!(CWritten, length) == 2);
 
-#[link(name = "host", kind = "static")]
+#[link(name = "unmavreth", kind = "static")]
 extern "C" {
     fn unmavreth_write(
         ask: CAsk,

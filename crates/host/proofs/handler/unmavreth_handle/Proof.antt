@@ -66,7 +66,8 @@ use Rattle.lent.proofs.Asked.{counts, finds-ike, reads-ike, changes-ike, asks-p
 use Rattle.lent_owned.proofs.owned.follow_if as follow
 use Rattle.host.proofs.handler.unmavreth_handle.Proof.Callees.{Known, known}
 use Rattle.host.proofs.handler.unmavreth_handle.Proof.Parameters.{stayed, goes, pair-vals, spelled, told}
-use Rattle.host.proofs.handler.unmavreth_handle.Proof.Handling.{Strings, looked-vals, packet-vals, received-vals, answer-vals, receives, handles}
+use Rattle.host.proofs.handler.unmavreth_handle.Proof.Handling.{Strings, looked-vals, packet-vals}
+use Rattle.host.proofs.handler.unmavreth_handle.Proof.Handling.{received-vals, answer-vals, receives, handles}
 use Rattle.host.proofs.handler.unmavreth_handle.Key as key
 use Rattle.host.proofs.handler.unmavreth_handle as f
 use Rattle.host.proofs.handler.unmavreth_handle.Statement as stated

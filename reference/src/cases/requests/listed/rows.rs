@@ -37,9 +37,9 @@ pub fn all() -> Vec<Case> {
 #[cfg(test)]
 mod tests {
     use super::*;
-    use crate::faults::Faults;
     use crate::handler::handle;
     use crate::reply::Reply;
+    use crate::rules::Plain;
 
     const WHOLE: [u8; 24] =
         [0x29, 0, 0, 8, 0, 0, 0x40, 0x10, 0, 0, 0, 0x10, 0, 0, 0x40, 0x11, 1, 2, 3, 4, 5, 6, 7, 8];
@@ -49,7 +49,7 @@ mod tests {
     /// Checks number, offset, ordinal, update, payloads and the response of a row, and gives its tally.
     fn row(place: usize, told: (u8, usize, usize, u8, usize), response: &[u8]) -> u32 {
         let Case { mut tables, request } = all().swap_remove(place);
-        let handled = handle(&request, &mut tables, Faults::NONE);
+        let handled = handle(&request, &mut tables, &Plain);
         let Reply { number, offset, ordinal, update, payloads, .. } = handled.reply;
         assert_eq!((number, offset, ordinal, update, payloads), told);
         let Reply { first, list, left_off, .. } = handled.reply;

@@ -56,26 +56,28 @@ pub record Known {M : Type 1} (𝓤 : URA M) (H : Heap 𝓤) (A : Atoms 𝓤) (a
 pub known : {M : Type 1} (𝓤 : URA M) (H : Heap 𝓤) (𝓜 : Model 𝓤 H) (𝓖 : GhostRules 𝓤 H) (𝓡 : Running 𝓤 H 𝓜)
     → Known 𝓤 H (𝓖 .A) (𝓜 .mem) (𝓡 .run) (tables 𝓤 H 𝓜 𝓡 code.env .C)
 known 𝓤 H 𝓜 𝓖 𝓡 = record {
-  counts = cited 𝓤 H (Told 𝓤 H (𝓖 .A) count.ended (count.clauses 𝓤 H (𝓖 .A) (𝓜 .mem) (𝓡 .run))) 𝓜 𝓡 code.env count-def.name
-      count-def.routine code.calls-lent-ipsec·places·ipsec-count (count-thm.met 𝓤 H 𝓜 𝓖 𝓡);
-  finds = cited 𝓤 H (Told 𝓤 H (𝓖 .A) place-of.ended (place-of.clauses 𝓤 H (𝓖 .A) (𝓜 .mem) (𝓡 .run))) 𝓜 𝓡 code.env place-of-def.name
-      place-of-def.routine code.calls-lent-ike·ike·ike-place (place-of-thm.met 𝓤 H 𝓜 𝓖 𝓡);
-  reads = cited 𝓤 H (Told 𝓤 H (𝓖 .A) at-place.ended (at-place.clauses 𝓤 H (𝓖 .A) (𝓜 .mem) (𝓡 .run))) 𝓜 𝓡 code.env at-place-def.name
-      at-place-def.routine code.calls-lent-ike·ike·ike-at (at-place-thm.met 𝓤 H 𝓜 𝓖 𝓡);
-  looks = cited 𝓤 H (Told 𝓤 H (𝓖 .A) looks.ended (looks.clauses 𝓤 H (𝓖 .A) (𝓜 .mem) (𝓡 .run))) 𝓜 𝓡 code.env looks-def.name
-      looks-def.routine code.calls-checking·lookup·looked-up (looks-thm.met 𝓤 H 𝓜 𝓖 𝓡);
-  packs = cited 𝓤 H (Told 𝓤 H (𝓖 .A) packs.ended (packs.clauses 𝓤 H (𝓖 .A) (𝓜 .mem) (𝓡 .run))) 𝓜 𝓡 code.env packs-def.name
-      packs-def.routine code.calls-answering·packet·packet-of (packs-thm.met 𝓤 H 𝓜 𝓖 𝓡);
-  receives = cited 𝓤 H (Told 𝓤 H (𝓖 .A) receive.ended (receive.clauses 𝓤 H (𝓖 .A) (𝓜 .mem) (𝓡 .run))) 𝓜 𝓡 code.env receive-def.name
-      receive-def.routine code.calls-responder·receive·received-at (receive-thm.met 𝓤 H 𝓜 𝓖 𝓡);
-  asks = cited 𝓤 H (Told 𝓤 H (𝓖 .A) ask.ended (ask.clauses 𝓤 H (𝓖 .A) (𝓜 .mem) (𝓡 .run))) 𝓜 𝓡 code.env ask-def.name
-      ask-def.routine code.calls-lent-policy·rules·accepts-if (ask-thm.met 𝓤 H 𝓜 𝓖 𝓡);
-  handles = cited 𝓤 H (Told 𝓤 H (𝓖 .A) handle.ended (handle.clauses 𝓤 H (𝓖 .A) (𝓜 .mem) (𝓡 .run))) 𝓜 𝓡 code.env handle-def.name
-      handle-def.routine code.calls-responder·handle·handle-at (handle-thm.met 𝓤 H 𝓜 𝓖 𝓡);
-  changes = cited 𝓤 H (Told 𝓤 H (𝓖 .A) change.ended (change.clauses 𝓤 H (𝓖 .A) (𝓜 .mem) (𝓡 .run))) 𝓜 𝓡 code.env change-def.name
-      change-def.routine code.calls-lent-ike·ike·ike-change (change-thm.met 𝓤 H 𝓜 𝓖 𝓡);
-  moves = cited 𝓤 H (Told 𝓤 H (𝓖 .A) moves.ended (moves.clauses 𝓤 H (𝓖 .A) (𝓜 .mem) (𝓡 .run))) 𝓜 𝓡 code.env moves-def.name
-      moves-def.routine code.calls-replying·reply·moves (moves-thm.met 𝓤 H 𝓜 𝓖 𝓡);
-  follows = cited 𝓤 H (Told 𝓤 H (𝓖 .A) follow.ended (follow.clauses 𝓤 H (𝓖 .A) (𝓜 .mem) (𝓡 .run))) 𝓜 𝓡 code.env follow-def.name
-      follow-def.routine code.calls-lent-owned·owned·follow-if (follow-thm.met 𝓤 H 𝓜 𝓖 𝓡);
+  counts = cited 𝓤 H (Told 𝓤 H (𝓖 .A) count.ended (count.clauses 𝓤 H (𝓖 .A) (𝓜 .mem) (𝓡 .run)))
+      𝓜 𝓡 code.env count-def.name count-def.routine code.calls-lent-ipsec·places·ipsec-count (count-thm.met 𝓤 H 𝓜 𝓖 𝓡);
+  finds = cited 𝓤 H (Told 𝓤 H (𝓖 .A) place-of.ended (place-of.clauses 𝓤 H (𝓖 .A) (𝓜 .mem) (𝓡 .run)))
+      𝓜 𝓡 code.env place-of-def.name place-of-def.routine code.calls-lent-ike·ike·ike-place
+      (place-of-thm.met 𝓤 H 𝓜 𝓖 𝓡);
+  reads = cited 𝓤 H (Told 𝓤 H (𝓖 .A) at-place.ended (at-place.clauses 𝓤 H (𝓖 .A) (𝓜 .mem) (𝓡 .run)))
+      𝓜 𝓡 code.env at-place-def.name at-place-def.routine code.calls-lent-ike·ike·ike-at (at-place-thm.met 𝓤 H 𝓜 𝓖 𝓡);
+  looks = cited 𝓤 H (Told 𝓤 H (𝓖 .A) looks.ended (looks.clauses 𝓤 H (𝓖 .A) (𝓜 .mem) (𝓡 .run)))
+      𝓜 𝓡 code.env looks-def.name looks-def.routine code.calls-checking·lookup·looked-up (looks-thm.met 𝓤 H 𝓜 𝓖 𝓡);
+  packs = cited 𝓤 H (Told 𝓤 H (𝓖 .A) packs.ended (packs.clauses 𝓤 H (𝓖 .A) (𝓜 .mem) (𝓡 .run)))
+      𝓜 𝓡 code.env packs-def.name packs-def.routine code.calls-answering·packet·packet-of (packs-thm.met 𝓤 H 𝓜 𝓖 𝓡);
+  receives = cited 𝓤 H (Told 𝓤 H (𝓖 .A) receive.ended (receive.clauses 𝓤 H (𝓖 .A) (𝓜 .mem) (𝓡 .run)))
+      𝓜 𝓡 code.env receive-def.name receive-def.routine code.calls-responder·receive·received-at
+      (receive-thm.met 𝓤 H 𝓜 𝓖 𝓡);
+  asks = cited 𝓤 H (Told 𝓤 H (𝓖 .A) ask.ended (ask.clauses 𝓤 H (𝓖 .A) (𝓜 .mem) (𝓡 .run)))
+      𝓜 𝓡 code.env ask-def.name ask-def.routine code.calls-lent-policy·rules·accepts-if (ask-thm.met 𝓤 H 𝓜 𝓖 𝓡);
+  handles = cited 𝓤 H (Told 𝓤 H (𝓖 .A) handle.ended (handle.clauses 𝓤 H (𝓖 .A) (𝓜 .mem) (𝓡 .run)))
+      𝓜 𝓡 code.env handle-def.name handle-def.routine code.calls-responder·handle·handle-at (handle-thm.met 𝓤 H 𝓜 𝓖 𝓡);
+  changes = cited 𝓤 H (Told 𝓤 H (𝓖 .A) change.ended (change.clauses 𝓤 H (𝓖 .A) (𝓜 .mem) (𝓡 .run)))
+      𝓜 𝓡 code.env change-def.name change-def.routine code.calls-lent-ike·ike·ike-change (change-thm.met 𝓤 H 𝓜 𝓖 𝓡);
+  moves = cited 𝓤 H (Told 𝓤 H (𝓖 .A) moves.ended (moves.clauses 𝓤 H (𝓖 .A) (𝓜 .mem) (𝓡 .run)))
+      𝓜 𝓡 code.env moves-def.name moves-def.routine code.calls-replying·reply·moves (moves-thm.met 𝓤 H 𝓜 𝓖 𝓡);
+  follows = cited 𝓤 H (Told 𝓤 H (𝓖 .A) follow.ended (follow.clauses 𝓤 H (𝓖 .A) (𝓜 .mem) (𝓡 .run)))
+      𝓜 𝓡 code.env follow-def.name follow-def.routine code.calls-lent-owned·owned·follow-if (follow-thm.met 𝓤 H 𝓜 𝓖 𝓡);
 }

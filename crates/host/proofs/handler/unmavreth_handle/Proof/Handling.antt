@@ -5,12 +5,12 @@
 --     receives         the call of `received_at`
 --     handles          the call of `handle_at`, what it comes to by another name
 -- Assumes `Given`, and that the table of calls is monotone under a frame.
-use Rattle.walks.proofs.Kit.{_≡_, refl, sym, ap, _∙_, ℕ, Bool, List, [], _∷_, length, URA, fullShare, named, erased, Val, SProp}
+use Rattle.walks.proofs.Kit.{_≡_, refl, sym, ap, _∙_, ℕ, Bool, List, [], _∷_, length, URA, fullShare, named}
+use Rattle.walks.proofs.Kit.{erased, Val, SProp, seq, call, nothing, Body}
 use Rattle.walks.proofs.Kit.{emp, id⊢, Lft, Lfts, Share, Shares, Fml, Memory, Routine, Heap, Env, Calls, Loops, Atoms}
 use Rattle.walks.proofs.Kit.{Fun, FmC, Goal, Post, Given, Item, ‵, _⊛_, Seq, Step, step, _$_, move, drop, split, join}
-use Rattle.walks.proofs.Kit.{fsplit, fjoin, feqL, use1, Is, bool, bool-makes, bool-vals, vbool, u8, only, owned, nothing}
-use Rattle.walks.proofs.Kit.{RefT, MutSlice, ShrSlice, Room, slice-vals, finally, Triple, Opds, runs, lands, Place, Body}
-use Rattle.walks.proofs.Kit.{seq, call}
+use Rattle.walks.proofs.Kit.{fsplit, fjoin, feqL, use1, Is, bool, bool-makes, bool-vals, vbool, u8, only, owned}
+use Rattle.walks.proofs.Kit.{RefT, MutSlice, ShrSlice, Room, slice-vals, finally, Triple, Opds, runs, lands, Place}
 use mir.Syntax.{Opd as Operand}
 use base.Logic.{mono∗}
 use contract.Monad.{factI, fact-mono}
@@ -55,8 +55,8 @@ answer-vals = LL.vals D.the-type D′.the-laws
 abbrev pub Octets : Lft → RefT (List ℕ) → Fml
 Octets κ x = ShrSlice erased κ u8 .own x (slice-vals x)
 
-abbrev pub Strings : {M : Type 1} {𝓤 : URA M} → Lfts 4 → Shares 4 → (nat-source nat-destination body out : RefT (List ℕ))
-    → List (Item 𝓤) → List (Item 𝓤)
+abbrev pub Strings : {M : Type 1} {𝓤 : URA M} → Lfts 4 → Shares 4
+    → (nat-source nat-destination body out : RefT (List ℕ)) → List (Item 𝓤) → List (Item 𝓤)
 Strings {𝓤 = 𝓤} κs qs nat-source nat-destination body out Γ =
     ‵ (Octets (κs .0) nat-source) ∷ ‵ (Octets (κs .1 .0) nat-destination) ∷ ‵ (Octets (κs .1 .1 .0) body)
     ∷ ‵ (MutSlice erased (κs .1 .1 .1 .0) u8 .own out (slice-vals out)) ∷ tokens 𝓤 4 κs qs ∷ Γ
@@ -86,8 +86,10 @@ module _ {M : Type 1} {𝓤 : URA M} {H : Heap 𝓤} {A : Atoms 𝓤} {K : Type 
       ∷ only (packet-vals packet) ∷ only (slice-vals nat-source) ∷ only (slice-vals nat-destination)
       ∷ only (slice-vals body) ∷ only (slice-vals out) ∷ []))
       → (Is Rc.the-row received (received-vals received)
-      → Seq K W (Strings κs qs nat-source nat-destination body out Γ) (lands C Λ E d (only (received-vals received)) rest p))
-      → Seq K W (Strings κs qs nat-source nat-destination body out Γ) (runs C Λ E (seq (call receive-def.name ops d) rest) p)
+      → Seq K W (Strings κs qs nat-source nat-destination body out Γ)
+      (lands C Λ E d (only (received-vals received)) rest p))
+      → Seq K W (Strings κs qs nat-source nat-destination body out Γ)
+      (runs C Λ E (seq (call receive-def.name ops d) rest) p)
   receives known room os s =
       move t (4 ∷ []) $ split t $ move t (1 ∷ []) $ split t $ move t (1 ∷ []) $ split t $ move t (1 ∷ []) $
       no-token t $ move t (7 ∷ 0 ∷ []) $
@@ -110,7 +112,8 @@ module _ {M : Type 1} {𝓤 : URA M} {H : Heap 𝓤} {A : Atoms 𝓤} {K : Type 
         ),
         tt,
       ) (id⊢ 𝓤 _) (os _ _ _ _ _) received-vals (LL.tells Rc.the-type Rc′.the-laws) received
-      (λ r ws. fact-mono 𝓤 _ _ (λ e. e ∙ sym comes)) (λ is. split t $ move t (1 ∷ []) $ split t $ move t (1 ∷ []) $ split t $
+      (λ r ws. fact-mono 𝓤 _ _ (λ e. e ∙ sym comes)) (λ is. split t $ move t (1 ∷ []) $ split t $
+      move t (1 ∷ []) $ split t $
       move t (1 ∷ 7 ∷ []) $ list-over t tt u8 out room $
       -- [the output; the tokens, the last first; the two values and the body]
       move t (1 ∷ []) $ token t $ move t (2 ∷ 0 ∷ []) $ join t $ move t (2 ∷ 0 ∷ []) $ join t $
@@ -119,7 +122,8 @@ module _ {M : Type 1} {𝓤 : URA M} {H : Heap 𝓤} {A : Atoms 𝓤} {K : Type 
   pub handles : Triple 𝓤 (C handle-def.name) (Told 𝓤 H A handle.ended (handle.clauses 𝓤 H A at-mem run))
       → (accepted : Bool) → Is Rc.the-row received (received-vals received)
       → (c : CoreAnswer) → handledAt accepted looked (requested packet nat-source nat-destination body out) ≡ c
-      → (response : List ℕ) → responseAt accepted looked (requested packet nat-source nat-destination body out) ≡ response
+      → (response : List ℕ)
+      → responseAt accepted looked (requested packet nat-source nat-destination body out) ≡ response
       → ((i j : Item 𝓤) → Opds K W (i ∷ j ∷ Γ) E ops (vbool accepted ∷ only (looked-vals looked)
       ∷ only (packet-vals packet) ∷ only (received-vals received) ∷ only (slice-vals nat-source)
       ∷ only (slice-vals nat-destination) ∷ only (slice-vals body) ∷ only (slice-vals out) ∷ []))
@@ -127,7 +131,8 @@ module _ {M : Type 1} {𝓤 : URA M} {H : Heap 𝓤} {A : Atoms 𝓤} {K : Type 
       → length ws ≡ length (out .now)
       → Seq K W (‵ (finally u8 (out .name) ws) ∷ tokens 𝓤 4 κs qs ∷ ‵ (Octets (κs .1 .1 .0) body) ∷ Γ)
       (lands C Λ E d (only (answer-vals c)) rest p))
-      → Seq K W (Strings κs qs nat-source nat-destination body out Γ) (runs C Λ E (seq (call handle-def.name ops d) rest) p)
+      → Seq K W (Strings κs qs nat-source nat-destination body out Γ)
+      (runs C Λ E (seq (call handle-def.name ops d) rest) p)
   handles known accepted received-is c answers response writes os s =
       move t (2 ∷ []) $ copies t body $ nothing t $ move t (5 ∷ 0 ∷ []) $ fjoin t $ move t (1 ∷ 0 ∷ []) $ fjoin t $
       move t (3 ∷ 0 ∷ []) $ fjoin t $ move t (2 ∷ 0 ∷ []) $ fjoin t $
@@ -148,7 +153,8 @@ module _ {M : Type 1} {𝓤 : URA M} {H : Heap 𝓤} {A : Atoms 𝓤} {K : Type 
         tt,
       ) (factI 𝓤 _ (emp 𝓤) comes) (os _ _) answer-vals (LL.tells D.the-type D′.the-laws) c
       (λ ws. ws .1 .1 .1 .1 .1 .1 .1 .0 ≡ placed (out .now) 0 response)
-      (λ r ws. mono∗ 𝓤 (fact-mono 𝓤 _ _ (λ e. e ∙ answers)) (fact-mono 𝓤 _ _ (λ e. e ∙ ap (placed (out .now) 0) writes)))
+      (λ r ws. mono∗ 𝓤 (fact-mono 𝓤 _ _ (λ e. e ∙ answers))
+      (fact-mono 𝓤 _ _ (λ e. e ∙ ap (placed (out .now) 0) writes)))
       (λ is ws e. fsplit t $ drop t $ fsplit t $ drop t $ fsplit t $ drop t $ fsplit t $ drop t $ fsplit t $ drop t $
       fsplit t $ drop t $ fsplit t $ drop t $ fsplit t $ fsplit t $ move t (1 ∷ []) $ feqL t (λ long.
       move t (1 ∷ []) $ drop t $ s is (ws .1 .1 .1 .1 .1 .1 .1 .0) e long))

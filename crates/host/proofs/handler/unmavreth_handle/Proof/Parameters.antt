@@ -1,10 +1,11 @@
 -- The parameters of `unmavreth_handle`: what is said of each at exit, and their machine values.
 --     stayed, goes     the table, the list and the output are given back, and of the others nothing is said
 --     spelled, told    the machine values, and that they are the parameters' only ones
-use Rattle.walks.proofs.Kit.{refl, ℕ, [], _∷_, List, URA, named, w8, w32, w64, Val, Heap, Atoms, Lfts, Given, RattleType}
-use Rattle.walks.proofs.Kit.{Ises, Spells, uint-vals, uint-tells, u8, u32, u64, ptr-vals, mut-tells, shr-tells}
+use Rattle.walks.proofs.Kit.{refl, ℕ, [], _∷_, List, URA, named, w8, w32, w64, Val, Heap, Atoms, Lfts, Given}
+use Rattle.walks.proofs.Kit.{RattleType, Ises, Spells, uint-vals, uint-tells, u8, u32, u64, ptr-vals, mut-tells, shr-tells}
 use Rattle.walks.proofs.Kit.{slice-vals, mut-slice-tells, shr-slice-tells, Slot, plain, shrRefTo, shrSliceOf, typesAt}
-use Rattle.walks.proofs.Kit.{Stays, stay-dropped, gave-ref, gave-slice, goes-dropped, goes-gave-ref, goes-gave-slice, yes}
+use Rattle.walks.proofs.Kit.{Stays, stay-dropped, gave-ref, gave-slice, goes-dropped, goes-gave-ref}
+use Rattle.walks.proofs.Kit.{goes-gave-slice, yes}
 use denote.Laws.{Tellss}
 use denote.Signature.{AllWithin}
 use denote.Struct.Laws as LL

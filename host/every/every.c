@@ -1,0 +1,269 @@
+// Each call of the library, with what it is lent.
+#include "every.h"
+
+#include <stdlib.h>
+#include <unmavreth_host.h>
+
+enum { SHORT_PAYLOAD = 4, NOTIFY = 8, SKIPPED_TYPE = 33, UNKNOWN_TYPE = 200 };
+
+// What is lent.
+static unmavreth_gateway gateway;
+static unmavreth_draft draft;
+static unmavreth_message message;
+static unmavreth_request request;
+static unmavreth_response response;
+static unmavreth_part body, out;
+static uint8_t first, octets[UNMAVRETH_BODY_MOST], cookie[UNMAVRETH_COOKIE_MOST];
+static unmavreth_rule rules[UNMAVRETH_RULES_MOST];
+static unmavreth_rules lent_rules;
+static unmavreth_opening opening;
+static unmavreth_seen seen;
+static uint64_t slots[UNMAVRETH_ENTRY_SLOTS];
+static uint8_t entry[UNMAVRETH_ENTRY_MOST], kind;
+static size_t entry_octets;
+
+unsigned number;
+
+static void interface(void)
+{
+    number = unmavreth_interface() != UNMAVRETH_INTERFACE;
+}
+
+static void read_chain(void)
+{
+    number = unmavreth_read(first, body.start, body.octets).number;
+}
+
+static void hand_out_cookie(void)
+{
+    unmavreth_cookie(&out, body.start, body.octets, UNMAVRETH_NOTIFY_HEADER, UNMAVRETH_COOKIE_MOST);
+    number = 0;
+}
+
+static void hand_out_nat_value(void)
+{
+    unmavreth_nat_value(&out, body.start, body.octets, UNMAVRETH_NOTIFY_HEADER);
+    number = 0;
+}
+
+static void hand_out_no_nats(void)
+{
+    number = unmavreth_no_nats(body.start, body.octets, seen.no_nats, seen.no_nats_len).family != 6;
+}
+
+static void hand_out_addresses(void)
+{
+    number = unmavreth_addresses(body.start, body.octets, seen.list).list[15].family != 6;
+}
+
+static void handle(void)
+{
+    number = unmavreth_handle(&gateway.ike, gateway.ipsec, UNMAVRETH_IPSEC_PLACES, &gateway.policy, request.spi,
+                              request.id, request.pair, request.nat_source.octets, UNMAVRETH_NAT_OCTETS,
+                              request.nat_destination.octets, UNMAVRETH_NAT_OCTETS, first, body.start, body.octets,
+                              response.octets, UNMAVRETH_RESPONSE_ROOM)
+                 .number;
+}
+
+static void write_request(void)
+{
+    number = unmavreth_write(draft.ask, draft.pair, draft.addresses, draft.nat_source.octets, UNMAVRETH_NAT_OCTETS,
+                             draft.nat_destination.octets, UNMAVRETH_NAT_OCTETS, cookie, sizeof cookie, message.octets,
+                             UNMAVRETH_REQUEST_ROOM)
+                 .number;
+}
+
+static void assess(void)
+{
+    number = unmavreth_assess(cookie, sizeof cookie, first, body.start, body.octets).number;
+}
+
+static void open_both(void)
+{
+    number = unmavreth_open(&gateway.ike, gateway.ipsec, UNMAVRETH_IPSEC_PLACES, opening);
+}
+
+static void open_ipsec(void)
+{
+    number = unmavreth_open_ipsec(&gateway.ike, gateway.ipsec, UNMAVRETH_IPSEC_PLACES, 1, opening.spi);
+}
+
+static void close_ike(void)
+{
+    number = unmavreth_close_ike(&gateway.ike, gateway.ipsec, UNMAVRETH_IPSEC_PLACES, opening.spi);
+}
+
+static void close_ipsec(void)
+{
+    number = unmavreth_close_ipsec(gateway.ipsec, UNMAVRETH_IPSEC_PLACES, opening.child);
+}
+
+static void set_policy(void)
+{
+    number = unmavreth_set_policy(&gateway.policy, UNMAVRETH_RULES_MOST, &lent_rules);
+}
+
+static void acceptable(void)
+{
+    number = !unmavreth_acceptable(&gateway.policy, request.pair);
+}
+
+static void write_entry(void)
+{
+    const unmavreth_entry_written written =
+        unmavreth_write_entry(kind, slots, octets, sizeof octets, entry, sizeof entry);
+    number = written.number;
+    entry_octets = written.length;
+}
+
+static void read_entry(void)
+{
+    number = unmavreth_read_entry(entry, entry_octets, 0).number;
+}
+
+// One record with as many IPsec records as there are, and a policy whose last rule is the one that matches.
+static void begin(void)
+{
+    memset(&gateway, 0, sizeof gateway);
+    memset(&request, 0, sizeof request);
+    opening = (unmavreth_opening){.spi = 7, .agreed = {.mobike = 1}, .pair = {.family = 6}, .child = 70};
+    request = (unmavreth_request){.spi = 7, .pair = {.family = 6, .source = {[15] = 16}}};
+    for (size_t i = 0; i < UNMAVRETH_RULES_MOST; i++)
+        lent_rules.rules[i] = rules[i] =
+            (unmavreth_rule){.family = 6, .source = {[15] = (uint8_t)(i + 1)}, .source_len = 128};
+    if (unmavreth_gateway_open(&gateway, &opening) ||
+        unmavreth_gateway_set_policy(&gateway, rules, UNMAVRETH_RULES_MOST))
+        exit(2);
+    for (uint32_t spi = 71; spi < 70 + UNMAVRETH_IPSEC_PLACES; spi++)
+        if (unmavreth_gateway_open_ipsec(&gateway, spi, 7))
+            exit(2);
+}
+
+// A chain that fills the body, of payloads of this type and size; a Notify of an unknown type if it has room for that.
+static void fill_body(uint8_t type, size_t size)
+{
+    memset(octets, 0, sizeof octets);
+    for (size_t at = 0; at < sizeof octets; at += size) {
+        octets[at] = at + size < sizeof octets ? type : 0;
+        octets[at + 3] = (uint8_t)size;
+        if (size == NOTIFY)
+            octets[at + 6] = 0x60;
+    }
+    first = type;
+    body = (unmavreth_part){octets, sizeof octets};
+}
+
+// The longest request that the writer writes.
+static void request_in_full(void)
+{
+    draft = (unmavreth_draft){.ask = {.update = 1, .no_nats = 1, .nat_source = 1, .nat_destination = 1,
+                                      .count = UNMAVRETH_ADDRESSES_MOST},
+                              .pair = request.pair, .cookie = {cookie, sizeof cookie}};
+    for (size_t i = 0; i < UNMAVRETH_ADDRESSES_MOST; i++)
+        draft.addresses.list[i].family = 6;
+    const unmavreth_written written = unmavreth_write_draft(&draft, &message);
+    if (written.number || written.length != UNMAVRETH_REQUEST_ROOM)
+        exit(2);
+    first = written.first;
+    body = (unmavreth_part){message.octets, written.length};
+    seen = unmavreth_read_part(first, body).seen;
+}
+
+// The chains that a reader is given: of payloads that are skipped, that are unknown, of unknown notifications, and one
+// whose last payload ends behind the body.
+static void of_skipped(void)
+{
+    begin();
+    fill_body(SKIPPED_TYPE, SHORT_PAYLOAD);
+}
+
+static void of_unknown(void)
+{
+    begin();
+    fill_body(UNKNOWN_TYPE, SHORT_PAYLOAD);
+}
+
+static void of_notifies(void)
+{
+    begin();
+    fill_body(UNMAVRETH_NOTIFY_PAYLOAD, NOTIFY);
+}
+
+static void cut(void)
+{
+    of_notifies();
+    octets[sizeof octets - NOTIFY + 3] = NOTIFY + 1;
+}
+
+static void asked_in_full(void)
+{
+    begin();
+    request_in_full();
+}
+
+static void with_a_free_place(void)
+{
+    begin();
+    memset(&gateway.ipsec[1], 0, sizeof gateway.ipsec[1]);
+}
+
+static void with_free_places(void)
+{
+    with_a_free_place();
+    opening.spi = 8;
+    opening.child = 1;
+}
+
+// An entry, for writing and, once it is written, for reading.
+static void entry_of(uint8_t its_kind)
+{
+    begin();
+    kind = its_kind;
+    memset(slots, 0, sizeof slots);
+    if (kind == UNMAVRETH_KIND_REQUEST)
+        slots[UNMAVRETH_REQUEST_BODY_SIZE] = UNMAVRETH_STRING_MOST;
+    if (kind == UNMAVRETH_KIND_POLICY)
+        slots[UNMAVRETH_POLICY_COUNT] = UNMAVRETH_RULES_MOST;
+    write_entry();
+}
+
+static void entry_of_opening(void) { entry_of(UNMAVRETH_KIND_OPEN_BOTH); }
+static void entry_of_request(void) { entry_of(UNMAVRETH_KIND_REQUEST); }
+static void entry_of_policy(void) { entry_of(UNMAVRETH_KIND_POLICY); }
+
+const every_call every[] = {
+    {"unmavreth_interface", begin, interface, 0},
+    {"unmavreth_read", of_skipped, read_chain, 0},
+    {"unmavreth_read", of_unknown, read_chain, 0},
+    {"unmavreth_read", of_notifies, read_chain, 0},
+    {"unmavreth_read", cut, read_chain, UNMAVRETH_BAD_CHAIN_LENGTH},
+    {"unmavreth_read", asked_in_full, read_chain, 0},
+    {"unmavreth_cookie", asked_in_full, hand_out_cookie, 0},
+    {"unmavreth_nat_value", asked_in_full, hand_out_nat_value, 0},
+    {"unmavreth_no_nats", asked_in_full, hand_out_no_nats, 0},
+    {"unmavreth_addresses", asked_in_full, hand_out_addresses, 0},
+    {"unmavreth_handle", of_skipped, handle, 0},
+    {"unmavreth_handle", of_unknown, handle, 0},
+    {"unmavreth_handle", of_notifies, handle, 0},
+    {"unmavreth_handle", cut, handle, UNMAVRETH_BAD_CHAIN_LENGTH},
+    {"unmavreth_handle", asked_in_full, handle, 0},
+    {"unmavreth_write", asked_in_full, write_request, 0},
+    {"unmavreth_assess", of_skipped, assess, 0},
+    {"unmavreth_assess", of_unknown, assess, 0},
+    {"unmavreth_assess", of_notifies, assess, 0},
+    {"unmavreth_assess", cut, assess, UNMAVRETH_BAD_CHAIN_LENGTH},
+    {"unmavreth_assess", asked_in_full, assess, 0},
+    {"unmavreth_close_ipsec", begin, close_ipsec, 0},
+    {"unmavreth_close_ike", begin, close_ike, 0},
+    {"unmavreth_open_ipsec", with_a_free_place, open_ipsec, 0},
+    {"unmavreth_open", with_free_places, open_both, 0},
+    {"unmavreth_set_policy", begin, set_policy, 0},
+    {"unmavreth_acceptable", begin, acceptable, 0},
+    {"unmavreth_read_entry", entry_of_opening, read_entry, 0},
+    {"unmavreth_read_entry", entry_of_request, read_entry, 0},
+    {"unmavreth_read_entry", entry_of_policy, read_entry, 0},
+    {"unmavreth_write_entry", entry_of_opening, write_entry, 0},
+    {"unmavreth_write_entry", entry_of_request, write_entry, 0},
+    {"unmavreth_write_entry", entry_of_policy, write_entry, 0},
+};
+const size_t every_count = sizeof every / sizeof every[0];

@@ -1,0 +1,43 @@
+// Drops what each call gives, one a line: a compiler warns at each of them (host/installed/check counts).
+#include <unmavreth_host.h>
+
+void drop(unmavreth_gateway *g, const unmavreth_opening *opening, const unmavreth_request *request,
+          unmavreth_response *response, const unmavreth_draft *draft, unmavreth_message *message,
+          const unmavreth_rules *rules, const unmavreth_seen *seen, const uint64_t *slots, uint8_t *out, unmavreth_part b);
+
+void drop(unmavreth_gateway *g, const unmavreth_opening *opening, const unmavreth_request *request,
+          unmavreth_response *response, const unmavreth_draft *draft, unmavreth_message *message,
+          const unmavreth_rules *rules, const unmavreth_seen *seen, const uint64_t *slots, uint8_t *out, unmavreth_part b)
+{
+    unmavreth_interface();
+    unmavreth_set_policy(&g->policy, 0, rules);
+    unmavreth_acceptable(&g->policy, request->pair);
+    unmavreth_open(&g->ike, g->ipsec, UNMAVRETH_IPSEC_PLACES, *opening);
+    unmavreth_open_ipsec(&g->ike, g->ipsec, UNMAVRETH_IPSEC_PLACES, 1, 7);
+    unmavreth_close_ike(&g->ike, g->ipsec, UNMAVRETH_IPSEC_PLACES, 7);
+    unmavreth_close_ipsec(g->ipsec, UNMAVRETH_IPSEC_PLACES, 1);
+    unmavreth_read(0, b.start, b.octets);
+    unmavreth_no_nats(b.start, b.octets, 0, 0);
+    unmavreth_addresses(b.start, b.octets, seen->list);
+    unmavreth_handle(&g->ike, g->ipsec, 0, &g->policy, 7, 0, request->pair, out, 0, out, 0, 0, b.start, 0, out, 0);
+    unmavreth_write(draft->ask, draft->pair, draft->addresses, out, 0, out, 0, out, 0, out, 0);
+    unmavreth_assess(b.start, b.octets, 0, b.start, b.octets);
+    unmavreth_read_entry(b.start, b.octets, 0);
+    unmavreth_write_entry(0, slots, b.start, b.octets, out, 0);
+    unmavreth_gateway_open(g, opening);
+    unmavreth_gateway_open_ipsec(g, 1, 7);
+    unmavreth_gateway_close_ike(g, 7);
+    unmavreth_gateway_close_ipsec(g, 1);
+    unmavreth_gateway_set_policy(g, rules->rules, 1);
+    unmavreth_gateway_acceptable(g, request->pair);
+    unmavreth_gateway_handle(g, request, response);
+    unmavreth_read_part(0, b);
+    unmavreth_cookie_part(b, 0, 0);
+    unmavreth_nat_value_part(b, 0);
+    unmavreth_no_nats_part(b, seen);
+    unmavreth_addresses_part(b, seen);
+    unmavreth_write_draft(draft, message);
+    unmavreth_assess_part(b, 0, b);
+    unmavreth_read_entry_part(b, 0);
+    unmavreth_write_entry_part(0, slots, b, out);
+}

@@ -1,0 +1,117 @@
+// The inline functions of unmavreth_host.h: each gives what its exported call gives, with a null pointer of length 0 and
+// with an output that nobody set; and what looks at records finds them.
+#include <unmavreth_host.h>
+
+#include "holds.h"
+
+enum { SPI = 7, CHILD = 70, COOKIE_AT = 16, COOKIE_OCTETS = 8 };
+
+static const unmavreth_part nothing = {NULL, 0};
+
+// An update, both NAT detection values, NO_NATS_ALLOWED and a cookie, written by the library.
+static size_t write_all(unmavreth_message *message, const unmavreth_part *cookie)
+{
+    unmavreth_draft draft;
+    memset(&draft, 0, sizeof draft);
+    draft.ask.update = draft.ask.no_nats = draft.ask.nat_source = draft.ask.nat_destination = 1;
+    draft.ask.count = 1;
+    draft.pair.family = draft.addresses.list[0].family = 4;
+    memset(draft.nat_source.octets, 0x51, sizeof draft.nat_source.octets);
+    memset(draft.nat_destination.octets, 0x52, sizeof draft.nat_destination.octets);
+    draft.cookie = *cookie;
+    const unmavreth_written written = unmavreth_write_draft(&draft, message);
+    HOLDS(written.number == UNMAVRETH_DONE && written.first == UNMAVRETH_NOTIFY_PAYLOAD);
+    return written.length;
+}
+
+static void try_reading(void)
+{
+    static const uint8_t cookie[COOKIE_OCTETS] = {1, 2, 3, 4, 5, 6, 7, 8};
+    const unmavreth_part sent = {cookie, sizeof cookie};
+    unmavreth_message message;
+    const unmavreth_part body = {message.octets, write_all(&message, &sent)};
+    const unmavreth_reading reading = unmavreth_read_part(UNMAVRETH_NOTIFY_PAYLOAD, body);
+    HOLDS(reading.number == UNMAVRETH_DONE && reading.seen.update && reading.seen.list.count == 1);
+    const unmavreth_part found = unmavreth_cookie_part(body, reading.seen.cookie, reading.seen.cookie_len);
+    HOLDS(found.start == body.start + reading.seen.cookie && found.octets == sizeof cookie);
+    HOLDS(memcmp(found.start, cookie, sizeof cookie) == 0);
+    const unmavreth_part value = unmavreth_nat_value_part(body, reading.seen.nat_destination);
+    HOLDS(value.octets == UNMAVRETH_NAT_OCTETS && value.start[0] == 0x52 && value.start[19] == 0x52);
+    HOLDS(unmavreth_no_nats_part(body, &reading.seen).family == 4);
+    HOLDS(unmavreth_addresses_part(body, &reading.seen).list[0].family == 4);
+    HOLDS(unmavreth_assess_part(nothing, UNMAVRETH_NOTIFY_PAYLOAD, body).outcome == UNMAVRETH_OUTCOME_ACCEPTED);
+    HOLDS(unmavreth_assess_part(sent, UNMAVRETH_NOTIFY_PAYLOAD, body).cookie == reading.seen.cookie);
+    HOLDS(unmavreth_assess_part(sent, 0, nothing).outcome == UNMAVRETH_OUTCOME_CLOSE);
+    HOLDS(write_all(&message, &nothing) == body.octets - UNMAVRETH_NOTIFY_HEADER - sizeof cookie);
+}
+
+// Nothing, lent as a null pointer of length 0, is read as an empty body.
+static void try_nothing(void)
+{
+    unmavreth_seen none;
+    memset(&none, 0, sizeof none);
+    HOLDS(unmavreth_lent(nothing).start != NULL && unmavreth_lent(nothing).octets == 0);
+    HOLDS(unmavreth_read_part(0, nothing).number == UNMAVRETH_DONE);
+    HOLDS(unmavreth_read_part(UNMAVRETH_NOTIFY_PAYLOAD, nothing).number == UNMAVRETH_BAD_CHAIN_LENGTH);
+    const unmavreth_part cookie = unmavreth_cookie_part(nothing, COOKIE_AT, COOKIE_OCTETS);
+    HOLDS(cookie.start != NULL && cookie.octets == 0);
+    HOLDS(unmavreth_nat_value_part(nothing, COOKIE_AT).octets == 0);
+    HOLDS(unmavreth_no_nats_part(nothing, &none).family == 0);
+    HOLDS(unmavreth_addresses_part(nothing, &none).list[0].family == 0);
+    HOLDS(unmavreth_read_entry_part(nothing, 0).number == UNMAVRETH_CUT);
+    static uint8_t out[UNMAVRETH_ENTRY_MOST];
+    const uint64_t slots[UNMAVRETH_ENTRY_SLOTS] = {SPI};
+    const unmavreth_entry_written entry = unmavreth_write_entry_part(UNMAVRETH_KIND_CLOSE_IKE, slots, nothing, out);
+    HOLDS(entry.number == UNMAVRETH_DONE && entry.length == 2);
+    const unmavreth_part trace = {out, entry.length};
+    HOLDS(unmavreth_read_entry_part(trace, 0).slots[UNMAVRETH_CLOSE_IKE_SPI] == SPI);
+}
+
+static void try_gateway(void)
+{
+    static unmavreth_gateway gateway;
+    unmavreth_opening opening;
+    memset(&opening, 0, sizeof opening);
+    opening.spi = SPI;
+    opening.agreed.mobike = 1;
+    opening.pair.family = 4;
+    opening.child = CHILD;
+    HOLDS(unmavreth_gateway_open(&gateway, &opening) == UNMAVRETH_DONE);
+    HOLDS(unmavreth_gateway_open_ipsec(&gateway, CHILD + 1, SPI) == UNMAVRETH_DONE);
+    HOLDS(unmavreth_gateway_open_ipsec(&gateway, CHILD, SPI) == UNMAVRETH_SPI_IN_USE);
+    HOLDS(unmavreth_find_ike(&gateway, SPI) == &gateway.ike.records[0] && unmavreth_find_ike(&gateway, 0) == NULL);
+    HOLDS(unmavreth_find_ipsec(&gateway, CHILD + 1) == &gateway.ipsec[1] && unmavreth_find_ipsec(&gateway, 0) == NULL);
+    HOLDS(unmavreth_find_ike(&gateway, SPI + 1) == NULL && unmavreth_find_ipsec(&gateway, SPI) == NULL);
+    HOLDS(unmavreth_next_owned(&gateway, SPI, 0) == 0 && unmavreth_next_owned(&gateway, SPI, 1) == 1);
+    HOLDS(unmavreth_next_owned(&gateway, SPI, 2) == UNMAVRETH_IPSEC_PLACES);
+    HOLDS(unmavreth_next_owned(&gateway, 0, 0) == UNMAVRETH_IPSEC_PLACES); // a free place has no owner
+    unmavreth_rule rules[UNMAVRETH_RULES_MOST + 1];
+    memset(rules, 0, sizeof rules);
+    for (size_t i = 0; i < UNMAVRETH_RULES_MOST + 1; i++)
+        rules[i].family = 4;
+    HOLDS(unmavreth_gateway_set_policy(&gateway, rules, UNMAVRETH_RULES_MOST + 1) == UNMAVRETH_BAD_POLICY);
+    HOLDS(unmavreth_gateway_set_policy(&gateway, rules, (size_t)UINT16_MAX + 1) == UNMAVRETH_BAD_POLICY);
+    HOLDS(unmavreth_gateway_set_policy(&gateway, rules, UNMAVRETH_RULES_MOST) == UNMAVRETH_DONE);
+    HOLDS(unmavreth_gateway_acceptable(&gateway, opening.pair));
+    HOLDS(unmavreth_gateway_set_policy(&gateway, NULL, 0) == UNMAVRETH_DONE && gateway.policy.count == 0);
+    HOLDS(!unmavreth_gateway_acceptable(&gateway, opening.pair));
+    unmavreth_request request; // with no payload, an empty request: it is handled, and answered by an empty response
+    unmavreth_response response;
+    memset(&request, 0, sizeof request);
+    request.spi = SPI;
+    request.pair.family = 4;
+    const unmavreth_reply reply = unmavreth_gateway_handle(&gateway, &request, &response);
+    HOLDS(reply.number == UNMAVRETH_DONE && reply.first == 0 && reply.length == 0);
+    HOLDS(unmavreth_gateway_close_ipsec(&gateway, CHILD) == UNMAVRETH_DONE);
+    HOLDS(unmavreth_next_owned(&gateway, SPI, 0) == 1);
+    HOLDS(unmavreth_gateway_close_ike(&gateway, SPI) == UNMAVRETH_DONE && unmavreth_find_ike(&gateway, SPI) == NULL);
+}
+
+int main(void)
+{
+    HOLDS(unmavreth_interface() == UNMAVRETH_INTERFACE);
+    try_reading();
+    try_nothing();
+    try_gateway();
+    return 0;
+}

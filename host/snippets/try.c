@@ -1,0 +1,147 @@
+// Runs the snippets, in the place of the host that is around them.
+#include "auth_list.c"
+#include "moved.c"
+#include "rekey.c"
+#include "update.c"
+
+#include <arpa/inet.h>
+
+#include "holds.h"
+
+#define SPI UINT64_C(0x0a11ce0000000001)
+#define NEW_SPI UINT64_C(0x0a11ce0000000002)
+enum { CHILD = 70, CHILD_2 = 71, CHILD_3 = 72, PORT = 4500, COOKIE_AT = 16, COOKIE_OCTETS = 8 };
+
+// An update with a cookie.
+static const uint8_t update[] = {41, 0, 0, 8,  0, 0, 0x40, 0x10, 0, 0, 0, 16,
+                                 0,  0, 0x40, 0x11, 1, 2, 3,    4,    5, 6, 7, 8};
+
+// The last response, and how many child SAs were moved in the kernel.
+static struct {
+    uint32_t id;
+    uint8_t first;
+    uint8_t payloads[UNMAVRETH_RESPONSE_ROOM];
+    size_t octets;
+    unsigned moves;
+    unmavreth_pair was, is;
+} seen;
+
+void ike_respond(const struct ike_sa *sa, uint32_t id, uint8_t first, const uint8_t *payloads, size_t octets)
+{
+    HOLDS(sa->own_spi == SPI && octets <= sizeof seen.payloads);
+    seen.id = id;
+    seen.first = first;
+    memcpy(seen.payloads, payloads, octets);
+    seen.octets = octets;
+}
+
+void ike_move_child(uint32_t child_spi, const unmavreth_pair *was, const unmavreth_pair *is)
+{
+    HOLDS(child_spi == CHILD || child_spi == CHILD_2);
+    seen.moves++;
+    seen.was = *was;
+    seen.is = *is;
+}
+
+static struct sockaddr_storage socket_address(int family, const char *text, uint16_t port)
+{
+    struct sockaddr_storage address;
+    memset(&address, 0, sizeof address);
+    address.ss_family = (sa_family_t)family;
+    struct sockaddr_in *ip4 = (struct sockaddr_in *)&address;
+    struct sockaddr_in6 *ip6 = (struct sockaddr_in6 *)&address;
+    HOLDS(inet_pton(family, text, family == AF_INET ? (void *)&ip4->sin_addr : (void *)&ip6->sin6_addr) == 1);
+    *(family == AF_INET ? &ip4->sin_port : &ip6->sin6_port) = htons(port);
+    return address;
+}
+
+// README's snippet: a record is opened, and an update from an IPv4-mapped address is refused without a rule, applied
+// with one, and answered.
+static void try_update(void)
+{
+    const struct sockaddr_storage old = socket_address(AF_INET, "203.0.113.5", PORT);
+    const struct sockaddr_storage own = socket_address(AF_INET, "192.0.2.1", PORT);
+    const struct sockaddr_storage from = socket_address(AF_INET6, "::ffff:198.51.100.7", PORT);
+    const struct sockaddr_storage to = socket_address(AF_INET6, "::ffff:192.0.2.1", PORT);
+    const struct ike_sa sa = {.own_spi = SPI, .child_spi = CHILD, .mobike = 1, .peer = (const struct sockaddr *)&old,
+                              .own = (const struct sockaddr *)&own};
+    struct ike_request came = {.id = 4, .from = (const struct sockaddr *)&from, .to = (const struct sockaddr *)&to,
+                               .nat_source = {{0}}, .nat_destination = {{0}}, .first = 41, .payloads = update,
+                               .octets = sizeof update};
+    HOLDS(mobike_open(&sa) == UNMAVRETH_DONE);
+    HOLDS(mobike_open(&sa) == UNMAVRETH_SPI_IN_USE);
+    HOLDS(mobike_request(&sa, &came) == UNMAVRETH_NOT_ACCEPTABLE);
+    HOLDS(seen.first == 41 && seen.octets == 8 + COOKIE_AT && seen.payloads[7] == UNMAVRETH_UNACCEPTABLE_ADDRESSES);
+    const unmavreth_rule rule = {.family = 4, .source = {198, 51, 100}, .destination = {192, 0, 2, 1},
+                                 .source_len = 24, .destination_len = 32};
+    HOLDS(unmavreth_gateway_set_policy(&gateway, &rule, 1) == UNMAVRETH_DONE);
+    came.id = 5;
+    HOLDS(mobike_request(&sa, &came) == UNMAVRETH_DONE);
+    HOLDS(seen.id == 5 && seen.first == 41 && seen.octets == COOKIE_AT);
+    HOLDS(memcmp(seen.payloads + 8, update + COOKIE_AT, COOKIE_OCTETS) == 0);
+    const unmavreth_pair now = unmavreth_pair_of(came.from, came.to);
+    HOLDS(unmavreth_same_pair(&unmavreth_find_ike(&gateway, SPI)->pair, &now));
+    HOLDS(unmavreth_same_pair(&unmavreth_find_ipsec(&gateway, CHILD)->pair, &now));
+    came.octets = UNMAVRETH_BODY_MOST + 1; // answered 3, before anything of the body is looked at
+    HOLDS(mobike_request(&sa, &came) == UNMAVRETH_BODY_TOO_LONG && seen.first == 0 && seen.octets == 0);
+}
+
+// Each child SA is moved, from where it was to where it is; without an update none.
+static void try_moved(void)
+{
+    const unmavreth_pair was = unmavreth_find_ike(&gateway, SPI)->pair;
+    unmavreth_request request = {.spi = SPI, .id = 6, .pair = was, .nat_source = {{0}}, .nat_destination = {{0}},
+                                 .first = 41, .body = {update, sizeof update}};
+    unmavreth_response response;
+    request.pair.source[3]++;
+    HOLDS(unmavreth_gateway_open_ipsec(&gateway, CHILD_2, SPI) == UNMAVRETH_DONE);
+    const unmavreth_opening other = {.spi = NEW_SPI + 1, .agreed = {.mobike = 1}, .pair = was, .child = CHILD_3};
+    HOLDS(unmavreth_gateway_open(&gateway, &other) == UNMAVRETH_DONE);
+    HOLDS(mobike_move(&gateway, &request, &response).update == UNMAVRETH_UPDATE_APPLIED);
+    HOLDS(seen.moves == 2 && unmavreth_same_pair(&seen.was, &was) && unmavreth_same_pair(&seen.is, &request.pair));
+    HOLDS(mobike_move(&gateway, &request, &response).update == UNMAVRETH_UPDATE_STALE && seen.moves == 2);
+}
+
+// The additional addresses of an IKE_AUTH request are kept, and a list of a later request is newer; a chain without any
+// changes nothing.
+static void try_auth_list(void)
+{
+    static const uint8_t auth[] = {41, 0, 0, 4, 41, 0, 0, 8,  0,  0, 0x40, 0x0c, 41, 0, 0, 12, 0,   0,  0x40, 0x0d,
+                                   10, 0, 0, 1, 0,  0, 0, 12, 0,  0, 0x40, 0x0d, 10, 0, 0, 2};
+    const unmavreth_part body = {auth, sizeof auth};
+    const unmavreth_part without = {NULL, 0};
+    HOLDS(mobike_auth_list(&gateway, SPI, 1, 0, without) == UNMAVRETH_DONE);
+    HOLDS(unmavreth_find_ike(&gateway, SPI)->list_mark == 0);
+    HOLDS(mobike_auth_list(&gateway, SPI, 1, UNMAVRETH_FIRST_KNOWN_PAYLOAD, body) == UNMAVRETH_DONE);
+    const unmavreth_ike *record = unmavreth_find_ike(&gateway, SPI);
+    HOLDS(record->count == 2 && record->addresses[1].octets[3] == 2 && record->list_mark == 1 + 1);
+    HOLDS(record->unknown == 0);
+    HOLDS(mobike_auth_list(&gateway, NEW_SPI, 1, UNMAVRETH_FIRST_KNOWN_PAYLOAD, body) == UNMAVRETH_NO_SUCH_RECORD);
+}
+
+// The new record has the pair and the IPsec records of the old one, no marks and an empty list.
+static void try_rekey(void)
+{
+    const unmavreth_ike was = *unmavreth_find_ike(&gateway, SPI);
+    HOLDS(mobike_rekey(&gateway, SPI, NEW_SPI + 1) == UNMAVRETH_SPI_IN_USE);
+    HOLDS(mobike_rekey(&gateway, SPI, 0) == UNMAVRETH_BAD_ARGUMENT);
+    HOLDS(mobike_rekey(&gateway, SPI, NEW_SPI) == UNMAVRETH_DONE);
+    HOLDS(mobike_rekey(&gateway, SPI, NEW_SPI) == UNMAVRETH_NO_SUCH_RECORD);
+    const unmavreth_ike *is = unmavreth_find_ike(&gateway, NEW_SPI);
+    HOLDS(is != NULL && is->agreed.mobike == was.agreed.mobike && unmavreth_same_pair(&is->pair, &was.pair));
+    HOLDS(is->update_mark == 0 && is->list_mark == 0 && is->count == 0);
+    for (uint32_t child = CHILD; child <= CHILD_2; child++) {
+        const unmavreth_ipsec *of = unmavreth_find_ipsec(&gateway, child);
+        HOLDS(of != NULL && of->owner == NEW_SPI && unmavreth_same_pair(&of->pair, &was.pair));
+    }
+    HOLDS(unmavreth_find_ipsec(&gateway, CHILD_3)->owner == NEW_SPI + 1);
+}
+
+int main(void)
+{
+    try_update();
+    try_moved();
+    try_auth_list();
+    try_rekey();
+    return 0;
+}

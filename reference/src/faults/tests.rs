@@ -1,0 +1,194 @@
+// Each fault shows in some case of its kind, and no two faults of a kind show the same in all.
+use super::*;
+use crate::assess::assess;
+use crate::cases::assess::{self, AssessCases};
+use crate::cases::entries::EntriesCases;
+use crate::cases::orders::{self, OrdersCases};
+use crate::cases::reader::ReaderCases;
+use crate::cases::requests::{self, RequestsCases};
+use crate::cases::round_trips::RoundTripsCases;
+use crate::cases::tables::TablesCases;
+use crate::cases::traces::TracesCases;
+use crate::cases::writer::WriterCases;
+use crate::handler::handle;
+use crate::orders::broken;
+use crate::outcome::Outcome;
+use crate::reader::read;
+use crate::round_trips::Model;
+use crate::trace::codec;
+use crate::writer::write;
+use std::collections::BTreeSet;
+
+/// The cases of every kind.
+struct Cases {
+    reader: ReaderCases,
+    tables: TablesCases,
+    requests: RequestsCases,
+    orders: OrdersCases,
+    assess: AssessCases,
+    writer: WriterCases,
+    round_trips: RoundTripsCases,
+    traces: TracesCases,
+    entries: EntriesCases,
+}
+
+impl Cases {
+    fn new() -> Self {
+        Cases {
+            reader: ReaderCases::new(1),
+            tables: TablesCases::new(1),
+            requests: RequestsCases::new(1),
+            orders: OrdersCases::new(1),
+            assess: AssessCases::new(1),
+            writer: WriterCases::new(1),
+            round_trips: RoundTripsCases::new(1),
+            traces: TracesCases::new(1),
+            entries: EntriesCases::new(1),
+        }
+    }
+
+    /// Whether anything that is compared of a case differs between these two.
+    fn differ(&self, kind: Kind, number: u64, one: &Faulty, other: &Faulty) -> bool {
+        match kind {
+            Kind::Reader => {
+                let case = self.reader.case(number);
+                let read = |rules: &Faulty| read(case.first, &case.body, rules.chain());
+                Outcome::of(&read(one), &case.body, one)
+                    != Outcome::of(&read(other), &case.body, other)
+            }
+            Kind::Tables => self.calls_differ(number, one, other),
+            Kind::Requests => self.requests_differ(number, one, other),
+            Kind::Orders => self.broken(number, one) != self.broken(number, other),
+            Kind::Assess => {
+                let assess::Case { sent, first, body } = self.assess.case(number);
+                assess(&sent, first, &body, one) != assess(&sent, first, &body, other)
+            }
+            Kind::Writer => {
+                let case = self.writer.case(number);
+                write(&case, one.writer()) != write(&case, other.writer())
+            }
+            Kind::RoundTrips => {
+                let case = self.round_trips.case(number);
+                case.holds_of(&Model(&Plain), one) != case.holds_of(&Model(&Plain), other)
+            }
+            Kind::Traces => {
+                let case = self.traces.case(number);
+                case.printed(one) != case.printed(other)
+            }
+            Kind::Entries => {
+                let case = self.entries.case(number);
+                case.outcome(&codec::Model(one)) != case.outcome(&codec::Model(other))
+            }
+        }
+    }
+
+    fn calls_differ(&self, number: u64, one: &Faulty, other: &Faulty) -> bool {
+        let case = self.tables.case(number);
+        let (mut of_one, mut of_other) = (case.tables.clone(), case.tables);
+        case.calls.iter().any(|call| {
+            let numbers = [call.make(&mut of_one, one), call.make(&mut of_other, other)];
+            numbers[0] != numbers[1] || of_one != of_other
+        })
+    }
+
+    fn requests_differ(&self, number: u64, one: &Faulty, other: &Faulty) -> bool {
+        let requests::Case { tables: mut of_one, request } = self.requests.case(number);
+        let mut of_other = of_one.clone();
+        let handled = [handle(&request, &mut of_one, one), handle(&request, &mut of_other, other)];
+        handled[0] != handled[1] || of_one != of_other
+    }
+
+    /// What isn't as these rules of demand 3 ask it of this program.
+    fn broken(&self, number: u64, rules: &Faulty) -> Vec<String> {
+        let orders::Case { tables, requests, chance } = self.orders.case(number);
+        broken(&tables, &requests, &chance, rules, |request, tables| {
+            handle(request, tables, &Plain)
+        })
+    }
+}
+
+/// So many cases of a kind are looked through.
+const CASES: u64 = 20_000;
+
+#[test]
+fn every_fault_changes_some_outcome() {
+    let cases = Cases::new();
+    for Fault { kind, name, program, .. } in Fault::all() {
+        let shows = |number| cases.differ(kind, number, &Faulty::NOWHERE, &program);
+        assert!((0..CASES).any(shows), "{name} shows in no case");
+    }
+}
+
+/// Splits a group of faults by what comes of a case; those that are alone show something of their own.
+fn split(cases: &Cases, number: u64, group: Vec<Fault>) -> Vec<Vec<Fault>> {
+    let mut parts: Vec<Vec<Fault>> = Vec::new();
+    for fault in group {
+        let same = |part: &&mut Vec<Fault>| {
+            !cases.differ(fault.kind, number, &part[0].program, &fault.program)
+        };
+        match parts.iter_mut().find(same) {
+            Some(part) => part.push(fault),
+            None => parts.push(vec![fault]),
+        }
+    }
+    parts.retain(|part| part.len() > 1);
+    parts
+}
+
+#[test]
+fn no_two_faults_of_a_kind_are_the_same() {
+    let cases = Cases::new();
+    for kind in Kind::ALL {
+        let mut groups = vec![Fault::of_kind(kind).collect::<Vec<_>>()];
+        for number in 0..CASES {
+            groups = groups.into_iter().flat_map(|group| split(&cases, number, group)).collect();
+        }
+        let names = |group: &Vec<Fault>| group.iter().map(|fault| fault.name).collect::<Vec<_>>();
+        let alike: Vec<_> = groups.iter().map(names).collect();
+        assert_eq!(alike, Vec::<Vec<&str>>::new());
+    }
+}
+
+#[test]
+fn names_are_there_once_and_lines_too() {
+    let names: BTreeSet<&str> = Fault::all().map(|fault| fault.name).collect();
+    let lines: BTreeSet<&str> = Fault::all().map(|fault| fault.wrong).collect();
+    assert_eq!(names.len(), of_every_part().len());
+    assert!(lines.iter().all(|line| line.ends_with('.')));
+    assert_eq!(Fault::named("cookie-65").map(|fault| fault.kind), Some(Kind::Reader));
+    assert!(Fault::named("no-such-fault").is_none());
+}
+
+/// The rules and the faults of each part, as they are written.
+const PARTS: [[&str; 2]; 11] = [
+    [include_str!("../rules/chain.rs"), include_str!("chain.rs")],
+    [include_str!("../rules/parts.rs"), include_str!("parts.rs")],
+    [include_str!("../rules/tables.rs"), include_str!("tables.rs")],
+    [include_str!("../rules/policy.rs"), include_str!("policy.rs")],
+    [include_str!("../rules/requests.rs"), include_str!("requests.rs")],
+    [include_str!("../rules/orders.rs"), include_str!("orders.rs")],
+    [include_str!("../rules/responses.rs"), include_str!("responses.rs")],
+    [include_str!("../rules/writer.rs"), include_str!("writer.rs")],
+    [include_str!("../rules/round_trips.rs"), include_str!("round_trips.rs")],
+    [include_str!("../rules/trace.rs"), include_str!("trace.rs")],
+    [include_str!("../rules/replay.rs"), include_str!("replay.rs")],
+];
+
+/// The methods of a trait or of its implementations, in their order.
+fn methods(source: &str) -> Vec<&str> {
+    let names = source.lines().filter_map(|line| line.strip_prefix("    fn "));
+    names.map(|rest| rest.split(['<', '(']).next().unwrap_or(rest)).collect()
+}
+
+#[test]
+fn every_rule_has_a_fault_and_every_fault_is_one_override() {
+    for [rules, faults] in PARTS {
+        let (given, overridden) = (methods(rules), methods(faults));
+        assert!(!given.is_empty());
+        for rule in given {
+            assert!(overridden.contains(&rule), "{rule} has no fault");
+        }
+        let structs = faults.lines().filter(|line| line.starts_with("struct ")).count();
+        assert_eq!(structs, overridden.len());
+    }
+}

@@ -1,0 +1,126 @@
+// The rules of the papers, part by part: each a small method with the sentence that it reads. A program is
+// whatever gives a set of rules for each part; this one goes by the methods as they stand here.
+mod chain;
+mod orders;
+mod parts;
+mod policy;
+mod replay;
+mod requests;
+mod responses;
+mod round_trips;
+mod tables;
+mod trace;
+mod writer;
+
+pub use chain::ChainRules;
+pub use orders::OrderRules;
+pub use parts::PartRules;
+pub use policy::PolicyRules;
+pub use replay::ReplayRules;
+pub use requests::RequestRules;
+pub use responses::ResponseRules;
+pub use round_trips::RoundTripRules;
+pub use tables::TableRules;
+pub use trace::TraceRules;
+pub use writer::WriterRules;
+
+/// The rules of every part.
+pub trait Rules {
+    type Chain: ChainRules + ?Sized;
+    type Parts: PartRules + ?Sized;
+    type Tables: TableRules + ?Sized;
+    type Policy: PolicyRules + ?Sized;
+    type Requests: RequestRules + ?Sized;
+    type Orders: OrderRules + ?Sized;
+    type Responses: ResponseRules + ?Sized;
+    type Writer: WriterRules + ?Sized;
+    type RoundTrips: RoundTripRules + ?Sized;
+    type Trace: TraceRules + ?Sized;
+    type Replay: ReplayRules + ?Sized;
+
+    fn chain(&self) -> &Self::Chain;
+    fn parts(&self) -> &Self::Parts;
+    fn tables(&self) -> &Self::Tables;
+    fn policy(&self) -> &Self::Policy;
+    fn requests(&self) -> &Self::Requests;
+    fn orders(&self) -> &Self::Orders;
+    fn responses(&self) -> &Self::Responses;
+    fn writer(&self) -> &Self::Writer;
+    fn round_trips(&self) -> &Self::RoundTrips;
+    fn trace(&self) -> &Self::Trace;
+    fn replay(&self) -> &Self::Replay;
+}
+
+/// The second program: every rule as it is read from the papers.
+#[derive(Debug, Clone, Copy)]
+pub struct Plain;
+
+impl ChainRules for Plain {}
+impl PartRules for Plain {}
+impl TableRules for Plain {}
+impl PolicyRules for Plain {}
+impl RequestRules for Plain {}
+impl OrderRules for Plain {}
+impl ResponseRules for Plain {}
+impl WriterRules for Plain {}
+impl RoundTripRules for Plain {}
+impl TraceRules for Plain {}
+impl ReplayRules for Plain {}
+
+impl Rules for Plain {
+    type Chain = Plain;
+    type Parts = Plain;
+    type Tables = Plain;
+    type Policy = Plain;
+    type Requests = Plain;
+    type Orders = Plain;
+    type Responses = Plain;
+    type Writer = Plain;
+    type RoundTrips = Plain;
+    type Trace = Plain;
+    type Replay = Plain;
+
+    fn chain(&self) -> &Plain {
+        self
+    }
+
+    fn parts(&self) -> &Plain {
+        self
+    }
+
+    fn tables(&self) -> &Plain {
+        self
+    }
+
+    fn policy(&self) -> &Plain {
+        self
+    }
+
+    fn requests(&self) -> &Plain {
+        self
+    }
+
+    fn orders(&self) -> &Plain {
+        self
+    }
+
+    fn responses(&self) -> &Plain {
+        self
+    }
+
+    fn writer(&self) -> &Plain {
+        self
+    }
+
+    fn round_trips(&self) -> &Plain {
+        self
+    }
+
+    fn trace(&self) -> &Plain {
+        self
+    }
+
+    fn replay(&self) -> &Plain {
+        self
+    }
+}

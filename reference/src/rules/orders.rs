@@ -1,0 +1,30 @@
+// The rules of demand 3: document 00, with document 01, "One request, step by step".
+use crate::request::Request;
+use crate::steps::mark;
+
+pub trait OrderRules {
+    /// "which keeps each IKE SA's own requests in sequence".
+    fn keeps_sequence(&self, _spi: u64) -> bool {
+        true
+    }
+
+    /// "Where an IKE SA's requests are all sound .. and no two of them have the same message ID".
+    fn is_freed(&self, all_sound: bool, ids_differ: bool) -> bool {
+        all_sound && ids_differ
+    }
+
+    /// "For every order that keeps the sequence of all other IKE SAs, the tables still end the same."
+    fn breaks_freed(&self, same_tables: bool, _same_answers: bool) -> bool {
+        !same_tables
+    }
+
+    /// An SA's pair ends as "the one carried by its update with the greatest ID".
+    fn deciding<'a>(&self, updates: &[&'a Request]) -> Option<&'a Request> {
+        updates.iter().copied().max_by_key(|request| request.id)
+    }
+
+    /// The same: "if that exceeds the update mark it began with, else as the pair it had".
+    fn moves(&self, id: u32, first_mark: u64) -> bool {
+        mark(id) > first_mark
+    }
+}
