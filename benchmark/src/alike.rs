@@ -1,5 +1,5 @@
 // Tests that the lean baseline tells the same as the library on far more inputs than the rows'.
-use crate::job::{draft, Asking, Handling, Job, OpeningBoth};
+use crate::job::{draft, Asking, Checking, Handling, Job, OpeningBoth};
 use crate::rows;
 use crate::side::Side;
 use unmavreth::{Address, Draft, Pair, Rule};
@@ -20,6 +20,7 @@ fn body(job: &mut Job) -> Option<&mut Vec<u8>> {
     match job {
         Job::Read { body, .. } | Job::Assess { body, .. } => Some(body),
         Job::Handle(handling) => Some(&mut handling.body),
+        Job::Check(checking) => Some(&mut checking.body),
         _ => None,
     }
 }
@@ -118,12 +119,29 @@ fn of_paths() {
     }
 }
 
-/// A chain read, assessed, and as a request to a record whose tally is all but full.
+/// Cookies for a check of every length around the allowed ones, lent with a request and kept in a record.
+#[test]
+fn of_kept_cookies() {
+    for length in 0..=67u8 {
+        let mut handling = Handling::of(41, vec![0, 0, 0, 8, 0, 0, 0x40, 16]);
+        handling.cookie = (0..length).collect();
+        alike(&Job::Handle(Box::new(handling)));
+        for octet in [0x61, 0x62] {
+            let mut checking = Checking::owning(2);
+            checking.gateway.ike[31].check.length = length;
+            checking.gateway.ike[31].check.octets[7] = octet;
+            alike(&Job::Check(Box::new(checking)));
+        }
+    }
+}
+
+/// A chain read, assessed, as the response to a check, and as a request to a record whose tally is all but full.
 fn alike_of_chain(body: Vec<u8>) {
     let mut handling = Handling::of(41, body.clone());
     handling.gateway.ike[0].unknown = u32::MAX - 1;
     alike(&Job::Handle(Box::new(handling)));
     alike(&Job::Read { first: 41, body: body.clone() });
+    alike(&Job::Check(Box::new(Checking { body: body.clone(), ..Checking::owning(2) })));
     alike(&Job::Assess { first: 41, body });
 }
 
@@ -147,6 +165,13 @@ fn of_arguments() {
             handling.gateway.policy.rules[0] = Rule { family: pair.family, ..Rule::NONE };
             (handling.spi, handling.pair) = (spi, pair);
             alike(&Job::Handle(Box::new(handling)));
+            let mut checking = Checking::owning(3);
+            checking.gateway.ike[31].pair = pair;
+            checking.gateway.ike[31].spi = spi;
+            checking.gateway.ike[31].unknown = u32::MAX;
+            checking.gateway.ipsec[1].spi = 0;
+            checking.id = mark as u32 / 4;
+            alike(&Job::Check(Box::new(checking)));
             let mut opening = OpeningBoth::on_empty();
             (opening.opening.spi, opening.opening.pair) = (spi, pair);
             opening.gateway.ike[0].spi = 8;

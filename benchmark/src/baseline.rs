@@ -1,7 +1,7 @@
 // A row's call on the lean baseline: once uncounted, once counted on state of its own.
 use crate::chains::COOKIE;
 use crate::counted::*;
-use crate::job::{Handling, Job, OpeningBoth};
+use crate::job::{Checking, Handling, Job, OpeningBoth};
 use crate::lean::{self, Assessment, Reading, Reply, Written};
 use crate::ours::{Lent, BEFORE};
 use crate::told::Told;
@@ -13,6 +13,7 @@ pub fn told(job: &Job) -> Told {
     match job {
         Job::Read { first, body } => read(*first, body, false),
         Job::Handle(handling) => handled(handling, false),
+        Job::Check(checking) => checked(checking, false),
         Job::Open(opening) => opened(opening, false),
         Job::Write(draft) => write(draft, false),
         Job::Assess { first, body } => assessed(body, &lean::assess(&COOKIE, *first, body)),
@@ -26,6 +27,7 @@ pub fn counted(job: &Job) -> Told {
     match job {
         Job::Read { first, body } => read(*first, body, true),
         Job::Handle(handling) => handled(handling, true),
+        Job::Check(checking) => checked(checking, true),
         Job::Open(opening) => opened(opening, true),
         Job::Write(draft) => write(draft, true),
         Job::Assess { first, body } => assessed(
@@ -52,7 +54,7 @@ fn handled(handling: &Handling, count: bool) -> Told {
     let call = if count { counted_lean_handle } else { lean::handle };
     let reply = black_box(call(
         black_box(&mut lent.ike),
-        black_box(&mut lent.ipsec[..]),
+        black_box(&lent.ipsec[..]),
         black_box(&lent.policy),
         black_box(&request),
         black_box(&mut lent.out[..handling.room]),
@@ -60,6 +62,17 @@ fn handled(handling: &Handling, count: bool) -> Told {
     let cookie = part(&handling.body, reply.cookie, reply.cookie_len);
     let octets = vec![cookie, lent.out[..handling.room].to_vec()];
     Told { fields: replied(&reply), octets, tables: Some(lent.tables()) }
+}
+
+fn checked(checking: &Checking, count: bool) -> Told {
+    let mut lent = Lent::of(&checking.gateway);
+    let call = if count { counted_lean_check } else { lean::check };
+    let told = black_box(call(
+        black_box(&mut lent.ike),
+        black_box(&mut lent.ipsec[..]),
+        black_box(&checking.response()),
+    ));
+    Told { tables: Some(lent.tables()), ..assessed(&checking.body, &told) }
 }
 
 fn opened(opening: &OpeningBoth, count: bool) -> Told {

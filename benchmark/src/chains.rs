@@ -12,6 +12,8 @@ const NO_NATS_ALLOWED: u16 = 16402;
 const UNKNOWN: u16 = 40000;
 
 pub const COOKIE: [u8; 16] = [1, 2, 3, 4, 5, 6, 7, 8, 9, 10, 11, 12, 13, 14, 15, 16];
+/// Of the gateway's own check.
+pub const CHECK_COOKIE: [u8; 16] = [0x61; 16];
 pub const NAT_SOURCE: [u8; 20] = [0x51; 20];
 pub const NAT_DESTINATION: [u8; 20] = [0x52; 20];
 pub const ADDITIONAL: [[u8; 4]; 2] = [[203, 0, 113, 10], [203, 0, 113, 11]];
@@ -49,6 +51,11 @@ pub fn response() -> Vec<u8> {
         (NAT_DETECTION_DESTINATION_IP, &NAT_DESTINATION),
         (COOKIE2, &COOKIE),
     ])
+}
+
+/// The response to a check with its cookie, of 24 octets.
+pub fn check_response() -> Vec<u8> {
+    notifications(&[(COOKIE2, &CHECK_COOKIE)])
 }
 
 /// An update whose NO_NATS_ALLOWED tells other addresses and ports than any packet here.

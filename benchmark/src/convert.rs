@@ -1,7 +1,9 @@
-// The library's records, openings and policy in the second program's form, field by field.
+// The library's records, openings, responses and policy in the second program's form, field by field.
 use reference::address::{Address, AddressPair};
 use reference::agreed::Agreed;
+use reference::check::CheckResponse;
 use reference::opening_both::Opening;
+use reference::pending::PendingCheck;
 use reference::policy::{Policy, Rule};
 use reference::tables::{IkeRecord, IpsecRecord, Tables};
 
@@ -33,7 +35,16 @@ fn ike(of: &unmavreth::IkeRecord) -> IkeRecord {
         count: of.count,
         addresses: of.addresses.each_ref().map(address),
         unknown: of.unknown,
+        check: pending(&of.check),
     }
+}
+
+fn pending(of: &unmavreth::PendingCheck) -> PendingCheck {
+    PendingCheck { length: of.length, octets: of.octets, id: of.id }
+}
+
+pub fn check_response(of: &unmavreth::CheckResponse<'_>) -> CheckResponse {
+    CheckResponse { spi: of.spi, id: of.id, first: of.first, body: of.body.to_vec() }
 }
 
 fn ipsec(of: &unmavreth::IpsecRecord) -> IpsecRecord {

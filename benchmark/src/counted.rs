@@ -12,26 +12,29 @@ use reference::rules::{Plain, PolicyRules};
 use reference::tables::Tables;
 use std::hint::black_box;
 use unmavreth::{
-    Assessment, Draft, IkeRecord, IpsecRecord, Number, Opening, Pair, Policy, Reading, Reply,
-    Request, Written,
+    Assessment, CheckResponse, Draft, IkeRecord, IpsecRecord, Number, Opening, Pair, Policy,
+    Reading, Reply, Request, Written,
 };
 
 /// The names that callgrind is told. With a wrong one nothing is counted, which is an error.
-pub const NAMES: [&str; 19] = [
+pub const NAMES: [&str; 22] = [
     "counted_ours_read",
     "counted_ours_handle",
+    "counted_ours_check",
     "counted_ours_open",
     "counted_ours_write",
     "counted_ours_assess",
     "counted_ours_acceptable",
     "counted_second_read",
     "counted_second_handle",
+    "counted_second_check",
     "counted_second_open",
     "counted_second_write",
     "counted_second_assess",
     "counted_second_acceptable",
     "counted_lean_read",
     "counted_lean_handle",
+    "counted_lean_check",
     "counted_lean_open",
     "counted_lean_write",
     "counted_lean_assess",
@@ -51,7 +54,7 @@ pub fn counted_ours_read(first: u8, body: &[u8]) -> Reading {
 #[no_mangle]
 pub fn counted_ours_handle(
     ike: &mut [IkeRecord; 32],
-    ipsec: &mut [IpsecRecord],
+    ipsec: &[IpsecRecord],
     policy: &Policy,
     request: &Request<'_>,
     out: &mut [u8],
@@ -59,6 +62,18 @@ pub fn counted_ours_handle(
     let reply = unmavreth::handle(ike, ipsec, policy, request, out);
     black_box(&reply);
     reply
+}
+
+#[inline(never)]
+#[no_mangle]
+pub fn counted_ours_check(
+    ike: &mut [IkeRecord; 32],
+    ipsec: &mut [IpsecRecord],
+    response: &CheckResponse<'_>,
+) -> Assessment {
+    let assessed = unmavreth::check(ike, ipsec, response);
+    black_box(&assessed);
+    assessed
 }
 
 #[inline(never)]
@@ -159,7 +174,7 @@ pub fn counted_lean_read(first: u8, body: &[u8], reading: &mut lean::Reading) {
 #[no_mangle]
 pub fn counted_lean_handle(
     ike: &mut [IkeRecord; 32],
-    ipsec: &mut [IpsecRecord],
+    ipsec: &[IpsecRecord],
     policy: &Policy,
     request: &Request<'_>,
     out: &mut [u8],
@@ -167,6 +182,18 @@ pub fn counted_lean_handle(
     let reply = lean::handle(ike, ipsec, policy, request, out);
     black_box(&reply);
     reply
+}
+
+#[inline(never)]
+#[no_mangle]
+pub fn counted_lean_check(
+    ike: &mut [IkeRecord; 32],
+    ipsec: &mut [IpsecRecord],
+    response: &CheckResponse<'_>,
+) -> lean::Assessment {
+    let assessed = lean::check(ike, ipsec, response);
+    black_box(&assessed);
+    assessed
 }
 
 #[inline(never)]
@@ -211,4 +238,15 @@ pub fn counted_bits_acceptable(policy: &Policy, pair: &Pair) -> bool {
     let accepted = bit_by_bit::acceptable(policy, pair);
     black_box(&accepted);
     accepted
+}
+
+#[inline(never)]
+#[no_mangle]
+pub fn counted_second_check<'a>(
+    response: &'a reference::check::CheckResponse,
+    tables: &mut Tables,
+) -> Assessed<'a> {
+    let assessed = reference::check::decide(response, tables, &reference::rules::Plain);
+    black_box(&assessed);
+    assessed
 }

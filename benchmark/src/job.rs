@@ -1,13 +1,15 @@
 // What a row's call is given, on either side.
-use crate::chains::{self, COOKIE, NAT_DESTINATION, NAT_SOURCE, NOTIFY};
+use crate::chains::{self, CHECK_COOKIE, COOKIE, NAT_DESTINATION, NAT_SOURCE, NOTIFY};
 use unmavreth::trace::Entry;
 use unmavreth::{
-    Address, Agreed, Ask, Draft, Flag, Gateway, Number, Opening, Pair, Policy, Request, Rule,
+    Address, Agreed, Ask, CheckResponse, Draft, Effect, Flag, Gateway, Number, Opening, Pair,
+    Policy, Request, Rule,
 };
 
 pub enum Job {
     Read { first: u8, body: Vec<u8> },
     Handle(Box<Handling>),
+    Check(Box<Checking>),
     Open(Box<OpeningBoth>),
     Write(Box<Draft<'static>>),
     Assess { first: u8, body: Vec<u8> },
@@ -26,10 +28,20 @@ pub struct Handling {
     pub spi: u64,
     pub pair: Pair,
     pub nat_source: Vec<u8>,
+    /// For a check.
+    pub cookie: Vec<u8>,
     pub first: u8,
     pub body: Vec<u8>,
     /// How long the output is, at most 128 octets.
     pub room: usize,
+}
+
+/// A response to a check, with the tables that are lent for it.
+pub struct Checking {
+    pub gateway: Gateway,
+    pub id: u32,
+    pub first: u8,
+    pub body: Vec<u8>,
 }
 
 /// An opening of both records, with the tables that are lent for it.
@@ -44,6 +56,7 @@ const OTHER: u64 = 8;
 const OPENED: [(u64, u32); 2] = [(OWNER, 71), (OTHER, 81)];
 const ADDED: [(u32, u64); 2] = [(72, OWNER), (82, OTHER)];
 const ID: u32 = 3;
+const CHECK_ID: u32 = 1;
 const OLD: Pair = Pair::ipv4(([203, 0, 113, 5], 4500), ([192, 0, 2, 1], 4500));
 const NEW: Pair = Pair::ipv4(([198, 51, 100, 7], 4500), ([192, 0, 2, 1], 4500));
 /// Within no rule.
@@ -64,8 +77,8 @@ impl Handling {
     }
 
     fn on(gateway: Gateway, first: u8, body: Vec<u8>) -> Self {
-        let nat_source = NAT_SOURCE.to_vec();
-        Handling { gateway, spi: OWNER, pair: NEW, nat_source, first, body, room: 128 }
+        let (nat_source, cookie) = (NAT_SOURCE.to_vec(), CHECK_COOKIE.to_vec());
+        Handling { gateway, spi: OWNER, pair: NEW, nat_source, cookie, first, body, room: 128 }
     }
 
     /// The update, to the last of 32 records, which owns this many of 128 IPsec records.
@@ -83,7 +96,26 @@ impl Handling {
             nat_destination: &NAT_DESTINATION,
             first: self.first,
             body: &self.body,
+            cookie: &self.cookie,
+            check_id: CHECK_ID,
         }
+    }
+}
+
+impl Checking {
+    /// The right response to the check that the update left, of the last of 32 records, which owns this many
+    /// of 128 IPsec records.
+    pub fn owning(owned: usize) -> Self {
+        let update = Handling::owning(owned);
+        let mut gateway = update.gateway.clone();
+        let reply = gateway.handle(&update.request(), &mut [0; 128]);
+        assert_eq!((reply.number(), reply.update()), (Number::Done, Effect::Applied));
+        Checking { gateway, id: CHECK_ID, first: NOTIFY, body: chains::check_response() }
+    }
+
+    /// The response as the library is given it.
+    pub fn response(&self) -> CheckResponse<'_> {
+        CheckResponse { spi: OWNER, id: self.id, first: self.first, body: &self.body }
     }
 }
 

@@ -2,7 +2,7 @@
 use crate::chains::COOKIE;
 use crate::convert;
 use crate::counted::*;
-use crate::job::{Handling, Job, OpeningBoth};
+use crate::job::{Checking, Handling, Job, OpeningBoth};
 use crate::told::Told;
 use reference::tables::Tables;
 use std::hint::black_box;
@@ -18,6 +18,7 @@ pub fn told(job: &Job) -> Told {
     match job {
         Job::Read { first, body } => reading(body, &unmavreth::read(*first, body)),
         Job::Handle(handling) => handled(handling, false),
+        Job::Check(checking) => checked(checking, false),
         Job::Open(opening) => opened(opening, false),
         Job::Write(draft) => {
             let mut out = vec![BEFORE; 564];
@@ -37,6 +38,7 @@ pub fn counted(job: &Job) -> Told {
             reading(body, &black_box(counted_ours_read(black_box(*first), black_box(body))))
         }
         Job::Handle(handling) => handled(handling, true),
+        Job::Check(checking) => checked(checking, true),
         Job::Open(opening) => opened(opening, true),
         Job::Write(draft) => count_write(draft),
         Job::Assess { first, body } => assessed(
@@ -56,7 +58,7 @@ fn count_write(draft: &Draft) -> Told {
     written(&told, out)
 }
 
-/// What is lent for a request or an opening. It begins where a cache line does, for how octets are
+/// What is lent for a request, a response or an opening. It begins where a cache line does, for how octets are
 /// copied depends on where they lie, and the heap would put it here or there.
 #[repr(align(64))]
 pub struct Lent {
@@ -83,13 +85,24 @@ fn handled(handling: &Handling, count: bool) -> Told {
     let call = if count { counted_ours_handle } else { unmavreth::handle };
     let reply = black_box(call(
         black_box(&mut lent.ike),
-        black_box(&mut lent.ipsec[..]),
+        black_box(&lent.ipsec[..]),
         black_box(&lent.policy),
         black_box(&request),
         black_box(&mut lent.out[..handling.room]),
     ));
     let octets = vec![reply.cookie(&handling.body).to_vec(), lent.out[..handling.room].to_vec()];
     Told { fields: replied(&reply), octets, tables: Some(lent.tables()) }
+}
+
+fn checked(checking: &Checking, count: bool) -> Told {
+    let mut lent = Lent::of(&checking.gateway);
+    let call = if count { counted_ours_check } else { unmavreth::check };
+    let told = black_box(call(
+        black_box(&mut lent.ike),
+        black_box(&mut lent.ipsec[..]),
+        black_box(&checking.response()),
+    ));
+    Told { tables: Some(lent.tables()), ..assessed(&checking.body, &told) }
 }
 
 fn opened(opening: &OpeningBoth, count: bool) -> Told {

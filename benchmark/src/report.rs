@@ -118,7 +118,7 @@ fn by_octets(figures: &[Figure]) -> String {
 }
 
 fn by_records(figures: &[Figure]) -> String {
-    let mut text = "Growth of a request (the 112-octet chain, the last of 32 IKE records, 128 IPsec records in use) with those that it moves:\n\n".to_string();
+    let mut text = "Growth of an accepted check (the last of 32 IKE records, 128 IPsec records in use) with those that it moves:\n\n".to_string();
     text += "| IPsec records moved | Ours | Lean | Ours / lean | Second program |\n";
     text += "|---:|---:|---:|---:|---:|\n";
     for of in figures {

@@ -1,6 +1,6 @@
 // The rows: which call each counts, on what, and what it must tell.
 use crate::chains::{self, NOTIFY, SKIPPED};
-use crate::job::{draft, Asking, Handling, Job, OpeningBoth, ELSEWHERE};
+use crate::job::{draft, Asking, Checking, Handling, Job, OpeningBoth, ELSEWHERE};
 use unmavreth::Flag;
 
 /// In which table a row stands.
@@ -9,7 +9,7 @@ pub enum Kind {
     Call,
     /// A reading of so many octets.
     ByOctets(u64),
-    /// A request that moves so many IPsec records.
+    /// An accepted check that moves so many IPsec records.
     ByRecords(u64),
     /// A check of the policy, beside one bit by bit.
     Policy,
@@ -63,11 +63,13 @@ fn handling(first: u8, body: Vec<u8>) -> Job {
 }
 
 fn owning(records: u64) -> Job {
-    Job::Handle(Box::new(Handling::owning(records as usize)))
+    Job::Check(Box::new(Checking::owning(records as usize)))
 }
 
 const APPLIED: [(&str, u64); 5] =
     [("number", 0), ("update", 1), ("list", 1), ("payloads", 6), ("length", 80)];
+
+const ACCEPTED: [(&str, u64); 4] = [("number", 0), ("outcome", 5), ("payloads", 1), ("tally", 0)];
 
 fn the_update() -> Vec<Row> {
     let read = || reading(NOTIFY, chains::update());
@@ -97,11 +99,14 @@ fn full_tables() -> Vec<Row> {
     let handled = || handling(NOTIFY, chains::full_list());
     let listed = [("number", 0), ("payloads", 16), ("addresses", 16)];
     let replaced = [("number", 0), ("list", 1), ("left_off", 0), ("length", 0)];
-    let moved = "the 112-octet chain, to the last of 32 IKE records, 128 IPsec records move";
+    let last = || Job::Handle(Box::new(Handling::owning(128)));
+    let applied = "the 112-octet chain, to the last of 32 IKE records";
+    let moved = "the response to its check, accepted: 128 IPsec records move";
     vec![
         row("list-read", "16 ADDITIONAL_IP6_ADDRESS, read", read, &listed),
         row("list-request", "the same, a whole request", handled, &replaced),
-        row("moved", moved, || owning(128), &APPLIED),
+        row("last-request", applied, last, &APPLIED),
+        row("moved", moved, || owning(128), &ACCEPTED),
     ]
 }
 
@@ -137,7 +142,13 @@ fn refusals() -> Vec<Row> {
             handling(NOTIFY, chains::altered())
         }),
         refused(9, "refused 9: the pair not acceptable", || changed(|of| of.pair = ELSEWHERE)),
+        row("refused-14", "refused 14: a response to another check", late, &[("number", 14)]),
     ]
+}
+
+/// The response to a check that another one has taken the place of.
+fn late() -> Job {
+    Job::Check(Box::new(Checking { id: 0, ..Checking::owning(128) }))
 }
 
 fn openings() -> Vec<Row> {
@@ -173,7 +184,7 @@ fn by_octets(octets: u64) -> Row {
 }
 
 fn by_records(records: u64) -> Row {
-    let row = row(&format!("records-{records}"), "", move || owning(records), &APPLIED);
+    let row = row(&format!("records-{records}"), "", move || owning(records), &ACCEPTED);
     Row { kind: Kind::ByRecords(records), ..row }
 }
 

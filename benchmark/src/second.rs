@@ -2,7 +2,7 @@
 use crate::chains::{COOKIE, NAT_DESTINATION};
 use crate::convert;
 use crate::counted::*;
-use crate::job::{Handling, Job, OpeningBoth};
+use crate::job::{Checking, Handling, Job, OpeningBoth};
 use crate::ours::BEFORE;
 use crate::told::Told;
 use reference::asking::{Arguments, Ask};
@@ -20,6 +20,7 @@ pub fn told(job: &Job) -> Told {
     match job {
         Job::Read { first, body } => reading(body, &reference::reader::read(*first, body, &Plain)),
         Job::Handle(handling) => handled(handling, false),
+        Job::Check(checking) => checked(checking, false),
         Job::Open(opening) => opened(opening, false),
         Job::Write(draft) => written(reference::writer::write(&arguments(draft), &Plain)),
         Job::Assess { first, body } => {
@@ -41,6 +42,7 @@ pub fn counted(job: &Job) -> Told {
             reading(body, &black_box(counted_second_read(first, body)))
         }
         Job::Handle(handling) => handled(handling, true),
+        Job::Check(checking) => checked(checking, true),
         Job::Open(opening) => opened(opening, true),
         Job::Write(draft) => {
             let arguments = arguments(draft);
@@ -89,6 +91,8 @@ fn request(handling: &Handling) -> Request {
         pair: convert::pair(&given.pair),
         nat_source: given.nat_source.to_vec(),
         nat_destination: NAT_DESTINATION.to_vec(),
+        cookie: given.cookie.to_vec(),
+        check_id: given.check_id,
         first: given.first,
         body: given.body.to_vec(),
         output: vec![BEFORE; handling.room],
@@ -118,6 +122,18 @@ fn handled(handling: &Handling, count: bool) -> Told {
     ];
     let octets = vec![reply.handed_out.octets.to_vec(), handled.output];
     Told { fields, octets, tables: Some(tables) }
+}
+
+fn checked(checking: &Checking, count: bool) -> Told {
+    let given = &checking.gateway;
+    let mut tables = convert::tables(&given.ike, &given.ipsec, &given.policy);
+    let response = convert::check_response(&checking.response());
+    let (given, lent) = (black_box(&response), black_box(&mut tables));
+    let told = assessed(black_box(match count {
+        true => counted_second_check(given, lent),
+        false => reference::check::decide(given, lent, &reference::rules::Plain),
+    }));
+    Told { tables: Some(tables), ..told }
 }
 
 fn opened(opening: &OpeningBoth, count: bool) -> Told {

@@ -9,9 +9,20 @@
 
 exchange exchange_new(const day *d, uint32_t id, unmavreth_pair packet, uint16_t payloads)
 {
-    exchange x = {.id = id, .packet = packet, .payloads = payloads, .after = d->gateway.tables};
+    exchange x = {.spi = OUR_SPI, .id = id, .packet = packet, .payloads = payloads, .after = d->gateway.tables};
+    // A host draws a cookie that nobody can guess; here its last octet is the request's ID, so that no two are equal.
+    x.check = (own_check){.id = d->own_id, .cookie = {0x9a, 0x7e, 0xaa, 0x40, [COOKIE_OCTETS - 1] = (uint8_t)id}};
     x.outcome = UNMAVRETH_OUTCOME_ACCEPTED;
     return x;
+}
+
+void expect_applied(exchange *x, size_t ike_place)
+{
+    unmavreth_ike *record = &x->after.ike.records[ike_place];
+    x->update = UNMAVRETH_UPDATE_APPLIED;
+    record->update_mark = mark_of(x->id);
+    record->pair = x->packet;
+    record->check = pending_expected(x->check.cookie, sizeof x->check.cookie, x->check.id);
 }
 
 static void print_request(const exchange *x)
@@ -72,18 +83,18 @@ static void print_reply(const unmavreth_reply *r, const message *request)
     print_part("cookie handed out", cookie);
 }
 
-static void print_response(const message *m)
+void print_described(const char *what, const message *m)
 {
     if (m->length == 0)
-        out("  Response: first payload's type %u, empty\n", m->first);
+        out("  %s: first payload's type %u, empty\n", what, m->first);
     else
-        out("  Response: first payload's type %u, %zu octets\n", m->first, m->length);
+        out("  %s: first payload's type %u, %zu octets\n", what, m->first, m->length);
     print_message(m);
 }
 
-static void print_assessment(const unmavreth_assessment *a)
+void print_assessment(const char *whose, const unmavreth_assessment *a)
 {
-    out("  Initiator's end answers %u: %s\n", a->number, unmavreth_number_words(a->number));
+    out("  %s answers %u: %s\n", whose, a->number, unmavreth_number_words(a->number));
     out("    outcome %u: %s; payloads %u, unknown %u\n", a->outcome, unmavreth_outcome_words(a->outcome), a->payloads,
         (unsigned)a->tally);
 }
@@ -138,11 +149,12 @@ void play(day *d, const exchange *x)
     bool kept;
     print_request(x);
     print_read(&x->sent.request);
-    unmavreth_reply reply = gateway_answer(&d->gateway, OUR_SPI, x->id, x->packet, &x->sent.request, &response, &kept);
+    unmavreth_reply reply = gateway_answer(&d->gateway, x->spi, x->id, x->packet, &x->sent.request, &x->check,
+                                           &response, &kept);
     unmavreth_assessment assessment = initiator_assess(&x->sent, &response);
     print_reply(&reply, &x->sent.request);
-    print_response(&response);
-    print_assessment(&assessment);
+    print_described("Response", &response);
+    print_assessment("Initiator's end", &assessment);
     hand_out(&d->checks, x, &response, &assessment);
     check_answers(&d->checks, x, &reply, &assessment);
     check_holds(&d->checks, "the octets past the response changed", kept);

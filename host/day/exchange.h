@@ -19,6 +19,8 @@ typedef struct day {
     gateway gateway;
     checks checks;
     sent held_up;          // a request that is on its way for longer than the next one
+    uint32_t own_id;       // the message ID of the gateway's next request to our initiator
+    own_check under_way;   // the gateway's last check
     char outcome[OUTCOME]; // what the scene came to, for the table at the day's end
 } day;
 
@@ -28,17 +30,28 @@ typedef struct day {
 // A request with its packet and message ID, and what the scene expects: the answer, what the initiator's end is told,
 // and each field of each place after it.
 typedef struct exchange {
+    uint64_t spi;
     uint32_t id;
     unmavreth_pair packet;
     sent sent;
+    own_check check; // lent with the request: what a check would have
     uint8_t number, update, list, outcome;
     uint16_t offset, ordinal, payloads;
     tables after;
 } exchange;
 
-// An exchange that expects: done, no update, no list, so many payloads, accepted, the tables as they stand.
+// An exchange of our initiator's that expects: done, no update, no list, so many payloads, accepted, the tables as they
+// stand.
 exchange exchange_new(const day *d, uint32_t id, unmavreth_pair packet, uint16_t payloads);
 
+// Expects the update to be applied to the IKE record at this place, which keeps the check that was lent. No IPsec
+// record moves.
+void expect_applied(exchange *x, size_t ike_place);
+
 void play(day *d, const exchange *x);
+
+// What an assessment says, of an end by its name; and a message, of which this is said.
+void print_assessment(const char *whose, const unmavreth_assessment *a);
+void print_described(const char *what, const message *m);
 
 #endif

@@ -59,16 +59,29 @@ static bool is_filled(const uint8_t *octets, size_t length)
 }
 
 unmavreth_reply gateway_answer(gateway *g, uint64_t spi, uint32_t id, unmavreth_pair packet, const message *request,
-                               message *response, bool *kept)
+                               const own_check *check, message *response, bool *kept)
 {
-    trace_request(&g->trace, spi, id, &packet, g->nat_source, g->nat_destination, request);
+    trace_request(&g->trace, spi, id, &packet, g->nat_source, g->nat_destination, request, check->cookie,
+                  sizeof check->cookie, check->id);
     memset(response->octets, FILL, sizeof response->octets);
     unmavreth_reply reply = unmavreth_handle(
         &g->tables.ike, g->tables.ipsec, UNMAVRETH_IPSEC_PLACES, &g->policy, spi, id, packet, g->nat_source,
-        sizeof g->nat_source, g->nat_destination, sizeof g->nat_destination, request->first, request->octets,
-        request->length, response->octets, UNMAVRETH_RESPONSE_ROOM);
+        sizeof g->nat_source, g->nat_destination, sizeof g->nat_destination, check->cookie, sizeof check->cookie,
+        check->id, request->first, request->octets, request->length, response->octets, UNMAVRETH_RESPONSE_ROOM);
     response->first = reply.first;
     response->length = reply.length;
     *kept = is_filled(response->octets + reply.length, sizeof response->octets - reply.length);
     return reply;
+}
+
+message gateway_write_check(const own_check *check)
+{
+    return message_with_cookie(check->cookie, sizeof check->cookie);
+}
+
+unmavreth_assessment gateway_end_check(gateway *g, uint64_t spi, uint32_t id, const message *response)
+{
+    trace_check_response(&g->trace, spi, id, response);
+    return unmavreth_check(&g->tables.ike, g->tables.ipsec, UNMAVRETH_IPSEC_PLACES, spi, id, response->first,
+                           response->octets, response->length);
 }

@@ -6,6 +6,12 @@
 #include "tables.h"
 #include "trace.h"
 
+// A return routability check of the gateway's: the message ID of its request, and the cookie in it.
+typedef struct own_check {
+    uint32_t id;
+    uint8_t cookie[COOKIE_OCTETS];
+} own_check;
+
 typedef struct gateway {
     tables tables;
     unmavreth_policy policy;
@@ -24,8 +30,15 @@ uint8_t gateway_close_ipsec(gateway *g, uint32_t spi);
 uint8_t gateway_set_policy(gateway *g, uint16_t count, const unmavreth_rules *rules);
 bool gateway_accepts(const gateway *g, unmavreth_pair pair);
 
-// Handles a request. `kept` says whether the octets past the response stayed as they were.
+// Handles a request, with what a check of ours would have. `kept` says whether the octets past the response stayed as
+// they were.
 unmavreth_reply gateway_answer(gateway *g, uint64_t spi, uint32_t id, unmavreth_pair packet, const message *request,
-                               message *response, bool *kept);
+                               const own_check *check, message *response, bool *kept);
+
+// The request that checks return routability: its cookie, and nothing else.
+message gateway_write_check(const own_check *check);
+
+// Decides the response to a check.
+unmavreth_assessment gateway_end_check(gateway *g, uint64_t spi, uint32_t id, const message *response);
 
 #endif

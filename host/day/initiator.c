@@ -27,6 +27,14 @@ sent initiator_write(unmavreth_ask ask, unmavreth_pair pair, const unmavreth_add
     return s;
 }
 
+message initiator_answer(const message *check)
+{
+    unmavreth_reading reading = unmavreth_read(check->first, check->octets, check->length);
+    unmavreth_part cookie = {check->octets, 0};
+    unmavreth_cookie(&cookie, check->octets, check->length, reading.seen.cookie, reading.seen.cookie_len);
+    return message_with_cookie(cookie.start, cookie.octets);
+}
+
 unmavreth_assessment initiator_assess(const sent *s, const message *response)
 {
     return unmavreth_assess(s->cookie, s->cookie_octets, response->first, response->octets, response->length);

@@ -4,8 +4,6 @@
 
 #include "message.h"
 
-enum { COOKIE_OCTETS = 8 };
-
 // What the initiator sends: the message, and the cookie in it (0 octets: none), which it keeps to assess the response.
 typedef struct sent {
     message request;
@@ -18,5 +16,8 @@ sent initiator_write(unmavreth_ask ask, unmavreth_pair pair, const unmavreth_add
                    uint32_t id);
 
 unmavreth_assessment initiator_assess(const sent *s, const message *response);
+
+// The response to a check of the gateway's: its COOKIE2, copied.
+message initiator_answer(const message *check);
 
 #endif

@@ -41,7 +41,8 @@ static void print_opening(void)
                 "since the request writer never writes such. Our initiator's IKE SPI is 0a11ce0000000001, the "
                 "neighbour's is 0b0b000000000002. A pair is as in a packet from the peer: source > destination. In the "
                 "tables, update and list are marks, the message IDs of the newest update received and of the list "
-                "kept, and unknown is the tally. In front of each payload stands its offset. NAT detection values are "
+                "kept, unknown is the tally, and check is the message ID of the gateway's request that checks return "
+                "routability, while it is under way. In front of each payload stands its offset. NAT detection values are "
                 "the host's to compute; here they are fixed and made up: 10 11 12 .. and 30 31 32 .. of the gateway, "
                 "50 51 52 .. and 70 71 72 .. of the initiator.");
     out("\n");

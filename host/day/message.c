@@ -2,6 +2,7 @@
 #include "message.h"
 
 #include <stdio.h>
+#include <stdlib.h>
 #include <string.h>
 
 #include "out.h"
@@ -13,6 +14,23 @@ message message_of(uint8_t first, const uint8_t *octets, size_t length)
 {
     message m = {.first = first, .length = length};
     memcpy(m.octets, octets, length);
+    return m;
+}
+
+message message_with_cookie(const uint8_t *cookie, size_t length)
+{
+    static const unmavreth_ask nothing_else;
+    static const unmavreth_pair no_pair;
+    static const unmavreth_addresses_list no_addresses;
+    message m = {0};
+    unmavreth_written written = unmavreth_write(nothing_else, no_pair, no_addresses, cookie, 0, cookie, 0, cookie,
+                                                length, m.octets, sizeof m.octets);
+    if (written.number != UNMAVRETH_DONE) {
+        fprintf(stderr, "day: the request writer answers %u\n", written.number);
+        exit(1);
+    }
+    m.first = written.first;
+    m.length = written.length;
     return m;
 }
 

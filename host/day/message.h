@@ -4,6 +4,8 @@
 
 #include "unmavreth.h"
 
+enum { COOKIE_OCTETS = 8 }; // of each cookie of the day
+
 typedef struct message {
     uint8_t first;
     size_t length;
@@ -12,6 +14,9 @@ typedef struct message {
 
 // A message laid out by hand, for what the request writer never writes.
 message message_of(uint8_t first, const uint8_t *octets, size_t length);
+
+// A message with this COOKIE2 and nothing else, by the request writer: a check, or the response to one.
+message message_with_cookie(const uint8_t *cookie, size_t length);
 
 void print_octets(const uint8_t *octets, size_t length);
 

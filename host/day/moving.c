@@ -1,4 +1,5 @@
-// Our initiator on the move: its additional addresses, an update, a late update, and NATs on the way.
+// Our initiator on the move: its additional addresses, an update, a late update, and NATs on the way. The checks of
+// where it is are in checking.c.
 #include "address.h"
 #include "scenes.h"
 
@@ -27,10 +28,9 @@ void play_move(day *d)
     unmavreth_pair packet = pair_of(BUS, IKE_PORT, GATEWAY, IKE_PORT);
     exchange x = exchange_new(d, 4, packet, 4);
     x.sent = initiator_write(UPDATE_WITH_NATS, packet, &NO_ADDRESSES, true, x.id);
-    x.update = UNMAVRETH_UPDATE_APPLIED;
-    x.after.ike.records[OUR_PLACE].update_mark = mark_of(x.id);
-    move_expected(&x.after, OUR_SPI, packet);
+    expect_applied(&x, OUR_PLACE);
     play(d, &x);
+    d->under_way = x.check;
 }
 
 void play_late(day *d)

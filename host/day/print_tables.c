@@ -59,6 +59,21 @@ static void add_mark(char *text, const char *name, uint64_t mark, bool changed)
         add(text, "%s %" PRIu64 "%s", name, mark - 1, star(changed));
 }
 
+static bool same_check(const unmavreth_ike *a, const unmavreth_ike *b)
+{
+    return a->check.length == b->check.length && a->check.id == b->check.id &&
+           memcmp(a->check.octets, b->check.octets, sizeof a->check.octets) == 0;
+}
+
+// The check that is under way, by its message ID.
+static void add_check(char *text, const unmavreth_ike *r, bool changed)
+{
+    if (r->check.length == 0)
+        add(text, "check none%s", star(changed));
+    else
+        add(text, "check %" PRIu32 "%s", r->check.id, star(changed));
+}
+
 // The addresses of a record, with a star behind each that `was` has not at its place.
 static void add_addresses(char *text, const unmavreth_ike *r, const unmavreth_ike *was)
 {
@@ -101,6 +116,8 @@ static void print_ike_before(const unmavreth_ike *r, const unmavreth_ike *was)
         add_mark(text, "list", was->list_mark, false);
     if (r->unknown != was->unknown)
         add(text, "unknown %" PRIu32, was->unknown);
+    if (!same_check(r, was))
+        add_check(text, was, false);
     if (!same_addresses(r, was)) {
         add_addresses(addresses, was, was);
         add(text, "additional addresses %s", addresses);
@@ -121,6 +138,7 @@ static void print_ike(size_t place, const unmavreth_ike *r, const unmavreth_ike 
     add_mark(marks, "update", r->update_mark, r->update_mark != was->update_mark);
     add_mark(marks, "list", r->list_mark, r->list_mark != was->list_mark);
     add(marks, "unknown %" PRIu32 "%s", r->unknown, star(r->unknown != was->unknown));
+    add_check(marks, r, !same_check(r, was));
     print_details(PLAIN, "", marks);
     if (r->count != 0 || was->count != 0)
         add_addresses(addresses, r, was);

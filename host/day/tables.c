@@ -1,6 +1,8 @@
 // Compares tables. The library promises each field of each place and nothing of padding, so fields are compared.
 #include "tables.h"
 
+#include <string.h>
+
 #include "address.h"
 
 uint64_t mark_of(uint32_t id)
@@ -15,14 +17,25 @@ void open_expected(tables *t, size_t ike_place, size_t ipsec_place, const unmavr
     t->ipsec[ipsec_place] = (unmavreth_ipsec){.spi = opening->child, .owner = opening->spi, .pair = opening->pair};
 }
 
-void move_expected(tables *t, uint64_t spi, unmavreth_pair pair)
+unmavreth_pending_check pending_expected(const uint8_t *cookie, uint8_t octets, uint32_t id)
 {
-    for (size_t i = 0; i < UNMAVRETH_IKE_PLACES; i++)
-        if (t->ike.records[i].spi == spi)
-            t->ike.records[i].pair = pair;
+    unmavreth_pending_check check = {.length = octets, .id = id};
+    memcpy(check.octets, cookie, octets);
+    return check;
+}
+
+void accept_expected(tables *t, size_t ike_place)
+{
+    unmavreth_ike *ike = &t->ike.records[ike_place];
     for (size_t i = 0; i < UNMAVRETH_IPSEC_PLACES; i++)
-        if (t->ipsec[i].spi != 0 && t->ipsec[i].owner == spi)
-            t->ipsec[i].pair = pair;
+        if (t->ipsec[i].spi != 0 && t->ipsec[i].owner == ike->spi)
+            t->ipsec[i].pair = ike->pair;
+    ike->check = (unmavreth_pending_check){0};
+}
+
+static bool same_check(const unmavreth_pending_check *a, const unmavreth_pending_check *b)
+{
+    return a->length == b->length && memcmp(a->octets, b->octets, sizeof a->octets) == 0 && a->id == b->id;
 }
 
 static bool same_agreed(const unmavreth_agreed *a, const unmavreth_agreed *b)
@@ -37,7 +50,7 @@ static bool same_ike(const unmavreth_ike *a, const unmavreth_ike *b)
             return false;
     return a->spi == b->spi && same_agreed(&a->agreed, &b->agreed) && same_pair(&a->pair, &b->pair) &&
            a->update_mark == b->update_mark && a->list_mark == b->list_mark && a->count == b->count &&
-           a->unknown == b->unknown;
+           a->unknown == b->unknown && same_check(&a->check, &b->check);
 }
 
 static bool same_ipsec(const unmavreth_ipsec *a, const unmavreth_ipsec *b)

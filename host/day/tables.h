@@ -15,8 +15,12 @@ uint64_t mark_of(uint32_t id);
 // The two records that an opening makes, set by the host at these places to say what it expects.
 void open_expected(tables *t, size_t ike_place, size_t ipsec_place, const unmavreth_opening *opening);
 
-// The pair of an IKE record and of each IPsec record that it owns, set by the host to say what it expects.
-void move_expected(tables *t, uint64_t spi, unmavreth_pair pair);
+// The check that an applied update leaves with a record, set by the host to say what it expects; of no octets: none.
+unmavreth_pending_check pending_expected(const uint8_t *cookie, uint8_t octets, uint32_t id);
+
+// What an accepted check leaves, set by the host to say what it expects: each IPsec record that the IKE record at this
+// place owns has its pair, and no check is under way.
+void accept_expected(tables *t, size_t ike_place);
 
 bool same_tables(const tables *a, const tables *b);
 

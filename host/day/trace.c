@@ -96,7 +96,7 @@ void trace_policy(trace *t, uint16_t count, const unmavreth_rules *rules)
 
 void trace_request(trace *t, uint64_t spi, uint32_t id, const unmavreth_pair *packet,
                    const uint8_t nat_source[UNMAVRETH_NAT_OCTETS], const uint8_t nat_destination[UNMAVRETH_NAT_OCTETS],
-                   const message *request)
+                   const message *request, const uint8_t *cookie, size_t cookie_octets, uint32_t check_id)
 {
     told what = {0};
     what.slots[UNMAVRETH_REQUEST_SPI] = spi;
@@ -109,7 +109,21 @@ void trace_request(trace *t, uint64_t spi, uint32_t id, const unmavreth_pair *pa
     what.slots[UNMAVRETH_REQUEST_FIRST] = request->first;
     what.slots[UNMAVRETH_REQUEST_BODY] = offset_of(&what, request->octets, request->length);
     what.slots[UNMAVRETH_REQUEST_BODY_SIZE] = request->length;
+    what.slots[UNMAVRETH_REQUEST_COOKIE] = offset_of(&what, cookie, cookie_octets);
+    what.slots[UNMAVRETH_REQUEST_COOKIE_SIZE] = cookie_octets;
+    what.slots[UNMAVRETH_REQUEST_CHECK_ID] = check_id;
     append(t, UNMAVRETH_KIND_REQUEST, &what);
+}
+
+void trace_check_response(trace *t, uint64_t spi, uint32_t id, const message *response)
+{
+    told what = {0};
+    what.slots[UNMAVRETH_CHECK_RESPONSE_SPI] = spi;
+    what.slots[UNMAVRETH_CHECK_RESPONSE_ID] = id;
+    what.slots[UNMAVRETH_CHECK_RESPONSE_FIRST] = response->first;
+    what.slots[UNMAVRETH_CHECK_RESPONSE_BODY] = offset_of(&what, response->octets, response->length);
+    what.slots[UNMAVRETH_CHECK_RESPONSE_BODY_SIZE] = response->length;
+    append(t, UNMAVRETH_KIND_CHECK_RESPONSE, &what);
 }
 
 unsigned trace_read_back(const trace *t)

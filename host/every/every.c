@@ -60,8 +60,15 @@ static void handle(void)
 {
     number = unmavreth_handle(&gateway.ike, gateway.ipsec, UNMAVRETH_IPSEC_PLACES, &gateway.policy, request.spi,
                               request.id, request.pair, request.nat_source.octets, UNMAVRETH_NAT_OCTETS,
-                              request.nat_destination.octets, UNMAVRETH_NAT_OCTETS, first, body.start, body.octets,
-                              response.octets, UNMAVRETH_RESPONSE_ROOM)
+                              request.nat_destination.octets, UNMAVRETH_NAT_OCTETS, cookie, sizeof cookie, 0, first,
+                              body.start, body.octets, response.octets, UNMAVRETH_RESPONSE_ROOM)
+                 .number;
+}
+
+static void end_check(void)
+{
+    number = unmavreth_check(&gateway.ike, gateway.ipsec, UNMAVRETH_IPSEC_PLACES, request.spi, 0, first, body.start,
+                             body.octets)
                  .number;
 }
 
@@ -121,7 +128,8 @@ static void read_entry(void)
     number = unmavreth_read_entry(entry, entry_octets, 0).number;
 }
 
-// One record with as many IPsec records as there are, and a policy whose last rule is the one that matches.
+// One record with as many IPsec records as there are and a check by our request 0, its cookie zeros, and a policy whose
+// last rule is the one that matches.
 static void begin(void)
 {
     memset(&gateway, 0, sizeof gateway);
@@ -137,6 +145,7 @@ static void begin(void)
     for (uint32_t spi = 71; spi < 70 + UNMAVRETH_IPSEC_PLACES; spi++)
         if (unmavreth_gateway_open_ipsec(&gateway, spi, 7))
             exit(2);
+    gateway.ike.records[0].check.length = sizeof cookie;
 }
 
 // A chain that fills the body, of payloads of this type and size; a Notify of an unknown type if it has room for that.
@@ -221,7 +230,9 @@ static void entry_of(uint8_t its_kind)
     kind = its_kind;
     memset(slots, 0, sizeof slots);
     if (kind == UNMAVRETH_KIND_REQUEST)
-        slots[UNMAVRETH_REQUEST_BODY_SIZE] = UNMAVRETH_STRING_MOST;
+        slots[UNMAVRETH_REQUEST_BODY_SIZE] = slots[UNMAVRETH_REQUEST_COOKIE_SIZE] = UNMAVRETH_STRING_MOST;
+    if (kind == UNMAVRETH_KIND_CHECK_RESPONSE)
+        slots[UNMAVRETH_CHECK_RESPONSE_BODY_SIZE] = UNMAVRETH_STRING_MOST;
     if (kind == UNMAVRETH_KIND_POLICY)
         slots[UNMAVRETH_POLICY_COUNT] = UNMAVRETH_RULES_MOST;
     write_entry();
@@ -230,6 +241,7 @@ static void entry_of(uint8_t its_kind)
 static void entry_of_opening(void) { entry_of(UNMAVRETH_KIND_OPEN_BOTH); }
 static void entry_of_request(void) { entry_of(UNMAVRETH_KIND_REQUEST); }
 static void entry_of_policy(void) { entry_of(UNMAVRETH_KIND_POLICY); }
+static void entry_of_response(void) { entry_of(UNMAVRETH_KIND_CHECK_RESPONSE); }
 
 const every_call every[] = {
     {"unmavreth_interface", begin, interface, 0},
@@ -247,6 +259,11 @@ const every_call every[] = {
     {"unmavreth_handle", of_notifies, handle, 0},
     {"unmavreth_handle", cut, handle, UNMAVRETH_BAD_CHAIN_LENGTH},
     {"unmavreth_handle", asked_in_full, handle, 0},
+    {"unmavreth_check", of_skipped, end_check, 0},
+    {"unmavreth_check", of_unknown, end_check, 0},
+    {"unmavreth_check", of_notifies, end_check, 0},
+    {"unmavreth_check", cut, end_check, UNMAVRETH_BAD_CHAIN_LENGTH},
+    {"unmavreth_check", asked_in_full, end_check, 0},
     {"unmavreth_write", asked_in_full, write_request, 0},
     {"unmavreth_assess", of_skipped, assess, 0},
     {"unmavreth_assess", of_unknown, assess, 0},
@@ -262,8 +279,10 @@ const every_call every[] = {
     {"unmavreth_read_entry", entry_of_opening, read_entry, 0},
     {"unmavreth_read_entry", entry_of_request, read_entry, 0},
     {"unmavreth_read_entry", entry_of_policy, read_entry, 0},
+    {"unmavreth_read_entry", entry_of_response, read_entry, 0},
     {"unmavreth_write_entry", entry_of_opening, write_entry, 0},
     {"unmavreth_write_entry", entry_of_request, write_entry, 0},
     {"unmavreth_write_entry", entry_of_policy, write_entry, 0},
+    {"unmavreth_write_entry", entry_of_response, write_entry, 0},
 };
 const size_t every_count = sizeof every / sizeof every[0];

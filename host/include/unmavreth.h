@@ -19,10 +19,10 @@
 // for every number. What a host does around the calls, with IKE_AUTH, with a rekeyed SA, and after a refusal, stands in
 // docs/HOST.md, which is also in the manual page unmavreth(3).
 //
-// Stack: reading a chain (unmavreth_read, unmavreth_handle, unmavreth_assess) calls itself once for each payload, at
-// most 1,024 deep. How much stack a call takes is not proved but measured (host/stack; docs/HOST.md has each): these
-// three under 35,000 octets, the request writer under 8,000, an entry of a trace read under 23,000. Call from a thread
-// with at least 64 KiB of stack.
+// Stack: reading a chain (unmavreth_read, unmavreth_handle, unmavreth_check, unmavreth_assess) calls itself once for
+// each payload, at most 1,024 deep. How much stack a call takes is not proved but measured (host/stack; docs/HOST.md
+// has each): these four under 35,000 octets, the request writer under 8,000, an entry of a trace read under 23,000.
+// Call from a thread with at least 64 KiB of stack.
 #ifndef UNMAVRETH_H
 #define UNMAVRETH_H
 
@@ -51,7 +51,7 @@ extern "C" {
 // The number of the interface: the layout of the structs below and the calls. It is raised with every change of them.
 // Whatever includes this header refers to the library's symbol that ends in this number, so that a header and an
 // archive of different numbers do not link.
-#define UNMAVRETH_INTERFACE 1
+#define UNMAVRETH_INTERFACE 2
 
 #define UNMAVRETH_JOINED(name, number) name##number
 #define UNMAVRETH_NAMED(name, number) UNMAVRETH_JOINED(name, number)
@@ -99,10 +99,11 @@ enum unmavreth_number {
     UNMAVRETH_NOT_ACCEPTABLE = 9,    // no rule of the policy matches the packet's pair
     UNMAVRETH_FULL = 10,
     UNMAVRETH_SPI_IN_USE = 11,
-    UNMAVRETH_BAD_POLICY = 12,   // over 16 rules, or a prefix too long
-    UNMAVRETH_CUT = 20,          // a trace ends within an entry, or has a number not shortest or past 64 bits
-    UNMAVRETH_UNKNOWN_KIND = 21, // of an entry of a trace
-    UNMAVRETH_TOO_LARGE = 22     // a number, a count or a length of a trace, for its field
+    UNMAVRETH_BAD_POLICY = 12,        // over 16 rules, or a prefix too long
+    UNMAVRETH_CHECK_NOT_PENDING = 14, // no return routability check is under way by a request of ours with this ID
+    UNMAVRETH_CUT = 20,               // a trace ends within an entry, or has a number not shortest or past 64 bits
+    UNMAVRETH_UNKNOWN_KIND = 21,      // of an entry of a trace
+    UNMAVRETH_TOO_LARGE = 22          // a number, a count or a length of a trace, for its field
 };
 
 // What became of a request's update, and of its list of additional addresses.
@@ -133,7 +134,7 @@ enum unmavreth_limit {
     UNMAVRETH_PAYLOAD_HEADER = 4,  // what stands before a payload's content
     UNMAVRETH_NOTIFY_HEADER = 8,   // what stands before a Notify's data, with no SPI
     UNMAVRETH_NAT_OCTETS = 20,     // a NAT detection value
-    UNMAVRETH_COOKIE_LEAST = 8,    // a COOKIE2, if there is one
+    UNMAVRETH_COOKIE_LEAST = 8,    // a COOKIE2, if there is one, and the cookie of a check
     UNMAVRETH_COOKIE_MOST = 64,
     UNMAVRETH_NO_NATS_LEAST = 12,  // a NO_NATS_ALLOWED of IPv4: two addresses and two ports
     UNMAVRETH_NO_NATS_MOST = 36,   // of IPv6
@@ -278,6 +279,19 @@ typedef struct unmavreth_agreed {
 UNMAVRETH_SIZE(unmavreth_agreed, 1);
 UNMAVRETH_AT(unmavreth_agreed, mobike, 0);
 
+// The return routability check (RFC 4555, 3.7) that is under way for an IKE record: the cookie of our request, zeros
+// behind it, and our request's message ID. All zeros is none; a length outside 8 to 64, which no call stores, reads as
+// none too.
+typedef struct unmavreth_pending_check {
+    uint8_t length;
+    uint8_t octets[UNMAVRETH_COOKIE_MOST];
+    uint32_t id;
+} unmavreth_pending_check;
+UNMAVRETH_SIZE(unmavreth_pending_check, 72);
+UNMAVRETH_AT(unmavreth_pending_check, length, 0);
+UNMAVRETH_AT(unmavreth_pending_check, octets, 1);
+UNMAVRETH_AT(unmavreth_pending_check, id, 68);
+
 // An IKE record. The place is free if its SPI is 0; all zeros is a free place. A mark that is a message ID is kept as
 // the ID plus one, and no mark as 0: an ID exceeds the mark exactly if mark <= ID.
 typedef struct unmavreth_ike {
@@ -289,8 +303,9 @@ typedef struct unmavreth_ike {
     uint16_t count;          // how many additional addresses are kept
     unmavreth_address addresses[UNMAVRETH_ADDRESSES_MOST];
     uint32_t unknown; // unknown payloads and unknown notifications, counted; stays at UNMAVRETH_TALLY_MOST once there
+    unmavreth_pending_check check; // of the update that was last applied, until a response ends it
 } unmavreth_ike;
-UNMAVRETH_SIZE(unmavreth_ike, 344);
+UNMAVRETH_SIZE(unmavreth_ike, 416);
 UNMAVRETH_AT(unmavreth_ike, spi, 0);
 UNMAVRETH_AT(unmavreth_ike, agreed, 8);
 UNMAVRETH_AT(unmavreth_ike, pair, 10);
@@ -299,12 +314,13 @@ UNMAVRETH_AT(unmavreth_ike, list_mark, 56);
 UNMAVRETH_AT(unmavreth_ike, count, 64);
 UNMAVRETH_AT(unmavreth_ike, addresses, 66);
 UNMAVRETH_AT(unmavreth_ike, unknown, 340);
+UNMAVRETH_AT(unmavreth_ike, check, 344);
 
 // The table of IKE records: always 32, as a struct so that the compiler checks it.
 typedef struct unmavreth_ike_table {
     unmavreth_ike records[UNMAVRETH_IKE_PLACES];
 } unmavreth_ike_table;
-UNMAVRETH_SIZE(unmavreth_ike_table, 11008);
+UNMAVRETH_SIZE(unmavreth_ike_table, 13312);
 UNMAVRETH_AT(unmavreth_ike_table, records, 0);
 
 // An IPsec record. The place is free if its SPI is 0; all zeros is a free place.
@@ -337,8 +353,8 @@ UNMAVRETH_AT(unmavreth_opening, child, 48);
 // field of every place as it was.
 
 // Opens an IKE record and its first IPsec record: both, each at the lowest free place of its table, or neither. The
-// IKE record has no marks, no additional addresses, tally 0; the IPsec record has the owner `spi`. Numbers, in the
-// order of the checks:
+// IKE record has no marks, no additional addresses, tally 0 and no check under way; the IPsec record has the owner
+// `spi`. Numbers, in the order of the checks:
 //    1  `records` is not 128, one of the SPIs is 0, the pair's family is not 4 or 6, or an IPv4 address of the pair has
 //       a tail that is not zero
 //   11  an IKE record has the SPI `spi`; then, an IPsec record has the SPI `child`
@@ -348,8 +364,8 @@ UNMAVRETH_AT(unmavreth_opening, child, 48);
 UNMAVRETH_MUST_USE
 uint8_t unmavreth_open(unmavreth_ike_table *ike, unmavreth_ipsec *ipsec, size_t records, unmavreth_opening opening);
 
-// Opens a further IPsec record at the lowest free place, with the pair of the IKE record `owner`. Numbers, in the
-// order of the checks:
+// Opens a further IPsec record at the lowest free place, with the pair that the IKE record `owner` has, whether a check
+// is under way or not. Numbers, in the order of the checks:
 //    1  `records` is not 128, or the SPI or the owner is 0
 //    4  no IKE record has the SPI `owner`
 //   11  an IPsec record has this SPI
@@ -523,12 +539,15 @@ UNMAVRETH_AT(unmavreth_reply, length, 16);
 //   spi, id                      the gateway's SPI of the IKE SA, and the request's message ID
 //   pair                         the addresses and ports of the packet that brought the request
 //   nat_source, nat_destination  the gateway's two NAT detection values for the response; lent with every request
+//   cookie, check_id             for the return routability check that an applied update asks for: the cookie, and the
+//                                message ID that the gateway's next request of this IKE SA has; lent with every request
 //   first, body                  the decrypted payload chain
 //   out                          where the response goes
 // What is lent has its size behind it.
 // Numbers, in the order of the checks, and what each leaves of the tables and of the output:
-//    1  `records` is not 128, the SPI is 0, a NAT detection value has not 20 octets, the pair's family is not 4 or 6,
-//       or an IPv4 address of the pair has a tail that is not zero
+//    1  `records` is not 128, the SPI is 0, a NAT detection value has not 20 octets, the cookie has not 8 to 64 octets
+//       (with an update or without), the pair's family is not 4 or 6, or an IPv4 address of the pair has a tail that is
+//       not zero
 //    2  the output has under 128 octets, however short the response would be
 //    3  the body has over 4,096 octets
 //    4  no IKE record has this SPI
@@ -548,9 +567,11 @@ UNMAVRETH_AT(unmavreth_reply, length, 16);
 //         client ignores UNACCEPTABLE_ADDRESSES and goes on using the refused address: a host may want to delete the
 //         SA.
 //    0  done. That IKE record's tally grows by the unknown payloads and the unknown notifications. Then, by `update`:
-//         applied   its update mark becomes the ID; its pair, and the pair of each IPsec record in use that it owns,
-//                   become the packet's
-//         stale     the ID does not exceed the update mark: the update has no effect
+//         applied   its update mark becomes the ID, its pair the packet's, and its check the cookie and the ID that
+//                   were lent, in place of one that was under way; no IPsec record moves yet. The host now sends the
+//                   check, a request with this ID that has this cookie as COOKIE2 (unmavreth_write), by the new pair,
+//                   and hands the response to unmavreth_check
+//         stale     the ID does not exceed the update mark: the update has no effect, and a check goes on
 //       and by `list`:
 //         replaced  its additional addresses become the request's first sixteen (none, with NO_ADDITIONAL_ADDRESSES),
 //                   zeros in the places after them; its list mark becomes the ID
@@ -560,11 +581,60 @@ UNMAVRETH_AT(unmavreth_reply, length, 16);
 //       one; it may be empty. One kind alone gets no value.
 // The response stands at the start of the output; octets past its `length` stay as they were.
 UNMAVRETH_MUST_USE
-unmavreth_reply unmavreth_handle(unmavreth_ike_table *ike, unmavreth_ipsec *ipsec, size_t records,
+unmavreth_reply unmavreth_handle(unmavreth_ike_table *ike, const unmavreth_ipsec *ipsec, size_t records,
                                  const unmavreth_policy *policy, uint64_t spi, uint32_t id, unmavreth_pair pair,
                                  const uint8_t *nat_source, size_t nat_source_size, const uint8_t *nat_destination,
-                                 size_t nat_destination_size, uint8_t first, const uint8_t *body, size_t body_size,
-                                 uint8_t *out, size_t out_size);
+                                 size_t nat_destination_size, const uint8_t *cookie, size_t cookie_size,
+                                 uint32_t check_id, uint8_t first, const uint8_t *body, size_t body_size, uint8_t *out,
+                                 size_t out_size);
+
+// ------------------------------------------------------------------------------------- the return routability check
+
+// All that a response gives back.
+typedef struct unmavreth_assessment {
+    uint8_t number;
+    uint8_t outcome;   // enum unmavreth_outcome; 0 with every number but 0
+    uint16_t payloads; // of the response; 0 with every number but 0
+    uint16_t offset;   // as in unmavreth_reading
+    uint16_t ordinal;  // likewise
+    uint32_t tally;    // what was unknown in it: a cookie that was not sent too, errors not; 0 with every number but 0
+    uint16_t cookie;   // where the data of the response's COOKIE2 begins; 0: none, as with every number but 0
+    uint16_t cookie_len;
+} unmavreth_assessment;
+UNMAVRETH_SIZE(unmavreth_assessment, 16);
+UNMAVRETH_AT(unmavreth_assessment, number, 0);
+UNMAVRETH_AT(unmavreth_assessment, outcome, 1);
+UNMAVRETH_AT(unmavreth_assessment, payloads, 2);
+UNMAVRETH_AT(unmavreth_assessment, offset, 4);
+UNMAVRETH_AT(unmavreth_assessment, ordinal, 6);
+UNMAVRETH_AT(unmavreth_assessment, tally, 8);
+UNMAVRETH_AT(unmavreth_assessment, cookie, 12);
+UNMAVRETH_AT(unmavreth_assessment, cookie_len, 14);
+
+// Decides the response to a return routability check of ours (RFC 4555, 3.7). It is assessed as by unmavreth_assess,
+// with the cookie that the IKE record keeps: the host remembers nothing of the check itself.
+//   spi, id      the gateway's SPI of the IKE SA, and the message ID of the response, which is that of our request
+//   first, body  the decrypted payload chain
+// Numbers, in the order of the checks:
+//    1  `records` is not 128, or the SPI is 0
+//    3  the body has over 4,096 octets
+//    4  no IKE record has this SPI
+//    5  MOBIKE was not agreed for it
+//   14  it has no check under way, or one by a request of ours with another ID: a later update was applied meanwhile,
+//       or the check has ended
+//   61 to 65  malformed               } as in unmavreth_read
+//    7  an unknown critical payload   }
+//         With every number but 0 every field of every place stays as it was, and a check that is under way goes on.
+//    0  read whole, which ends the check. By `outcome`:
+//         close     the IKE record and each IPsec record in use that it owns are closed, as by unmavreth_close_ike;
+//                   the host is to delete the IKE SA
+//         NAT seen, unacceptable, failed
+//                   nothing moves: the IPsec records keep the pairs that they have, the IKE record its own
+//         accepted  each IPsec record in use that the IKE record owns takes the pair that the IKE record has now
+//       No other field of any place changes; the tally is told, and not added to the record's.
+UNMAVRETH_MUST_USE
+unmavreth_assessment unmavreth_check(unmavreth_ike_table *ike, unmavreth_ipsec *ipsec, size_t records, uint64_t spi,
+                                     uint32_t id, uint8_t first, const uint8_t *body, size_t body_size);
 
 // ----------------------------------------------------------------------------------------------- the initiator's end
 
@@ -614,26 +684,6 @@ unmavreth_written unmavreth_write(unmavreth_ask ask, unmavreth_pair pair, unmavr
                                   size_t nat_destination_size, const uint8_t *cookie, size_t cookie_size,
                                   uint8_t *out, size_t out_size);
 
-typedef struct unmavreth_assessment {
-    uint8_t number;
-    uint8_t outcome;   // enum unmavreth_outcome; 0 with every number but 0
-    uint16_t payloads; // of the response; 0 with every number but 0
-    uint16_t offset;   // as in unmavreth_reading
-    uint16_t ordinal;  // likewise
-    uint32_t tally;    // what was unknown in it: a cookie that was not sent too, errors not; 0 with every number but 0
-    uint16_t cookie;   // where the data of the response's COOKIE2 begins; 0: none, as with every number but 0
-    uint16_t cookie_len;
-} unmavreth_assessment;
-UNMAVRETH_SIZE(unmavreth_assessment, 16);
-UNMAVRETH_AT(unmavreth_assessment, number, 0);
-UNMAVRETH_AT(unmavreth_assessment, outcome, 1);
-UNMAVRETH_AT(unmavreth_assessment, payloads, 2);
-UNMAVRETH_AT(unmavreth_assessment, offset, 4);
-UNMAVRETH_AT(unmavreth_assessment, ordinal, 6);
-UNMAVRETH_AT(unmavreth_assessment, tally, 8);
-UNMAVRETH_AT(unmavreth_assessment, cookie, 12);
-UNMAVRETH_AT(unmavreth_assessment, cookie_len, 14);
-
 // Says what the response to a request comes to; `sent` is the cookie of that request, 0 octets if it had none.
 // Numbers, in the order of the checks:
 //    1  `sent` has not 0 or 8 to 64 octets
@@ -658,13 +708,14 @@ enum unmavreth_kind {
     UNMAVRETH_KIND_CLOSE_IKE = 2,   // unmavreth_close_ike
     UNMAVRETH_KIND_CLOSE_IPSEC = 3, // unmavreth_close_ipsec
     UNMAVRETH_KIND_REQUEST = 4,     // unmavreth_handle
-    UNMAVRETH_KIND_POLICY = 5       // unmavreth_set_policy
+    UNMAVRETH_KIND_POLICY = 5,      // unmavreth_set_policy
+    UNMAVRETH_KIND_CHECK_RESPONSE = 6 // unmavreth_check
 };
 
 enum unmavreth_entry_limit {
     UNMAVRETH_ENTRY_SLOTS = 81,   // as many as the widest kind has, a policy
     UNMAVRETH_STRING_MOST = 4096, // the longest string of an entry
-    UNMAVRETH_ENTRY_MOST = 12352  // octets of the longest entry, a request with three such strings
+    UNMAVRETH_ENTRY_MOST = 16455  // octets of the longest entry, a request with four such strings
 };
 
 // The slots of each kind. Those of a pair and of a rule stand behind the one at which it begins, such as
@@ -706,9 +757,18 @@ enum unmavreth_slot {
     UNMAVRETH_REQUEST_FIRST = 11,
     UNMAVRETH_REQUEST_BODY = 12, // an offset
     UNMAVRETH_REQUEST_BODY_SIZE = 13,
+    UNMAVRETH_REQUEST_COOKIE = 14, // an offset
+    UNMAVRETH_REQUEST_COOKIE_SIZE = 15,
+    UNMAVRETH_REQUEST_CHECK_ID = 16,
 
     UNMAVRETH_POLICY_COUNT = 0,
-    UNMAVRETH_POLICY_RULES = 1 // where the first rule begins
+    UNMAVRETH_POLICY_RULES = 1, // where the first rule begins
+
+    UNMAVRETH_CHECK_RESPONSE_SPI = 0,
+    UNMAVRETH_CHECK_RESPONSE_ID = 1,
+    UNMAVRETH_CHECK_RESPONSE_FIRST = 2,
+    UNMAVRETH_CHECK_RESPONSE_BODY = 3, // an offset
+    UNMAVRETH_CHECK_RESPONSE_BODY_SIZE = 4
 };
 
 // Where the rule of this ordinal, from 0, begins in the slots of a policy.
@@ -717,7 +777,7 @@ enum unmavreth_slot {
 UNMAVRETH_ASSERT(UNMAVRETH_ENTRY_SLOTS == UNMAVRETH_POLICY_RULE((size_t)UNMAVRETH_RULES_MOST), "ENTRY_SLOTS");
 // Seven bits an octet: 10 octets for 64 bits, 5 for 32, 3 for 16, 2 for 8 and for a string's length.
 UNMAVRETH_ASSERT(UNMAVRETH_ENTRY_MOST == 1 + 10 + 5 + (2 + 2 * UNMAVRETH_ADDRESS_OCTETS + 2 * 3) +
-                                             3 * (2 + UNMAVRETH_STRING_MOST) + 2,
+                                             4 * (2 + UNMAVRETH_STRING_MOST) + 2 + 5,
                  "ENTRY_MOST");
 
 typedef struct unmavreth_entry_read {

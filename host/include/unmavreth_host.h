@@ -34,6 +34,8 @@ typedef struct unmavreth_request {
     unmavreth_nat nat_destination;
     uint8_t first;                 // the type of the first payload
     unmavreth_part body;           // the payloads
+    unmavreth_part cookie;         // 8 to 64 octets, for the check that an applied update asks for
+    uint32_t check_id;             // the message ID of the gateway's next request, which that check would have
 } unmavreth_request;
 
 // Where a response goes; unmavreth_reply has its first type and its length.
@@ -55,6 +57,14 @@ typedef struct unmavreth_draft {
 typedef struct unmavreth_message {
     uint8_t octets[UNMAVRETH_REQUEST_ROOM];
 } unmavreth_message;
+
+// A response to a check of the gateway's as it came: authenticated, decrypted, and to a request that is under way.
+typedef struct unmavreth_check_response {
+    uint64_t spi;        // the gateway's SPI of the IKE SA
+    uint32_t id;         // its message ID
+    uint8_t first;       // the type of the first payload
+    unmavreth_part body; // the payloads
+} unmavreth_check_response;
 
 // A part as the exported calls take it: no pointer is null there, not even with length 0.
 static inline unmavreth_part unmavreth_lent(unmavreth_part part)
@@ -119,11 +129,22 @@ UNMAVRETH_MUST_USE
 static inline unmavreth_reply unmavreth_gateway_handle(unmavreth_gateway *gateway, const unmavreth_request *request,
                                                        unmavreth_response *response)
 {
-    const unmavreth_part body = unmavreth_lent(request->body);
+    const unmavreth_part body = unmavreth_lent(request->body), cookie = unmavreth_lent(request->cookie);
     return unmavreth_handle(&gateway->ike, gateway->ipsec, UNMAVRETH_IPSEC_PLACES, &gateway->policy, request->spi,
                             request->id, request->pair, request->nat_source.octets, UNMAVRETH_NAT_OCTETS,
-                            request->nat_destination.octets, UNMAVRETH_NAT_OCTETS, request->first, body.start,
-                            body.octets, response->octets, UNMAVRETH_RESPONSE_ROOM);
+                            request->nat_destination.octets, UNMAVRETH_NAT_OCTETS, cookie.start, cookie.octets,
+                            request->check_id, request->first, body.start, body.octets, response->octets,
+                            UNMAVRETH_RESPONSE_ROOM);
+}
+
+// As unmavreth_check.
+UNMAVRETH_MUST_USE
+static inline unmavreth_assessment unmavreth_gateway_check(unmavreth_gateway *gateway,
+                                                           const unmavreth_check_response *response)
+{
+    const unmavreth_part body = unmavreth_lent(response->body);
+    return unmavreth_check(&gateway->ike, gateway->ipsec, UNMAVRETH_IPSEC_PLACES, response->spi, response->id,
+                           response->first, body.start, body.octets);
 }
 
 // ------------------------------------------------------------------------------------------------- looking at records
@@ -155,7 +176,7 @@ static inline bool unmavreth_same_pair(const unmavreth_pair *a, const unmavreth_
 }
 
 // The first place from `from` on of an IPsec record in use that this IKE record owns; UNMAVRETH_IPSEC_PLACES if there
-// is none. An applied update moves exactly these:
+// is none. A check that is accepted moves exactly these:
 //     for (size_t at = unmavreth_next_owned(g, spi, 0); at < UNMAVRETH_IPSEC_PLACES;
 //          at = unmavreth_next_owned(g, spi, at + 1))
 static inline size_t unmavreth_next_owned(const unmavreth_gateway *gateway, uint64_t owner, size_t from)
@@ -228,7 +249,7 @@ static inline unmavreth_addresses_list unmavreth_addresses_part(unmavreth_part b
     return unmavreth_addresses(body.start, body.octets, seen->list);
 }
 
-// ------------------------------------------------------------------------------------------------ the initiator's end
+// --------------------------------------------------------------------------------------------------- writing requests
 
 // As unmavreth_write.
 UNMAVRETH_MUST_USE
@@ -239,6 +260,22 @@ static inline unmavreth_written unmavreth_write_draft(const unmavreth_draft *dra
                            draft->nat_destination.octets, UNMAVRETH_NAT_OCTETS, cookie.start, cookie.octets,
                            message->octets, UNMAVRETH_REQUEST_ROOM);
 }
+
+// As unmavreth_write: the return routability check that the reply to this request asks for, COOKIE2 with the request's
+// cookie and nothing else. Its message ID is the request's check_id. Nothing is written unless the update was applied:
+// the first type and the length are 0 then.
+UNMAVRETH_MUST_USE
+static inline unmavreth_written unmavreth_write_check(const unmavreth_reply *reply, const unmavreth_request *request,
+                                                      unmavreth_message *message)
+{
+    unmavreth_draft draft;
+    memset(&draft, 0, sizeof draft);
+    if (reply->update == UNMAVRETH_UPDATE_APPLIED)
+        draft.cookie = request->cookie;
+    return unmavreth_write_draft(&draft, message);
+}
+
+// ------------------------------------------------------------------------------------------------ the initiator's end
 
 // As unmavreth_assess.
 UNMAVRETH_MUST_USE

@@ -21,6 +21,7 @@ static inline const char *unmavreth_number_words(uint8_t number)
     case UNMAVRETH_FULL: return "all places in use";
     case UNMAVRETH_SPI_IN_USE: return "SPI in use";
     case UNMAVRETH_BAD_POLICY: return "too many rules or a prefix too long";
+    case UNMAVRETH_CHECK_NOT_PENDING: return "no check under way by a request with this ID";
     case UNMAVRETH_CUT: return "a cut entry, or a number not shortest or past 64 bits";
     case UNMAVRETH_UNKNOWN_KIND: return "unknown kind of an entry";
     case UNMAVRETH_TOO_LARGE: return "too large for its field";

@@ -3,11 +3,13 @@
 
 void drop(unmavreth_gateway *g, const unmavreth_opening *opening, const unmavreth_request *request,
           unmavreth_response *response, const unmavreth_draft *draft, unmavreth_message *message,
-          const unmavreth_rules *rules, const unmavreth_seen *seen, const uint64_t *slots, uint8_t *out, unmavreth_part b);
+          const unmavreth_rules *rules, const unmavreth_seen *seen, const unmavreth_reply *reply,
+          const unmavreth_check_response *checked, const uint64_t *slots, uint8_t *out, unmavreth_part b);
 
 void drop(unmavreth_gateway *g, const unmavreth_opening *opening, const unmavreth_request *request,
           unmavreth_response *response, const unmavreth_draft *draft, unmavreth_message *message,
-          const unmavreth_rules *rules, const unmavreth_seen *seen, const uint64_t *slots, uint8_t *out, unmavreth_part b)
+          const unmavreth_rules *rules, const unmavreth_seen *seen, const unmavreth_reply *reply,
+          const unmavreth_check_response *checked, const uint64_t *slots, uint8_t *out, unmavreth_part b)
 {
     unmavreth_interface();
     unmavreth_set_policy(&g->policy, 0, rules);
@@ -19,7 +21,9 @@ void drop(unmavreth_gateway *g, const unmavreth_opening *opening, const unmavret
     unmavreth_read(0, b.start, b.octets);
     unmavreth_no_nats(b.start, b.octets, 0, 0);
     unmavreth_addresses(b.start, b.octets, seen->list);
-    unmavreth_handle(&g->ike, g->ipsec, 0, &g->policy, 7, 0, request->pair, out, 0, out, 0, 0, b.start, 0, out, 0);
+    unmavreth_handle(&g->ike, g->ipsec, 0, &g->policy, 7, 0, request->pair, out, 0, out, 0, out, 0, 0, 0, out, 0, out,
+                     0);
+    unmavreth_check(&g->ike, g->ipsec, UNMAVRETH_IPSEC_PLACES, 7, 0, 0, b.start, b.octets);
     unmavreth_write(draft->ask, draft->pair, draft->addresses, out, 0, out, 0, out, 0, out, 0);
     unmavreth_assess(b.start, b.octets, 0, b.start, b.octets);
     unmavreth_read_entry(b.start, b.octets, 0);
@@ -31,12 +35,14 @@ void drop(unmavreth_gateway *g, const unmavreth_opening *opening, const unmavret
     unmavreth_gateway_set_policy(g, rules->rules, 1);
     unmavreth_gateway_acceptable(g, request->pair);
     unmavreth_gateway_handle(g, request, response);
+    unmavreth_gateway_check(g, checked);
     unmavreth_read_part(0, b);
     unmavreth_cookie_part(b, 0, 0);
     unmavreth_nat_value_part(b, 0);
     unmavreth_no_nats_part(b, seen);
     unmavreth_addresses_part(b, seen);
     unmavreth_write_draft(draft, message);
+    unmavreth_write_check(reply, request, message);
     unmavreth_assess_part(b, 0, b);
     unmavreth_read_entry_part(b, 0);
     unmavreth_write_entry_part(0, slots, b, out);

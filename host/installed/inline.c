@@ -4,12 +4,13 @@
 
 #include "holds.h"
 
-enum { SPI = 7, CHILD = 70, COOKIE_AT = 16, COOKIE_OCTETS = 8 };
+enum { SPI = 7, CHILD = 70, COOKIE_AT = 16, COOKIE_OCTETS = 8, CHECK_ID = 5 };
 
 static const unmavreth_part nothing = {NULL, 0};
+static const uint8_t cookie[COOKIE_OCTETS] = {1, 2, 3, 4, 5, 6, 7, 8};
 
 // An update, both NAT detection values, NO_NATS_ALLOWED and a cookie, written by the library.
-static size_t write_all(unmavreth_message *message, const unmavreth_part *cookie)
+static size_t write_all(unmavreth_message *message, const unmavreth_part *sent)
 {
     unmavreth_draft draft;
     memset(&draft, 0, sizeof draft);
@@ -18,7 +19,7 @@ static size_t write_all(unmavreth_message *message, const unmavreth_part *cookie
     draft.pair.family = draft.addresses.list[0].family = 4;
     memset(draft.nat_source.octets, 0x51, sizeof draft.nat_source.octets);
     memset(draft.nat_destination.octets, 0x52, sizeof draft.nat_destination.octets);
-    draft.cookie = *cookie;
+    draft.cookie = *sent;
     const unmavreth_written written = unmavreth_write_draft(&draft, message);
     HOLDS(written.number == UNMAVRETH_DONE && written.first == UNMAVRETH_NOTIFY_PAYLOAD);
     return written.length;
@@ -26,7 +27,6 @@ static size_t write_all(unmavreth_message *message, const unmavreth_part *cookie
 
 static void try_reading(void)
 {
-    static const uint8_t cookie[COOKIE_OCTETS] = {1, 2, 3, 4, 5, 6, 7, 8};
     const unmavreth_part sent = {cookie, sizeof cookie};
     unmavreth_message message;
     const unmavreth_part body = {message.octets, write_all(&message, &sent)};
@@ -100,11 +100,80 @@ static void try_gateway(void)
     memset(&request, 0, sizeof request);
     request.spi = SPI;
     request.pair.family = 4;
+    HOLDS(unmavreth_gateway_handle(&gateway, &request, &response).number == UNMAVRETH_BAD_ARGUMENT);
+    request.cookie.start = cookie; // which every request has
+    request.cookie.octets = sizeof cookie;
     const unmavreth_reply reply = unmavreth_gateway_handle(&gateway, &request, &response);
     HOLDS(reply.number == UNMAVRETH_DONE && reply.first == 0 && reply.length == 0);
     HOLDS(unmavreth_gateway_close_ipsec(&gateway, CHILD) == UNMAVRETH_DONE);
     HOLDS(unmavreth_next_owned(&gateway, SPI, 0) == 1);
     HOLDS(unmavreth_gateway_close_ike(&gateway, SPI) == UNMAVRETH_DONE && unmavreth_find_ike(&gateway, SPI) == NULL);
+}
+
+static void open_one(unmavreth_gateway *gateway, unmavreth_pair pair)
+{
+    unmavreth_opening opening;
+    unmavreth_rule rule; // that matches every IPv4 pair
+    memset(&opening, 0, sizeof opening);
+    memset(&rule, 0, sizeof rule);
+    opening.spi = SPI;
+    opening.agreed.mobike = 1;
+    opening.pair = pair;
+    opening.child = CHILD;
+    rule.family = 4;
+    HOLDS(unmavreth_gateway_open(gateway, &opening) == UNMAVRETH_DONE);
+    HOLDS(unmavreth_gateway_set_policy(gateway, &rule, 1) == UNMAVRETH_DONE);
+}
+
+static unmavreth_request update_from(unmavreth_pair pair)
+{
+    static const uint8_t update[] = {0, 0, 0, 8, 0, 0, 0x40, 0x10};
+    unmavreth_request request;
+    memset(&request, 0, sizeof request);
+    request.spi = SPI;
+    request.pair = pair;
+    request.first = UNMAVRETH_NOTIFY_PAYLOAD;
+    request.body.start = update;
+    request.body.octets = sizeof update;
+    request.cookie.start = cookie;
+    request.cookie.octets = sizeof cookie;
+    request.check_id = CHECK_ID;
+    return request;
+}
+
+// An applied update is checked: the check is written, and its response, with the cookie in it or empty, gives this
+// outcome.
+static void try_check(bool copied, uint8_t outcome)
+{
+    unmavreth_gateway gateway;
+    unmavreth_response response;
+    unmavreth_message message;
+    unmavreth_check_response came;
+    unmavreth_pair old, now;
+    memset(&gateway, 0, sizeof gateway);
+    memset(&came, 0, sizeof came);
+    memset(&old, 0, sizeof old);
+    old.family = 4;
+    now = old;
+    now.source[0] = 10;
+    open_one(&gateway, old);
+    const unmavreth_request request = update_from(now);
+    unmavreth_reply reply = unmavreth_gateway_handle(&gateway, &request, &response);
+    HOLDS(reply.update == UNMAVRETH_UPDATE_APPLIED && gateway.ike.records[0].check.id == CHECK_ID);
+    HOLDS(unmavreth_same_pair(&gateway.ipsec[0].pair, &old));
+    const unmavreth_written written = unmavreth_write_check(&reply, &request, &message);
+    HOLDS(written.first == UNMAVRETH_NOTIFY_PAYLOAD && written.length == UNMAVRETH_NOTIFY_HEADER + sizeof cookie);
+    HOLDS(memcmp(message.octets + UNMAVRETH_NOTIFY_HEADER, cookie, sizeof cookie) == 0);
+    came.spi = SPI;
+    came.id = CHECK_ID;
+    came.first = copied ? written.first : (uint8_t)0;
+    came.body.start = copied ? message.octets : NULL;
+    came.body.octets = copied ? written.length : 0;
+    HOLDS(unmavreth_gateway_check(&gateway, &came).outcome == outcome);
+    HOLDS((unmavreth_find_ike(&gateway, SPI) != NULL) == copied);
+    HOLDS(!copied || unmavreth_same_pair(&gateway.ipsec[0].pair, &now));
+    reply.update = UNMAVRETH_UPDATE_STALE;
+    HOLDS(unmavreth_write_check(&reply, &request, &message).length == 0);
 }
 
 int main(void)
@@ -113,5 +182,7 @@ int main(void)
     try_reading();
     try_nothing();
     try_gateway();
+    try_check(true, UNMAVRETH_OUTCOME_ACCEPTED);
+    try_check(false, UNMAVRETH_OUTCOME_CLOSE);
     return 0;
 }

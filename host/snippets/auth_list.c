@@ -17,8 +17,9 @@ uint8_t mobike_auth_list(unmavreth_gateway *gateway, uint64_t spi, uint32_t id, 
     const unmavreth_ike *record = unmavreth_find_ike(gateway, spi);
     if (record == NULL)
         return UNMAVRETH_NO_SUCH_RECORD;
+    const uint8_t none[UNMAVRETH_COOKIE_LEAST] = {0}; // any will do: there is no update, and so no check
     unmavreth_request request = {.spi = spi, .id = id, .pair = record->pair, .first = written.first,
-                                 .body = {message.octets, written.length}};
+                                 .body = {message.octets, written.length}, .cookie = {none, sizeof none}};
     unmavreth_response response;
     return unmavreth_gateway_handle(gateway, &request, &response).number;
 }

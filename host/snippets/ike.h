@@ -9,6 +9,7 @@ struct ike_sa {
     uint64_t own_spi;   // the SPI that the gateway chose for the IKE SA
     uint32_t child_spi; // and for its first child SA
     uint8_t mobike;     // whether both ends sent MOBIKE_SUPPORTED
+    uint32_t next_id;   // the message ID of the next request of ours
     const struct sockaddr *peer, *own;
 };
 
@@ -19,10 +20,26 @@ struct ike_request {
     uint8_t first;
     const uint8_t *payloads;
     size_t octets;
+    uint8_t fresh[16]; // drawn for it, octets that nobody can guess
+};
+
+// A response to a request of ours.
+struct ike_response {
+    uint32_t id;
+    uint8_t first;
+    const uint8_t *payloads;
+    size_t octets;
 };
 
 // Encrypts the payloads of a response, sends it, and keeps it for a retransmission.
 void ike_respond(const struct ike_sa *sa, uint32_t id, uint8_t first, const uint8_t *payloads, size_t octets);
+
+// Encrypts the payloads of a request of ours and sends it to where the SA's record now is, once no other is under way,
+// and again until its response comes.
+void ike_ask(const struct ike_sa *sa, uint32_t id, uint8_t first, const uint8_t *payloads, size_t octets);
+
+// Deletes the IKE SA and its child SAs, whose records are closed.
+void ike_close(const struct ike_sa *sa);
 
 // Gives the SAs of the kernel that have this child SPI other addresses.
 void ike_move_child(uint32_t child_spi, const unmavreth_pair *was, const unmavreth_pair *is);

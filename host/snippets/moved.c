@@ -2,14 +2,14 @@
 
 #include "ike.h"
 
-// Handles a request, and moves the SAs of the kernel whose records it moved.
-unmavreth_reply mobike_move(unmavreth_gateway *gateway, const unmavreth_request *request, unmavreth_response *response)
+// Hands over the response to a check, and moves the SAs of the kernel whose records it moved.
+unmavreth_assessment mobike_move(unmavreth_gateway *gateway, const unmavreth_check_response *response)
 {
     unmavreth_ipsec before[UNMAVRETH_IPSEC_PLACES];
     memcpy(before, gateway->ipsec, sizeof before);
-    unmavreth_reply reply = unmavreth_gateway_handle(gateway, request, response);
+    unmavreth_assessment assessment = unmavreth_gateway_check(gateway, response);
     for (size_t at = unmavreth_next_moved(before, gateway, 0); at < UNMAVRETH_IPSEC_PLACES;
          at = unmavreth_next_moved(before, gateway, at + 1))
         ike_move_child(gateway->ipsec[at].spi, &before[at].pair, &gateway->ipsec[at].pair);
-    return reply;
+    return assessment;
 }

@@ -1,7 +1,8 @@
 #include <unmavreth_host.h>
 
 // The IKE SA was rekeyed, and the new one takes over its child SAs (RFC 7296, 2.8): closes the old record, and opens
-// the new one with the same pair and the same IPsec records. Of the old one's requests none is under way.
+// the new one with the same pair and the same IPsec records. Of the old one's requests none is under way, nor a check:
+// the IPsec records take the pair that the IKE record has, checked or not.
 uint8_t mobike_rekey(unmavreth_gateway *gateway, uint64_t old_spi, uint64_t new_spi)
 {
     const unmavreth_ike *record = unmavreth_find_ike(gateway, old_spi);

@@ -16,13 +16,17 @@ enum { CHILD = 70, CHILD_2 = 71, CHILD_3 = 72, PORT = 4500, COOKIE_AT = 16, COOK
 static const uint8_t update[] = {41, 0, 0, 8,  0, 0, 0x40, 0x10, 0, 0, 0, 16,
                                  0,  0, 0x40, 0x11, 1, 2, 3,    4,    5, 6, 7, 8};
 
-// The last response, and how many child SAs were moved in the kernel.
+static const uint8_t cookie[UNMAVRETH_COOKIE_LEAST] = {9, 9, 9, 9, 9, 9, 9, 9};
+
+// The last response, the last request of ours, how often an SA was closed, and how many child SAs were moved.
 static struct {
     uint32_t id;
     uint8_t first;
     uint8_t payloads[UNMAVRETH_RESPONSE_ROOM];
     size_t octets;
-    unsigned moves;
+    struct ike_response asked;
+    uint8_t asked_payloads[UNMAVRETH_REQUEST_ROOM];
+    unsigned asks, closes, moves;
     unmavreth_pair was, is;
 } seen;
 
@@ -33,6 +37,23 @@ void ike_respond(const struct ike_sa *sa, uint32_t id, uint8_t first, const uint
     seen.first = first;
     memcpy(seen.payloads, payloads, octets);
     seen.octets = octets;
+}
+
+void ike_ask(const struct ike_sa *sa, uint32_t id, uint8_t first, const uint8_t *payloads, size_t octets)
+{
+    HOLDS(sa->own_spi == SPI && id == sa->next_id && octets <= sizeof seen.asked_payloads);
+    memcpy(seen.asked_payloads, payloads, octets);
+    seen.asked.id = id;
+    seen.asked.first = first;
+    seen.asked.payloads = seen.asked_payloads;
+    seen.asked.octets = octets;
+    seen.asks++;
+}
+
+void ike_close(const struct ike_sa *sa)
+{
+    HOLDS(sa->own_spi == SPI);
+    seen.closes++;
 }
 
 void ike_move_child(uint32_t child_spi, const unmavreth_pair *was, const unmavreth_pair *is)
@@ -55,22 +76,43 @@ static struct sockaddr_storage socket_address(int family, const char *text, uint
     return address;
 }
 
+// The check that was asked for is COOKIE2 with the octets that were drawn; its response is these payloads again.
+static void try_checked(const struct ike_sa *sa, const struct ike_request *came)
+{
+    HOLDS(seen.asks == 1 && seen.asked.id == 30 && seen.asked.octets == 8 + sizeof came->fresh);
+    HOLDS(memcmp(seen.asked_payloads + 8, came->fresh, sizeof came->fresh) == 0);
+    struct ike_response late = seen.asked;
+    late.id = 29;
+    HOLDS(mobike_checked(sa, &late) == UNMAVRETH_CHECK_NOT_PENDING);
+    HOLDS(mobike_checked(sa, &seen.asked) == UNMAVRETH_DONE && seen.closes == 0);
+    HOLDS(mobike_checked(sa, &seen.asked) == UNMAVRETH_CHECK_NOT_PENDING);
+}
+
+// Another cookie comes back from where the peer says that it is.
+static void try_closed(const struct ike_sa *sa, const struct ike_request *came)
+{
+    HOLDS(mobike_request(sa, came) == UNMAVRETH_DONE && seen.asks == 2);
+    seen.asked_payloads[8]++;
+    HOLDS(mobike_checked(sa, &seen.asked) == UNMAVRETH_DONE && seen.closes == 1);
+    HOLDS(unmavreth_find_ike(&gateway, SPI) == NULL && unmavreth_find_ipsec(&gateway, CHILD) == NULL);
+}
+
 // README's snippet: a record is opened, and an update from an IPv4-mapped address is refused without a rule, applied
-// with one, and answered.
+// with one, answered and checked; last, another cookie comes back, and the SA is closed.
 static void try_update(void)
 {
     const struct sockaddr_storage old = socket_address(AF_INET, "203.0.113.5", PORT);
     const struct sockaddr_storage own = socket_address(AF_INET, "192.0.2.1", PORT);
     const struct sockaddr_storage from = socket_address(AF_INET6, "::ffff:198.51.100.7", PORT);
     const struct sockaddr_storage to = socket_address(AF_INET6, "::ffff:192.0.2.1", PORT);
-    const struct ike_sa sa = {.own_spi = SPI, .child_spi = CHILD, .mobike = 1, .peer = (const struct sockaddr *)&old,
-                              .own = (const struct sockaddr *)&own};
+    const struct ike_sa sa = {.own_spi = SPI, .child_spi = CHILD, .mobike = 1, .next_id = 30,
+                              .peer = (const struct sockaddr *)&old, .own = (const struct sockaddr *)&own};
     struct ike_request came = {.id = 4, .from = (const struct sockaddr *)&from, .to = (const struct sockaddr *)&to,
                                .nat_source = {{0}}, .nat_destination = {{0}}, .first = 41, .payloads = update,
-                               .octets = sizeof update};
+                               .octets = sizeof update, .fresh = {7, 7, 7}};
     HOLDS(mobike_open(&sa) == UNMAVRETH_DONE);
     HOLDS(mobike_open(&sa) == UNMAVRETH_SPI_IN_USE);
-    HOLDS(mobike_request(&sa, &came) == UNMAVRETH_NOT_ACCEPTABLE);
+    HOLDS(mobike_request(&sa, &came) == UNMAVRETH_NOT_ACCEPTABLE && seen.asks == 0);
     HOLDS(seen.first == 41 && seen.octets == 8 + COOKIE_AT && seen.payloads[7] == UNMAVRETH_UNACCEPTABLE_ADDRESSES);
     const unmavreth_rule rule = {.family = 4, .source = {198, 51, 100}, .destination = {192, 0, 2, 1},
                                  .source_len = 24, .destination_len = 32};
@@ -80,26 +122,41 @@ static void try_update(void)
     HOLDS(seen.id == 5 && seen.first == 41 && seen.octets == COOKIE_AT);
     HOLDS(memcmp(seen.payloads + 8, update + COOKIE_AT, COOKIE_OCTETS) == 0);
     const unmavreth_pair now = unmavreth_pair_of(came.from, came.to);
+    const unmavreth_pair before = unmavreth_pair_of(sa.peer, sa.own);
     HOLDS(unmavreth_same_pair(&unmavreth_find_ike(&gateway, SPI)->pair, &now));
+    HOLDS(unmavreth_same_pair(&unmavreth_find_ipsec(&gateway, CHILD)->pair, &before));
+    try_checked(&sa, &came);
     HOLDS(unmavreth_same_pair(&unmavreth_find_ipsec(&gateway, CHILD)->pair, &now));
     came.octets = UNMAVRETH_BODY_MOST + 1; // answered 3, before anything of the body is looked at
     HOLDS(mobike_request(&sa, &came) == UNMAVRETH_BODY_TOO_LONG && seen.first == 0 && seen.octets == 0);
+    came.octets = sizeof update;
+    came.id = 6;
+    try_closed(&sa, &came);
+    HOLDS(mobike_open(&sa) == UNMAVRETH_DONE);
 }
 
-// Each child SA is moved, from where it was to where it is; without an update none.
+// Each child SA is moved, from where it was to where it is, once the check has come back; before that none.
 static void try_moved(void)
 {
     const unmavreth_pair was = unmavreth_find_ike(&gateway, SPI)->pair;
     unmavreth_request request = {.spi = SPI, .id = 6, .pair = was, .nat_source = {{0}}, .nat_destination = {{0}},
-                                 .first = 41, .body = {update, sizeof update}};
+                                 .first = 41, .body = {update, sizeof update}, .cookie = {cookie, sizeof cookie},
+                                 .check_id = 31};
     unmavreth_response response;
-    request.pair.source[3]++;
+    unmavreth_message check;
+    static const uint8_t there[UNMAVRETH_IP4_OCTETS] = {198, 51, 100, 9};
+    memcpy(request.pair.source, there, sizeof there);
     HOLDS(unmavreth_gateway_open_ipsec(&gateway, CHILD_2, SPI) == UNMAVRETH_DONE);
     const unmavreth_opening other = {.spi = NEW_SPI + 1, .agreed = {.mobike = 1}, .pair = was, .child = CHILD_3};
     HOLDS(unmavreth_gateway_open(&gateway, &other) == UNMAVRETH_DONE);
-    HOLDS(mobike_move(&gateway, &request, &response).update == UNMAVRETH_UPDATE_APPLIED);
+    const unmavreth_reply reply = unmavreth_gateway_handle(&gateway, &request, &response);
+    HOLDS(reply.update == UNMAVRETH_UPDATE_APPLIED);
+    const unmavreth_written written = unmavreth_write_check(&reply, &request, &check);
+    const unmavreth_check_response copied = {.spi = SPI, .id = 31, .first = written.first,
+                                             .body = {check.octets, written.length}};
+    HOLDS(mobike_move(&gateway, &copied).outcome == UNMAVRETH_OUTCOME_ACCEPTED);
     HOLDS(seen.moves == 2 && unmavreth_same_pair(&seen.was, &was) && unmavreth_same_pair(&seen.is, &request.pair));
-    HOLDS(mobike_move(&gateway, &request, &response).update == UNMAVRETH_UPDATE_STALE && seen.moves == 2);
+    HOLDS(mobike_move(&gateway, &copied).number == UNMAVRETH_CHECK_NOT_PENDING && seen.moves == 2);
 }
 
 // The additional addresses of an IKE_AUTH request are kept, and a list of a later request is newer; a chain without any

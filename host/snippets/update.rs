@@ -1,5 +1,5 @@
-use unmavreth::limits::RESPONSE_ROOM;
-use unmavreth::{Agreed, Gateway, Number, Opening, Pair, Request};
+use unmavreth::limits::{REQUEST_ROOM, RESPONSE_ROOM};
+use unmavreth::{write_check, Agreed, CheckResponse, Gateway, Number, Opening, Outcome, Pair, Request};
 
 /// IKE_AUTH is done: opens the records of the IKE SA and of its first child SA, both or neither.
 fn mobike_open(gateway: &mut Gateway, sa: &IkeSa) -> Result<(), Number> {
@@ -7,14 +7,31 @@ fn mobike_open(gateway: &mut Gateway, sa: &IkeSa) -> Result<(), Number> {
     gateway.open(&Opening { spi: sa.own_spi, agreed, pair, child: sa.child_spi }).ok()
 }
 
-/// An INFORMATIONAL request came, and is authenticated and decrypted: handles it, and sends the response.
+/// An INFORMATIONAL request came, and is authenticated and decrypted: handles it, sends the response, and if the
+/// peer moved, a request that checks whether it can be reached there.
 fn mobike_request(gateway: &mut Gateway, sa: &mut IkeSa, came: &IkeRequest) -> Result<(), Number> {
     let (spi, id, pair) = (sa.own_spi, came.id, Pair::between(came.from, came.to));
     let (nat_source, nat_destination) = (&came.nat_source[..], &came.nat_destination[..]);
     let (first, body) = (came.first, &came.payloads[..]);
-    let request = Request { spi, id, pair, nat_source, nat_destination, first, body };
+    let (cookie, check_id) = (&came.fresh[..], sa.next_id);
+    let request = Request { spi, id, pair, nat_source, nat_destination, first, body, cookie, check_id };
     let mut out = [0; RESPONSE_ROOM];
     let reply = gateway.handle(&request, &mut out);
     sa.respond(id, reply.first(), reply.response(&out)); // empty with 1 to 5; the guide says more
+    let mut out = [0; REQUEST_ROOM];
+    let check = write_check(&reply, &request, &mut out);
+    if check.length() != 0 {
+        sa.ask(check_id, check.first(), check.body(&out));
+    }
     reply.number().ok()
+}
+
+/// The response to that check came: the IPsec records move, or the IKE SA is closed, for another cookie came back.
+fn mobike_checked(gateway: &mut Gateway, sa: &mut IkeSa, came: &IkeResponse) -> Result<(), Number> {
+    let (spi, id, first, body) = (sa.own_spi, came.id, came.first, &came.payloads[..]);
+    let assessment = gateway.check(&CheckResponse { spi, id, first, body });
+    if assessment.outcome() == Outcome::Close {
+        sa.close();
+    }
+    assessment.number().ok()
 }

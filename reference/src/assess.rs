@@ -42,6 +42,19 @@ pub struct Assessed<'a> {
     pub handed_out: Place<'a>,
 }
 
+impl Verdict {
+    /// By its number.
+    pub fn of(outcome: u8) -> Self {
+        match outcome {
+            1 => Verdict::Close,
+            2 => Verdict::NatSeen,
+            3 => Verdict::Unacceptable,
+            4 => Verdict::Failed,
+            _ => Verdict::Accepted,
+        }
+    }
+}
+
 impl Assessed<'_> {
     /// Every field by name, to be shown.
     pub fn fields(&self) -> Vec<(String, String)> {

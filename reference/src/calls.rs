@@ -42,6 +42,7 @@ pub enum Refusal {
     AllInUse = 10,
     SpiInUse = 11,
     Policy = 12,
+    NoPendingCheck = 14,
 }
 
 /// Who is lent the IPsec list.
@@ -51,6 +52,7 @@ pub enum User {
     OpeningIpsec,
     Closing,
     Handler,
+    CheckResponse,
 }
 
 pub fn refuse_if(refused: bool, refusal: Refusal) -> Result<(), Refusal> {

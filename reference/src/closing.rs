@@ -16,13 +16,24 @@ pub fn close_ike(
     rules: &(impl TableRules + ?Sized),
 ) -> Result<(), Refusal> {
     let place = place_of(&tables.ike.records, spi, tables, rules)?;
+    close_place(tables, place, |owned| owned, rules);
+    Ok(())
+}
+
+/// Closes the IKE record at this place, and of the IPsec records those of which `closes` says so, by whether it owns
+/// them.
+pub fn close_place(
+    tables: &mut Tables,
+    place: usize,
+    closes: impl Fn(bool) -> bool,
+    rules: &(impl TableRules + ?Sized),
+) {
     let meant = tables.ike.records[place];
     for place in rules.closed(&tables.ike.records, place) {
         tables.ike_mut()[place] = rules.freed(&tables.ike.records[place]);
     }
-    let owned = tables.ipsec_mut().iter_mut().filter(|record| rules.owns(&meant, record));
-    owned.for_each(|record| *record = IpsecRecord::FREE);
-    Ok(())
+    let closed = |record: &&mut IpsecRecord| closes(rules.owns(&meant, record));
+    tables.ipsec_mut().iter_mut().filter(closed).for_each(|record| *record = IpsecRecord::FREE);
 }
 
 pub fn close_ipsec(

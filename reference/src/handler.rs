@@ -47,6 +47,7 @@ fn serve<'a>(
     let updated = steps::update(request, passed, tables, rules);
     let record = &mut tables.ike_mut()[*place];
     steps::tally(record, summary, updated, rules);
+    steps::pending(record, request, updated, of_requests);
     let (mut list, mut left_off) = (Effect::None, 0);
     let update = updated.unwrap_or(Effect::None);
     if of_requests.looks_at_list(updated) {
@@ -77,6 +78,7 @@ mod tests {
     use super::*;
     use crate::address::AddressPair;
     use crate::agreed::Agreed;
+    use crate::pending::PendingCheck;
     use crate::policy::Rule;
     use crate::rules::Plain;
     use crate::tables::{IkeRecord, IpsecRecord, Record};
@@ -116,7 +118,19 @@ mod tests {
         let (nat_source, nat_destination) = (vec![3; 20], vec![4; 20]);
         let first = if body.is_empty() { 0 } else { 41 };
         let output = vec![0xff; 128];
-        Request { spi: 7, id, pair, nat_source, nat_destination, first, body, output }
+        let (cookie, check_id) = (vec![6; 9], 77);
+        Request {
+            spi: 7,
+            id,
+            pair,
+            nat_source,
+            nat_destination,
+            cookie,
+            check_id,
+            first,
+            body,
+            output,
+        }
     }
 
     /// Number, update and list.
@@ -169,11 +183,43 @@ mod tests {
     }
 
     #[test]
-    fn ipsec_records_move_with_their_owner() {
+    fn an_applied_update_moves_the_ike_record_and_begins_a_check() {
         let mut tables = tables();
+        let before = tables.ipsec.clone();
         assert_eq!(made(&mut tables, &request(0, NEW, &[&UPDATE])), (0, 1, 0));
         assert_eq!(tables.ike.records[0].pair, NEW);
-        assert_eq!([0, 1].map(|place| tables.ipsec.records[place].pair), [NEW, OLD]);
+        assert_eq!(tables.ike.records[0].check, PendingCheck::of(&[6; 9], 77));
+        assert_eq!(tables.ipsec, before);
+    }
+
+    #[test]
+    fn only_an_applied_update_replaces_the_check() {
+        let check = PendingCheck { length: 64, octets: [8; 64], id: 3 };
+        let mut tables = tables();
+        tables.ike_mut()[0].check = check;
+        tables.ike_mut()[0].update_mark = 6;
+        let others =
+            [request(5, NEW, &[&UPDATE]), request(7, IPV6, &[&UPDATE]), request(8, NEW, &[])];
+        for (request, made_of_it) in others.iter().zip([(0, 2, 0), (9, 0, 0), (0, 0, 0)]) {
+            assert_eq!(made(&mut tables, request), made_of_it);
+            assert_eq!(tables.ike.records[0].check, check);
+        }
+        assert_eq!(made(&mut tables, &request(9, NEW, &[&UPDATE])), (0, 1, 0));
+        assert_eq!(tables.ike.records[0].check, PendingCheck::of(&[6; 9], 77));
+    }
+
+    #[test]
+    fn a_cookie_of_another_length_is_refused_with_an_update_or_without() {
+        for length in [0, 7, 65, 264] {
+            let mut tables = tables();
+            let before = tables.clone();
+            for notifications in [&[&UPDATE[..]][..], &[]] {
+                let cookie = vec![1; length];
+                let request = Request { cookie, ..request(1, NEW, notifications) };
+                assert_eq!(made(&mut tables, &request), (1, 0, 0));
+            }
+            assert_eq!(tables, before);
+        }
     }
 
     #[test]

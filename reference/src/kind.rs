@@ -5,6 +5,8 @@ pub enum Kind {
     Reader,
     Tables,
     Requests,
+    /// Of responses to return routability checks.
+    Checks,
     Orders,
     Assess,
     Writer,
@@ -16,10 +18,11 @@ pub enum Kind {
 }
 
 impl Kind {
-    pub const ALL: [Kind; 9] = [
+    pub const ALL: [Kind; 10] = [
         Kind::Reader,
         Kind::Tables,
         Kind::Requests,
+        Kind::Checks,
         Kind::Orders,
         Kind::Assess,
         Kind::Writer,
@@ -33,6 +36,7 @@ impl Kind {
             Kind::Reader => "reader",
             Kind::Tables => "tables",
             Kind::Requests => "requests",
+            Kind::Checks => "checks",
             Kind::Orders => "orders",
             Kind::Assess => "responses",
             Kind::Writer => "writer",

@@ -3,6 +3,7 @@
 use crate::address::AddressPair;
 use crate::agreed::Agreed;
 use crate::lent_rules::BetweenRules;
+use crate::pending::{PendingCheck, MOST_COOKIE};
 use crate::policy::Policy;
 use crate::tables::{IkeRecord, IkeTable, IpsecRecord, IpsecTable, Record, Tables};
 use std::rc::Rc;
@@ -22,6 +23,9 @@ const PAIR: AddressPair = AddressPair {
     source_port: 0xa55a,
     destination_port: 0x5aa5,
 };
+
+const CHECK: PendingCheck =
+    PendingCheck { length: 0xa5, octets: [0x5a; MOST_COOKIE], id: 0xa55a_5aa5 };
 
 /// A list between records that are known.
 struct Lent<R> {
@@ -59,7 +63,7 @@ pub struct LentTables {
 impl LentTables {
     /// The tables, for a call that gives these SPIs of an IKE and of an IPsec record.
     pub fn new(tables: &Tables, spi: u64, ipsec_spi: u32) -> Self {
-        let ike = IkeRecord { spi, agreed: AGREED, pair: PAIR, ..IkeRecord::FREE };
+        let ike = IkeRecord { spi, agreed: AGREED, pair: PAIR, check: CHECK, ..IkeRecord::FREE };
         let ipsec = IpsecRecord { spi: ipsec_spi, owner: spi, pair: PAIR };
         LentTables {
             ike: Lent::new(&tables.ike.records, ike),

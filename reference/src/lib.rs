@@ -1,12 +1,14 @@
 // The second program: the gateway part modelled from the papers alone, and cases to run.
 pub mod address;
 pub mod agreed;
+pub mod asked;
 pub mod asking;
 pub mod asking_fields;
 pub mod assess;
 pub mod calls;
 pub mod cases;
 pub mod chain;
+pub mod check;
 pub mod closing;
 pub mod cookie;
 pub mod faults;
@@ -23,6 +25,7 @@ pub mod opening;
 pub mod opening_both;
 pub mod orders;
 pub mod outcome;
+pub mod pending;
 pub mod plain;
 pub mod policy;
 pub mod reader;

@@ -22,6 +22,9 @@ pub struct Request {
     /// The NAT detection values that the host lends.
     pub nat_source: Vec<u8>,
     pub nat_destination: Vec<u8>,
+    /// For the check of an update that is applied: the cookie of our request, and its ID.
+    pub cookie: Vec<u8>,
+    pub check_id: u32,
     pub first: u8,
     pub body: Vec<u8>,
     /// What the output holds before the call.
@@ -115,11 +118,13 @@ impl Request {
         }
     }
 
-    /// 1: "family not 4 or 6, IPv4 tail not zero, an SPI of 0, .. a lent NAT value not of 20 octets".
+    /// 1: "family not 4 or 6, IPv4 tail not zero, an SPI of 0, .. a lent NAT value not of 20 octets"; E6: "1 for
+    /// another cookie length".
     fn has_sound_arguments(&self, rules: &impl Rules) -> bool {
         self.spi != 0
             && rules.tables().is_pair_sound(&self.pair)
             && rules.requests().allows_values(&self.nat_source, &self.nat_destination)
+            && rules.requests().allows_cookie(self)
     }
 
     /// "A request is sound if checks 1 to 7 pass and, where it carries an update, those of 8 and 9 would pass too,

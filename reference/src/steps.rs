@@ -1,9 +1,9 @@
-// Steps 1 to 3 of a request that passed its checks: the tally, the update and the address list.
+// Steps 1 to 3 of a request that passed its checks: the tally, the update with its pending check, and the address list.
 use crate::address::{Address, AddressPair};
 use crate::request::{Passed, Request};
-use crate::rules::{PolicyRules, RequestRules, Rules, TableRules};
+use crate::rules::{PolicyRules, RequestRules, Rules};
 use crate::summary::Summary;
-use crate::tables::{IkeRecord, Tables};
+use crate::tables::{IkeRecord, IpsecRecord, Tables};
 
 /// What became of an update or of an address list.
 #[derive(Debug, Clone, Copy, PartialEq, Eq)]
@@ -72,18 +72,37 @@ pub fn update(
         tables.ike_mut()[passed.place].update_mark = mark(request.id);
     }
     fit?;
-    move_records(tables, passed.place, request.pair, rules);
+    move_records(tables, passed.place, request.pair, of_requests);
     Ok(Effect::Done)
 }
 
-/// The IKE record and all its IPsec records take the pair.
-fn move_records(tables: &mut Tables, place: usize, pair: AddressPair, rules: &impl Rules) {
+/// The IKE record takes the pair.
+fn move_records(
+    tables: &mut Tables,
+    place: usize,
+    pair: AddressPair,
+    rules: &(impl RequestRules + ?Sized),
+) {
     let meant = tables.ike.records[place];
-    for place in rules.requests().moved(&tables.ike.records, place) {
-        rules.requests().move_ike(&mut tables.ike_mut()[place], pair);
+    for place in rules.moved(&tables.ike.records, place) {
+        rules.move_ike(&mut tables.ike_mut()[place], pair);
     }
-    let owned = tables.ipsec_mut().iter_mut().filter(|record| rules.tables().owns(&meant, record));
-    owned.for_each(|record| record.pair = pair);
+    if tables.ipsec.records.iter().any(|record| rules.moves_at_once(&meant, record)) {
+        let moved = |record: &&mut IpsecRecord| rules.moves_at_once(&meant, record);
+        tables.ipsec_mut().iter_mut().filter(moved).for_each(|record| record.pair = pair);
+    }
+}
+
+/// The check that the record has pending, after step 2 has come to this.
+pub fn pending(
+    record: &mut IkeRecord,
+    request: &Request,
+    updated: Result<Effect, Unfit>,
+    rules: &(impl RequestRules + ?Sized),
+) {
+    if rules.keeps_check(updated) {
+        record.check = rules.kept_check(&record.check, request);
+    }
 }
 
 /// Step 3, with the number of addresses left off.

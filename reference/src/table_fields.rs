@@ -35,6 +35,9 @@ fn ike_fields(place: usize, record: &IkeRecord) -> Fields {
         ("list mark", record.list_mark.to_string()),
         ("list count", record.count.to_string()),
         ("tally", record.unknown.to_string()),
+        ("check's cookie length", record.check.length.to_string()),
+        ("check's cookie", show::hex(&record.check.octets)),
+        ("check's ID", record.check.id.to_string()),
     ];
     let mut fields =
         own.map(|(name, value)| (format!("IKE place {place}, {name}"), value)).to_vec();

@@ -1,6 +1,7 @@
 // The tables: IKE records and IPsec records in their places, and which place an SPI means.
 use crate::address::{Address, AddressPair};
 use crate::agreed::Agreed;
+use crate::pending::PendingCheck;
 use crate::policy::Policy;
 use crate::rules::TableRules;
 use crate::summary::MAX_KEPT;
@@ -34,6 +35,7 @@ pub struct IkeRecord {
     pub addresses: [Address; MAX_KEPT],
     /// The unknown tally.
     pub unknown: u32,
+    pub check: PendingCheck,
 }
 
 #[repr(C)]
@@ -73,6 +75,7 @@ impl Record for IkeRecord {
         count: 0,
         addresses: [Address::ZERO; MAX_KEPT],
         unknown: 0,
+        check: PendingCheck::NONE,
     };
 
     fn spi(&self) -> u64 {

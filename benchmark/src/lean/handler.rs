@@ -1,11 +1,11 @@
 // Handles one request: checks 1 to 7, then steps 1 to 4.
 use super::addresses::is_sound;
-use super::notify::{UNACCEPTABLE_ADDRESSES, UNEXPECTED_NAT_DETECTED};
+use super::notify::{is_cookie, UNACCEPTABLE_ADDRESSES, UNEXPECTED_NAT_DETECTED};
 use super::policy::acceptable;
 use super::reader::{read, Reading};
 use super::response::{self, ROOM};
-use unmavreth::limits::BODY_MOST;
-use unmavreth::{Address, IkeRecord, IpsecRecord, Pair, Policy, Request, Seen};
+use unmavreth::limits::{BODY_MOST, IPSEC_PLACES};
+use unmavreth::{Address, IkeRecord, IpsecRecord, Pair, PendingCheck, Policy, Request, Seen};
 
 #[derive(Default)]
 pub struct Reply {
@@ -28,13 +28,15 @@ const STALE: u8 = 2;
 #[inline]
 pub fn handle(
     ike: &mut [IkeRecord; 32],
-    ipsec: &mut [IpsecRecord],
+    ipsec: &[IpsecRecord],
     policy: &Policy,
     request: &Request<'_>,
     out: &mut [u8],
 ) -> Reply {
     let refused = |number| Reply { number, ..Reply::default() };
-    let Ok(ipsec) = <&mut [IpsecRecord; 128]>::try_from(ipsec) else { return refused(1) };
+    if ipsec.len() != IPSEC_PLACES || !is_cookie(request.cookie.len()) {
+        return refused(1);
+    }
     let Ok(nat_source) = request.nat_source.try_into() else { return refused(1) };
     let Ok(nat_destination) = request.nat_destination.try_into() else { return refused(1) };
     if request.spi == 0 || !is_sound(&request.pair) {
@@ -54,7 +56,7 @@ pub fn handle(
     if reading.number != 0 {
         return flawed(&reading, out);
     }
-    serve(record, ipsec, policy, request, [nat_source, nat_destination], &reading.seen, out)
+    serve(record, policy, request, [nat_source, nat_destination], &reading.seen, out)
 }
 
 #[cold]
@@ -70,7 +72,6 @@ fn flawed(reading: &Reading, out: &mut [u8; ROOM]) -> Reply {
 #[inline]
 fn serve(
     record: &mut IkeRecord,
-    ipsec: &mut [IpsecRecord; 128],
     policy: &Policy,
     request: &Request<'_>,
     [nat_source, nat_destination]: [&[u8; 20]; 2],
@@ -87,7 +88,7 @@ fn serve(
         cookie_len: seen.cookie_len,
         ..Reply::default()
     };
-    match update(record, ipsec, policy, request, seen) {
+    match update(record, policy, request, seen) {
         Ok(effect) => reply.update = effect,
         Err((number, kind)) => {
             reply.number = number;
@@ -110,7 +111,6 @@ fn serve(
 #[inline]
 fn update(
     record: &mut IkeRecord,
-    ipsec: &mut [IpsecRecord; 128],
     policy: &Policy,
     request: &Request<'_>,
     seen: &Seen,
@@ -131,19 +131,17 @@ fn update(
         return Err((9, UNACCEPTABLE_ADDRESSES));
     }
     record.pair = request.pair;
-    move_owned(ipsec, request.spi, request.pair);
+    keep_check(&mut record.check, request);
     Ok(DONE)
 }
 
-/// By eights, which the compiler writes out.
-#[inline(never)]
-fn move_owned(ipsec: &mut [IpsecRecord; 128], owner: u64, pair: Pair) {
-    for eight in ipsec.as_chunks_mut::<8>().0 {
-        for owned in eight {
-            if owned.owner == owner && owned.spi != 0 {
-                owned.pair = pair;
-            }
-        }
+/// The cookie, zeros behind it, and the ID.
+#[inline]
+fn keep_check(check: &mut PendingCheck, request: &Request<'_>) {
+    *check = PendingCheck { id: request.check_id, ..PendingCheck::NONE };
+    if let Some(octets) = check.octets.get_mut(..request.cookie.len()) {
+        octets.copy_from_slice(request.cookie);
+        check.length = request.cookie.len() as u8;
     }
 }
 

@@ -6,6 +6,7 @@
 
 mod addresses;
 mod assess;
+mod check;
 mod handler;
 mod notify;
 mod opening;
@@ -15,6 +16,7 @@ mod response;
 mod writer;
 
 pub use assess::{assess, Assessment};
+pub use check::check;
 pub use handler::{handle, Reply};
 pub use opening::open;
 pub use policy::acceptable;

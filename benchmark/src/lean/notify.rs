@@ -28,5 +28,11 @@ pub fn header(next: u8, kind: u16, data: usize) -> [u8; 8] {
 /// Whether a cookie may be sent: none, or one of 8 to 64 octets.
 #[inline]
 pub fn may_be_sent(octets: usize) -> bool {
-    octets == 0 || (8..=64).contains(&octets)
+    octets == 0 || is_cookie(octets)
+}
+
+/// Whether a cookie may have so many octets.
+#[inline]
+pub fn is_cookie(octets: usize) -> bool {
+    (8..=64).contains(&octets)
 }

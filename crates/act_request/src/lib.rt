@@ -1,5 +1,5 @@
 // The entry of a request.
-use given::calling::request_in;
+use calling::request_in;
 use given::outcome::Outcome;
 use given::outcome::replied;
 use given::reading::Slots;
@@ -31,6 +31,7 @@ pub fn request_entry(
     let nat_source = string_at(window, q.nat_source);
     let nat_destination = string_at(window, q.nat_destination);
     let body = string_at(window, q.body);
+    let cookie = string_at(window, q.cookie);
     let r = unmavreth_handle(
         ike,
         ipsec,
@@ -40,6 +41,8 @@ pub fn request_entry(
         q.pair,
         nat_source,
         nat_destination,
+        cookie,
+        q.check_id,
         q.first,
         body,
         out,

@@ -1,5 +1,5 @@
 // A record that is shown, once a trace is at its end.
-use given::calling::place_in;
+use calling::place_in;
 use given::outcome::Outcome;
 use given::outcome::shown_ike;
 use given::outcome::shown_ipsec;

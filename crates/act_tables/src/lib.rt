@@ -1,8 +1,8 @@
 // The entries that open and close records: each is passed on to the call that a host links.
-use given::calling::child_in;
-use given::calling::opening_in;
-use given::calling::owner_in;
-use given::calling::spi_in;
+use calling::child_in;
+use calling::opening_in;
+use calling::owner_in;
+use calling::spi_in;
 use given::outcome::Outcome;
 use given::outcome::numbered;
 use given::reading::Slots;

@@ -1,4 +1,5 @@
 // Whatever an entry stands for, by the number of its kind.
+use act_check::check_entry;
 use act_policy::policy_entry;
 use act_request::request_entry;
 use act_shown::show_ike;
@@ -29,6 +30,8 @@ const CLOSE_IPSEC: u8 = 3;
 const REQUEST: u8 = 4;
 
 const POLICY: u8 = 5;
+
+const CHECK_RESPONSE: u8 = 6;
 
 // Makes the call of an entry; of any other number it shows a record.
 pub fn perform(
@@ -62,6 +65,9 @@ pub fn perform(
     }
     if e.kind == POLICY {
         return policy_entry(ike, ipsec, policy, window, e, out);
+    }
+    if e.kind == CHECK_RESPONSE {
+        return check_entry(ike, ipsec, policy, window, e, out);
     }
     if e.kind == SHOW_IKE {
         return show_ike(ike, ipsec, policy, window, e, out);

@@ -2,7 +2,7 @@
 -- exported calls' contracts on what `Given` takes from the slots.
 --   Gateway                 the tables and the policy that calls are made on
 --   Performed, Performs     what is printed and what is left, and that the code gives and leaves it
---   openedBy … handledBy    of each kind; ikeShownBy, ipsecShownBy: of a record that is shown
+--   openedBy … checkedBy    of each kind; ikeShownBy, ipsecShownBy: of a record that is shown
 --   performed               of whatever number
 use Prim.Native.Nat.{ℕ}
 use mathlib.Core.Path.{_≡_}
@@ -18,8 +18,11 @@ use Rattle.policy.specs.declared.rules.Policy.{Policy}
 use Rattle.tables.specs.Calls.{openBoth, openIpsec, closeIke, closeIpsec}
 use Rattle.answering.specs.Core.{asked}
 use Rattle.checking.specs.Checks.{Request, requestOf}
+use Rattle.records.specs.Pending.{checkOf}
 use Rattle.responder.specs.Handle.{handled}
-use Rattle.given.specs.Given.{openingIn, requestIn, rulesIn, spiIn, childIn, ownerIn, countIn, stringIn}
+use Rattle.routability.specs.Routability.{CheckResponse, checkResponse, checked}
+use Rattle.given.specs.Given.{rulesIn, countIn, stringIn}
+use Rattle.calling.specs.Calling.{openingIn, requestIn, responseIn, spiIn, childIn, ownerIn}
 use Rattle.given.specs.Outcome.{numberedBy, repliedBy, shownOf}
 use Rattle.given.specs.declared.outcome.Outcome.{Outcome}
 
@@ -78,12 +81,24 @@ requestBy s slots room =
     let nat-source = stringIn s (q .«nat_source» .at) (q .«nat_source» .size) in
     let nat-destination = stringIn s (q .«nat_destination» .at) (q .«nat_destination» .size) in
     let body = stringIn s (q .body .at) (q .body .size) in
-    requestOf (q .spi) (asked (q .id) (q .pair) nat-source nat-destination (q .first) body) room
+    let check = checkOf (stringIn s (q .cookie .at) (q .cookie .size)) (q .«check_id») in
+    requestOf (q .spi) (asked (q .id) (q .pair) nat-source nat-destination (q .first) body check) room
 
 abbrev pub handledBy : List ℕ → List ℕ → ℕ → Gateway → Performed
 handledBy s slots room g =
     let a = handled (g .policy) (g .ike) (g .ipsec) (requestBy s slots room) in
-    gives (repliedBy (a .reply)) (gateway (a .ike) (a .ipsec) (g .policy))
+    gives (repliedBy (a .reply)) (gateway (a .ike) (g .ipsec) (g .policy))
+
+-- the response to a check; of what is told of it the number is printed
+abbrev pub responseBy : List ℕ → List ℕ → CheckResponse
+responseBy s slots =
+    let q = responseIn slots in
+    checkResponse (q .spi) (q .id) (q .first) (stringIn s (q .body .at) (q .body .size))
+
+abbrev pub checkedBy : List ℕ → List ℕ → Gateway → Performed
+checkedBy s slots g =
+    let a = checked (g .ike) (g .ipsec) (responseBy s slots) in
+    gives (numberedBy (a .told .number)) (gateway (a .ike) (a .ipsec) (g .policy))
 
 abbrev pub ikeShownBy : List ℕ → Gateway → Performed
 ikeShownBy slots g =
@@ -102,4 +117,5 @@ performed kind s slots room =
     (cond (eqb kind 2) (closedBy slots)
     (cond (eqb kind 3) (childClosedBy slots)
     (cond (eqb kind 4) (handledBy s slots room)
-    (cond (eqb kind 5) (policySetBy s slots) (cond (eqb kind 254) (ikeShownBy slots) (ipsecShownBy slots)))))))
+    (cond (eqb kind 5) (policySetBy s slots)
+    (cond (eqb kind 6) (checkedBy s slots) (cond (eqb kind 254) (ikeShownBy slots) (ipsecShownBy slots))))))))

@@ -8,7 +8,7 @@
 --   decisionOn        steps 1 to 3 on what was read
 --   coreNotifies      the response, as notifications; `coreResponse` its octets
 --   coreAnswer        what is told, and what changes in the record: `wholeAnswer` or `brokenAnswer`
---   coreResult        what is told, the record after it, and whether its IPsec records follow
+--   coreResult        what is told, and the record after it
 use Prim.Native.Nat.{ℕ}
 use mathlib.Core.List.{List, [], _∷_}
 use mathlib.Core.Bool.{Bool, cond}
@@ -23,6 +23,7 @@ use Rattle.findings.specs.declared.seen.Seen.{Seen}
 use Rattle.reader.specs.Chain.{reading}
 use Rattle.reader.specs.declared.read.Reading.{Reading}
 use Rattle.records.specs.Records.{marksIn}
+use Rattle.records.specs.declared.check.PendingCheck.{PendingCheck}
 use Rattle.records.specs.declared.ike.IkeRecord.{IkeRecord}
 use Rattle.records.specs.declared.ike.Marks.{Marks}
 use Rattle.deciding.specs.Decide.{decided}
@@ -30,11 +31,12 @@ use Rattle.deciding.specs.declared.decide.Decision.{Decision}
 use Rattle.verdict.specs.declared.update.Verdict.{Verdict}
 use Rattle.responding.specs.Respond.{wantsNats, errorThen, responseTo, toldOf}
 use Rattle.replying.specs.Change.{changedBy}
-use Rattle.replying.specs.Reply.{errorReply, decidedAnswer, unchangedAnswer, moved}
+use Rattle.replying.specs.Reply.{errorReply, decidedAnswer, unchangedAnswer}
 use Rattle.replying.specs.declared.reply.Reply.{Reply}
 use Rattle.replying.specs.declared.reply.CoreAnswer.{CoreAnswer}
 
--- What a request asks of the record that its SPI means.
+-- What a request asks of the record that its SPI means. 02, E6: the cookie and the ID of our request are "both lent with
+-- every request"; here they stand as the check that they make.
 pub record Asked : Type 0 where
   pub id : ℕ
   pub pair : Pair
@@ -42,10 +44,11 @@ pub record Asked : Type 0 where
   pub nat-destination : List ℕ
   pub first : ℕ
   pub body : List ℕ
+  pub check : PendingCheck
 
 -- what the core is asked: the SPI and the output's length were looked at before
-abbrev pub asked : ℕ → Pair → List ℕ → List ℕ → ℕ → List ℕ → Asked
-asked id pair nat-source nat-destination first body =
+abbrev pub asked : ℕ → Pair → List ℕ → List ℕ → ℕ → List ℕ → PendingCheck → Asked
+asked id pair nat-source nat-destination first body check =
     record {
       id = id;
       pair = pair;
@@ -53,6 +56,7 @@ asked id pair nat-source nat-destination first body =
       nat-destination = nat-destination;
       first = first;
       body = body;
+      check = check;
     }
 
 -- 01, the numbers 6 and 7: "INVALID_SYNTAX (7)", "UNSUPPORTED_CRITICAL_PAYLOAD (1), data: its type"; they "copy no
@@ -104,13 +108,12 @@ unfoldable pub coreAnswer : Bool → Asked → Marks → CoreAnswer
 coreAnswer accepted q m =
     cond (eqb (reading (q .first) (q .body) .number) (numberOf Done)) (wholeAnswer accepted q m) (brokenAnswer q m)
 
--- What a request comes to on its record: the reply, the record after it, and whether its IPsec records follow.
+-- What a request comes to on its record: the reply, and the record after it.
 pub record CoreResult : Type 0 where
   pub reply : Reply
   pub entry : IkeRecord
-  pub moves : Bool
 
 abbrev pub coreResult : Bool → Asked → IkeRecord → CoreResult
 coreResult accepted q r =
     let a = coreAnswer accepted q (marksIn r) in
-    record { reply = a .reply; entry = changedBy a (q .pair) (q .body) r; moves = moved a }
+    record { reply = a .reply; entry = changedBy a (q .pair) (q .check) (q .body) r }

@@ -13,6 +13,7 @@ use Rattle.octets.specs.Lists.{all}
 use Rattle.octets.proofs.Checks.{EachFailed, all-passed, first-failed, numbers-pass}
 use Rattle.octets.proofs.Small.{both}
 use Rattle.address.specs.Address.{pairFits}
+use Rattle.records.specs.Pending.{isPending}
 use Rattle.records.specs.declared.ike.Agreed.{Agreed}
 use Rattle.checking.specs.Checks.{Request, argumentsFit, requestChecks, earlyNumberBy}
 
@@ -21,6 +22,7 @@ module _ (lent : ℕ) (there : Bool) (agreed : Agreed) (q : Request) where
     pub named : not (eqb (q .spi) 0) ≡ true
     pub nat-source : length (q .asks .nat-source) ≡ natOctets
     pub nat-destination : length (q .asks .nat-destination) ≡ natOctets
+    pub check : isPending (q .asks .check) ≡ true
     pub pair : pairFits (q .asks .pair) ≡ true
     pub room-enough : responseRoom ≤ q .room
     pub short : length (q .asks .body) ≤ bodyMost
@@ -34,13 +36,14 @@ module _ (lent : ℕ) (there : Bool) (agreed : Agreed) (q : Request) where
       let fit = both (eqb lent ipsecPlaces) _ (not-false _ (c .0)) .1 in
       let named = both (not (eqb (q .spi) 0)) _ fit in
       let source = both (eqb (length (q .asks .nat-source)) natOctets) _ (named .1) in
-      let destination =
-      both (eqb (length (q .asks .nat-destination)) natOctets) (pairFits (q .asks .pair)) (source .1) in
+      let destination = both (eqb (length (q .asks .nat-destination)) natOctets) _ (source .1) in
+      let check = both (isPending (q .asks .check)) (pairFits (q .asks .pair)) (destination .1) in
       record {
         named = named .0;
         nat-source = eqb-true _ natOctets (source .0);
         nat-destination = eqb-true _ natOctets (destination .0);
-        pair = destination .1;
+        check = check .0;
+        pair = check .1;
         room-enough = ltb-false (q .room) responseRoom (c .1 .0);
         short = ltb-false bodyMost (length (q .asks .body)) (c .1 .1 .0);
         found = not-false there (c .1 .1 .1 .0);

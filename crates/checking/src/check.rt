@@ -10,6 +10,8 @@ use octets::limits::IPSEC_PLACES;
 use octets::limits::NAT_OCTETS;
 use octets::limits::RESPONSE_ROOM;
 use octets::number::Number;
+use records::check::PendingCheck;
+use records::check::is_pending;
 ghost use mathlib.Core.Path.{_≡_};
 ghost use mathlib.Core.Bool.{_&&_};
 ghost use lib.Dec.{eqb};
@@ -26,9 +28,10 @@ pub fn arguments_fit(
     pair: Pair,
     nat_source: &[u8],
     nat_destination: &[u8],
+    check: PendingCheck,
 ) -> bool
     ensures { λ r. ⌜ (
-        let fit = argumentsFit spi pair (now («nat_source» .entry)) (now («nat_destination» .entry)) in
+        let fit = argumentsFit spi pair (now («nat_source» .entry)) (now («nat_destination» .entry)) check in
         r ≡ eqb size ipsecPlaces && fit
         ) ⌝ }
 {
@@ -39,6 +42,9 @@ pub fn arguments_fit(
         return false;
     }
     if size != IPSEC_PLACES {
+        return false;
+    }
+    if !is_pending(check) {
         return false;
     }
     if pair_fits(pair) { spi != 0 } else { false }
@@ -62,7 +68,15 @@ pub fn early_number(
 {
     let pair = packet.pair;
     let marks = looked.marks;
-    if !arguments_fit(looked.size, packet.spi, pair, nat_source, nat_destination) {
+    let check = packet.check;
+    if !arguments_fit(
+        looked.size,
+        packet.spi,
+        pair,
+        nat_source,
+        nat_destination,
+        check,
+    ) {
         return Number::BadArgument;
     }
     if room < RESPONSE_ROOM {

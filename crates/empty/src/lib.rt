@@ -11,13 +11,15 @@ use records::ike::no_ike;
 use records::ipsec::IpsecRecord;
 use records::ipsec::no_ipsec;
 ghost use mathlib.Core.Path.{_≡_};
-ghost use lib.ListN.{replicate};
+ghost use Prim.Native.Nat.{_≤_};
+ghost use lib.ListN.{length, replicate};
 ghost use Rattle.octets.specs.Limits.{ikePlaces, ipsecPlaces, rulesMost};
 ghost use Rattle.policy.specs.Policy.{noRule};
 ghost use Rattle.records.specs.Records.{noIke, noIpsec};
+ghost use Rattle.entry_laws.specs.Sight.{entrySight};
 
-// The octets of the window: an entry and what must be seen behind it fit.
-pub const WINDOW: usize = 16384;
+// The octets of the window: as many as decide any entry fit.
+pub const WINDOW: usize = 20480;
 
 pub fn no_ikes() -> [IkeRecord; IKE_PLACES]
     ensures { λ r. ⌜ r ≡ replicate ikePlaces noIke ⌝ }
@@ -47,7 +49,9 @@ pub fn no_policy() -> Policy
     Policy { count: 0, rules }
 }
 
-pub fn no_window() -> [u8; WINDOW] {
+pub fn no_window() -> [u8; WINDOW]
+    ensures { λ r. ⌜ entrySight ≤ length r ⌝ }
+{
     [0u8; WINDOW]
 }
 

@@ -3,7 +3,7 @@ use mathlib.Core.Path.{refl}
 use native.Mathlib.Omega.{arith}
 use Rattle.entries.specs.Slots.{Enough, Widest}
 use Rattle.entries.specs.declared.kind.Kind.the-variants.{OpenBoth, AddIpsec, CloseIke, CloseIpsec, Request}
-use Rattle.entries.specs.declared.kind.Kind.the-variants.{Policy}
+use Rattle.entries.specs.declared.kind.Kind.the-variants.{Policy, CheckResponse}
 
 pub widest : Widest
 widest = record { enough = enough; needed = refl }
@@ -15,3 +15,4 @@ widest = record { enough = enough; needed = refl }
     enough CloseIpsec = omega arith
     enough Request = omega arith
     enough Policy = omega arith
+    enough CheckResponse = omega arith

@@ -1,7 +1,7 @@
 -- Trusted. The kinds of entries of a trace and the fields of each (02, E3): "An entry is kind (0 open both, 1 add
 -- IPsec, 2 close IKE, 3 close IPsec, 4 request, 5 policy) and its fields in document 01's order, lists led by their
 -- count (at most 16), octet strings by their length (at most 4,096), addresses bare; later table calls and fields join
--- at the end as named".
+-- at the end as named": the response to a check is kind 6 (02, E6).
 --   kindNumber k   the number of a kind
 --   fieldsOf k     its fields; a new field is a line at the end, a new kind a line in each
 use Prim.Native.Nat.{ℕ}
@@ -9,7 +9,7 @@ use mathlib.Core.List.{List, [], _∷_, _++_}
 use Rattle.fields.specs.Fields.{Field, bits, address, string, listOf, _then_, inOrder}
 use Rattle.entries.specs.declared.kind.Kind.{Kind}
 use Rattle.entries.specs.declared.kind.Kind.the-variants.{OpenBoth, AddIpsec, CloseIke, CloseIpsec, Request}
-use Rattle.entries.specs.declared.kind.Kind.the-variants.{Policy}
+use Rattle.entries.specs.declared.kind.Kind.the-variants.{Policy, CheckResponse}
 
 abbrev pub kindNumber : Kind → ℕ
 kindNumber OpenBoth = 0
@@ -18,6 +18,7 @@ kindNumber CloseIke = 2
 kindNumber CloseIpsec = 3
 kindNumber Request = 4
 kindNumber Policy = 5
+kindNumber CheckResponse = 6
 
 -- 01: "A pair is, in this order, family, source, destination, source port, destination port"; "Addresses travel as 16
 -- octets each".
@@ -51,6 +52,10 @@ fieldsOf AddIpsec = inOrder (bits 32 ∷ bits 64 ∷ [])
 fieldsOf CloseIke = inOrder (bits 64 ∷ [])
 fieldsOf CloseIpsec = inOrder (bits 32 ∷ [])
 -- 01: "A request is given as SPI, ID, packet's pair, the two NAT values, first type, body."
-fieldsOf Request = inOrder (bits 64 ∷ bits 32 ∷ pairFields ++ (string ∷ string ∷ bits 8 ∷ string ∷ []))
+-- E6: "a cookie of 8 to 64 octets and the ID of our request, both lent with every request"
+fieldsOf Request =
+    inOrder (bits 64 ∷ bits 32 ∷ pairFields ++ (string ∷ string ∷ bits 8 ∷ string ∷ string ∷ bits 32 ∷ []))
 -- the rules, and what follows them
 fieldsOf Policy = listOf (inOrder ruleFields) then inOrder []
+-- E6: "a response (SPI, ID, first type, body)"
+fieldsOf CheckResponse = inOrder (bits 64 ∷ bits 32 ∷ bits 8 ∷ string ∷ [])

@@ -10,6 +10,7 @@ pub enum Kind {
     CloseIpsec,
     Request,
     Policy,
+    CheckResponse,
 }
 
 pub enum Known {
@@ -38,6 +39,9 @@ pub fn kind_of(n: u64) -> Known
     if n == 5 {
         return Known::Is(Kind::Policy);
     }
+    if n == 6 {
+        return Known::Is(Kind::CheckResponse);
+    }
     Known::Unknown
 }
 
@@ -51,5 +55,6 @@ pub fn kind_number(kind: Kind) -> u8
         Kind::CloseIpsec => 3,
         Kind::Request => 4,
         Kind::Policy => 5,
+        Kind::CheckResponse => 6,
     }
 }

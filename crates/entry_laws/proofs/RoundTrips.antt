@@ -26,7 +26,7 @@ use Rattle.entries.specs.Entries.{Entry, entryFits, entryOctets, kindOf, asEntr
 use Rattle.entry_laws.specs.RoundTrips.{EntryReads, EntryTold, Entries}
 use Rattle.entries.specs.declared.kind.Kind.{Kind}
 use Rattle.entries.specs.declared.kind.Kind.the-variants.{OpenBoth, AddIpsec, CloseIke, CloseIpsec, Request}
-use Rattle.entries.specs.declared.kind.Kind.the-variants.{Policy}
+use Rattle.entries.specs.declared.kind.Kind.the-variants.{Policy, CheckResponse}
 use Rattle.entries.specs.declared.kind.Known.{Known}
 use Rattle.entries.specs.declared.kind.Known.the-variants as known
 
@@ -56,6 +56,7 @@ kind-narrow? CloseIke = refl
 kind-narrow? CloseIpsec = refl
 kind-narrow? Request = refl
 kind-narrow? Policy = refl
+kind-narrow? CheckResponse = refl
 
 pub of-kind : (k : Kind) → RoundTrips (fieldsOf k)
 of-kind k = each-field (fieldsOf k) (is-narrow (fieldsOf k) (kind-narrow? k))
@@ -68,6 +69,7 @@ kind-back CloseIke = refl
 kind-back CloseIpsec = refl
 kind-back Request = refl
 kind-back Policy = refl
+kind-back CheckResponse = refl
 
 number-small : (k : Kind) → kindNumber k < 2 ^ 64
 number-small OpenBoth = omega arith
@@ -76,6 +78,7 @@ number-small CloseIke = omega arith
 number-small CloseIpsec = omega arith
 number-small Request = omega arith
 number-small Policy = omega arith
+number-small CheckResponse = omega arith
 
 -- ---- one entry
 reads-entry : (e : Entry) (s : List ℕ) (at : ℕ) (rest : List ℕ) → entryFits e ≡ true → drop at s ≡ entryOctets e ++ rest
@@ -108,7 +111,7 @@ kind-was n k =
     (pick n 1 AddIpsec k _ refl
     (pick n 2 CloseIke k _ refl
     (pick n 3 CloseIpsec k _ refl (pick n 4 Request k _ refl
-    (pick n 5 Policy k _ refl (λ e. absurd (not-known e)))))))
+    (pick n 5 Policy k _ refl (pick n 6 CheckResponse k _ refl (λ e. absurd (not-known e))))))))
 
 told-as : {s : List ℕ} {at : ℕ} {e e' : Entry} {slots slots' : List ℕ} {next next' : ℕ} → e ≡ e' → slots ≡ slots'
     → next ≡ next'

@@ -18,10 +18,10 @@ use Rattle.field_laws.proofs.Sight.{number-stays, number-same, decided}
 use Rattle.field_laws.proofs.Told.{number-is}
 use Rattle.entries.specs.Kinds.{kindNumber, fieldsOf}
 use Rattle.entries.specs.Entries.{Entry, kindOf, asEntry, ofKind, afterKind, entryAt}
-use Rattle.entry_laws.specs.Sight.{entrySight, InSight}
+use Rattle.entry_laws.specs.Sight.{entryMost, entrySight, InSight}
 use Rattle.entries.specs.declared.kind.Kind.{Kind}
 use Rattle.entries.specs.declared.kind.Kind.the-variants.{OpenBoth, AddIpsec, CloseIke, CloseIpsec, Request}
-use Rattle.entries.specs.declared.kind.Kind.the-variants.{Policy}
+use Rattle.entries.specs.declared.kind.Kind.the-variants.{Policy, CheckResponse}
 use Rattle.entries.specs.declared.kind.Known.{Known}
 use Rattle.entries.specs.declared.kind.Known.the-variants as known
 use Rattle.entry_laws.proofs.RoundTrips.{kind-was}
@@ -34,12 +34,13 @@ each-kind CloseIke = omega arith
 each-kind CloseIpsec = omega arith
 each-kind Request = omega arith
 each-kind Policy = omega arith
+each-kind CheckResponse = omega arith
 
 exactly : 1 + sight (fieldsOf Request) ≡ entrySight
 unfolding octetsOf groups
 exactly = refl
 
-as-long : 1 + longest (fieldsOf Request) ≡ entrySight
+as-long : 1 + longest (fieldsOf Request) ≡ entryMost
 unfolding octetsOf groups
 as-long = refl
 
@@ -50,6 +51,7 @@ below CloseIke = omega arith
 below CloseIpsec = omega arith
 below Request = omega arith
 below Policy = omega arith
+below CheckResponse = omega arith
 
 -- a known kind has one octet
 kind-octet : (n : ℕ) (k : Kind) → kindOf n ≡ known.Is k → length (octetsOf n) ≡ 1

@@ -28,7 +28,7 @@ use Rattle.answering.specs.Core.{cookieIn, decisionOn, coreAnswer, coreResponse
 use Rattle.responding.specs.Respond.{wantsNats, responseTo}
 use Rattle.verdict.specs.declared.update.Verdict.the-variants as verdict
 use Rattle.checking.specs.Checks.{Request as Received}
-use Rattle.responder.specs.Handle.{meant, accepts, earlyNumber, handled, handledResponse}
+use Rattle.responder.specs.Handle.{accepts, earlyNumber, handled, handledResponse}
 use Rattle.verdict.proofs.Numbers.{verdict-of, number-accepted}
 use Rattle.checking.proofs.Checks.{passed, early-passes}
 use Rattle.asking.specs.Draft.{Draft, draft, requested, requestOctets}
@@ -41,6 +41,7 @@ use Rattle.exchange.specs.RoundTrips.{given, Sized, allKnown, GivenBack}
 use Rattle.exchange.specs.Exchange.{Accepted, Understood, AllUnderstood}
 use Rattle.exchange.proofs.Asked.{all-below, sized-at}
 use Rattle.exchange.proofs.FirstTrip.{given-back, fits-written, number-zero}
+use Rattle.tables.specs.Tables.{meant}
 
 -- The numbers that the first five checks and the decision give are no fault's: all are under 61, and none is 7.
 abbrev Other : ℕ → Type 0

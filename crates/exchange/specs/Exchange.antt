@@ -26,7 +26,7 @@ use Rattle.initiator.specs.declared.response.Outcome.the-variants as told
 use Rattle.exchange.specs.RoundTrips.{Sized}
 
 -- What the hosts must do: hand the responder the first type and the octets that the writer gave. The SPI, the ID, the
--- packet's pair, the lent NAT values and the responder's output are free.
+-- packet's pair, the lent NAT values, the check that is lent and the responder's output are free.
 pub record Carried (q : Draft) (room : ℕ) (r : Received) : Type 0 where
   pub first : r .asks .first ≡ written q room .first
   pub body : r .asks .body ≡ writtenOctets q room

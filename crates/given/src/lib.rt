@@ -1,5 +1,4 @@
-// What an entry of a trace gives to its call, and what of the call's answer is printed.
-pub mod calling;
+// What the slots of an entry point to, its rules, and what of a call's answer is printed.
 pub mod outcome;
 pub mod reading;
 pub mod rules;

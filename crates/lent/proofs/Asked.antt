@@ -1,6 +1,7 @@
 -- The calls on the lent list and the lent table that several walks make, each as one step, known by the callee's contract alone. At the head of the context stand what the reference owns and its token, and while the operands are read two items in their stead; what is passed for good leaves what says its last value, behind one item.
 --     counts, finds-ipsec, reads-ipsec, stores-ipsec      a `&mut [IpsecRecord]` to `ipsec_count`, to `ipsec_place`, to
---                      `ipsec_at`, and for good to `ipsec_store`
+--                      `ipsec_at`, and for good to `ipsec_store`.        counts-read      a `&[IpsecRecord]` for good to
+--                      `ipsec_count`
 --     finds-ike, reads-ike, stores-ike       a `&mut [IkeRecord; IKE_PLACES]` to `ike_place`, to `ike_at`, and for good
 --                      to `ike_store`.        changes-ike      the same to `ike_change`, beside a `&[u8]`
 --     reads-lent, stores-policy      a `&mut Policy` to `policy_of`, and for good to `policy_store`.        asks-policy      a `&Policy` to
@@ -23,8 +24,11 @@ use Rattle.policy.specs.declared.rules.Rule.{Rule}
 use Rattle.policy.proofs.rules.Policy as Y
 use Rattle.policy.proofs.rules.Policy.Laws as Y′
 use Rattle.records.specs.Records.{ikeSpi, ipsecSpi, noIke, noIpsec}
+use Rattle.records.specs.declared.check.PendingCheck.{PendingCheck}
 use Rattle.records.specs.declared.ike.IkeRecord.{IkeRecord}
 use Rattle.records.specs.declared.ipsec.IpsecRecord.{IpsecRecord}
+use Rattle.records.proofs.check.PendingCheck as N
+use Rattle.records.proofs.check.PendingCheck.Laws as N′
 use Rattle.records.proofs.ike.IkeRecord as I
 use Rattle.records.proofs.ike.IkeRecord.Laws as I′
 use Rattle.records.proofs.ipsec.IpsecRecord as S
@@ -69,6 +73,16 @@ module _ {M : Type 1} {𝓤 : URA M} {H : Heap 𝓤} {A : Atoms 𝓤} {K : Type 
         → Step K W (‵ (MutSlice erased κ R .own x (slice-vals x)) ∷ ‵ (flft κ q) ∷ Γ) (lands C Λ E d (vint w64 (length (x .now))) rest p) (‵ (MutSlice erased κ R .own x (slice-vals x)) ∷ ‵ (flft κ q) ∷ Γ) (runs C Λ E (seq (call count-def.name ops d) rest) p)
     counts known room os = step (λ s. lent-list t tt R x [] tt tt tt tt (λ ν δ. calls-for t fm count.ended (count.clauses 𝓤 H A at-mem run) known (((ν ∷ [], tt), (fullShare, tt), tt, (renamed δ x, tt), (slice-vals x, tt)), tt) (id⊢ 𝓤 _) (os _ _)
         (uint-vals w64) (uint-tells w64) (length (x .now)) (λ r ws. id⊢ 𝓤 _) (λ is. list-over t tt R x room $ s)))
+
+    pub counts-read : Triple 𝓤 (C count-def.name) (Told 𝓤 H A count.ended (count.clauses 𝓤 H A at-mem run))
+        → ((i : Item 𝓤) → Opds K W (i ∷ Γ) E ops (slice-vals x))
+        → Step K W (‵ (flft κ q) ∷ Γ) (lands C Λ E d (vint w64 (length (x .now))) rest p)
+        (‵ (ShrSlice erased κ R .own x (slice-vals x)) ∷ ‵ (flft κ q) ∷ Γ)
+        (runs C Λ E (seq (call count-def.name ops d) rest) p)
+    counts-read known os = step (λ s. gives t [] tt tt tt tt $
+        calls-for t fm count.ended (count.clauses 𝓤 H A at-mem run) known
+        (((κ, tt), (q, tt), tt, (x, tt), (slice-vals x, tt)), tt) (id⊢ 𝓤 _) (os _) (uint-vals w64) (uint-tells w64)
+        (length (x .now)) (λ r ws. id⊢ 𝓤 _) (λ is. no-token t $ s))
 
     pub finds-ipsec : Triple 𝓤 (C place-def.name) (Told 𝓤 H A place.ended (place.clauses 𝓤 H A at-mem run)) → Room R (length (x .now)) → (k : ℕ) → k < 2 ^ 32 → ((i j : Item 𝓤) → Opds K W (i ∷ j ∷ Γ) E ops (only (slice-vals x) ∷ vint w32 k ∷ []))
         → (placeOf ipsecSpi k (x .now) < 2 ^ 64 → Seq K W (‵ (MutSlice erased κ R .own x (slice-vals x)) ∷ ‵ (flft κ q) ∷ Γ) (lands C Λ E d (vint w64 (placeOf ipsecSpi k (x .now))) rest p)) → Seq K W (‵ (MutSlice erased κ R .own x (slice-vals x)) ∷ ‵ (flft κ q) ∷ Γ) (runs C Λ E (seq (call place-def.name ops d) rest) p)
@@ -121,15 +135,42 @@ module _ {M : Type 1} {𝓤 : URA M} {H : Heap 𝓤} {A : Atoms 𝓤} {K : Type 
         calls-to t fm put.ended (put.clauses 𝓤 H A at-mem run) known (((κ, tt), (q, tt), tt, (x, (i, (new, tt))), (ptr-vals x, (uint-vals w64 i, (Ike.rec-vals new, tt)))), tt) (id⊢ 𝓤 _) (os _)
         nothing-tells (λ ws. ws .0 ≡ set (x .now) i new) (λ r ws. id⊢ 𝓤 _) (λ ws e. ref-last t $ s (ws .0) e)
 
-    pub changes-ike : Triple 𝓤 (C change-def.name) (Told 𝓤 H A change.ended (change.clauses 𝓤 H A at-mem run)) → (i : ℕ) (c : CoreAnswer) (pair : Pair) {κ′ : Lft} {q′ : Share} (body : RefT (List ℕ)) → Is usize i (uint-vals w64 i) → Is D.the-row c (LL.vals D.the-type D′.the-laws c) → Is P.the-row pair (LL.vals P.the-type P′.the-laws pair)
-        → ((j : Item 𝓤) → Opds K W (j ∷ Γ) E ops (vptr (x .ptr .0) (x .ptr .1) ∷ vint w64 i ∷ only (LL.vals D.the-type D′.the-laws c) ∷ only (LL.vals P.the-type P′.the-laws pair) ∷ only (slice-vals body) ∷ []))
-        → ((zs : List IkeRecord) → zs ≡ set (x .now) i (changedBy c pair (body .now) (getD (x .now) i noIke)) → Seq K W (‵ (fres (x .name) (Ike.Q .coded .code zs)) ∷ ‵ (flft κ q) ∷ ‵ (flft κ′ q′) ∷ Γ) (lands C Λ E d vunit rest p))
-        → Seq K W (‵ (MutRef erased κ Ike.Q .own x (ptr-vals x)) ∷ ‵ (flft κ q) ∷ ‵ (ShrSlice erased κ′ u8 .own body (slice-vals body)) ∷ ‵ (flft κ′ q′) ∷ Γ) (runs C Λ E (seq (call change-def.name ops d) rest) p)
-    changes-ike known i c pair {κ′} {q′} body i-is c-is pair-is os s =
-        nothing t $ move t (3 ∷ 0 ∷ []) $ fjoin t $ owned t P.the-row (Is P.the-row) (LL.makes P.the-type P′.the-plain 𝓤 H A) pair _ pair-is $ fjoin t $ owned t D.the-row (Is D.the-row) (LL.makes D.the-type D′.the-plain 𝓤 H A) c _ c-is $ fjoin t $
-        owned t usize (Is usize) (uint-makes 𝓤 H A W w64) i _ i-is $ fjoin t $ move t (1 ∷ 0 ∷ []) $ fjoin t $ move t (2 ∷ []) $ token t $ move t (2 ∷ 0 ∷ []) $ join t $
-        calls-to t fm change.ended (change.clauses 𝓤 H A at-mem run) known (((κ, (κ′, tt)), (q, (q′, tt)), tt, (x, (i, (c, (pair, (body, tt))))), (ptr-vals x, (uint-vals w64 i, (LL.vals D.the-type D′.the-laws c, (LL.vals P.the-type P′.the-laws pair, (slice-vals body, tt)))))), tt) (id⊢ 𝓤 _) (os _)
-        nothing-tells (λ ws. ws .0 ≡ set (x .now) i (changedBy c pair (body .now) (getD (x .now) i noIke))) (λ r ws. id⊢ 𝓤 _) (λ ws e. fsplit t $ move t (1 ∷ []) $ drop t $ move t (1 ∷ []) $ split t $ move t (1 ∷ []) $ no-token t $ move t (2 ∷ 1 ∷ []) $ s (ws .0) e)
+    pub changes-ike : Triple 𝓤 (C change-def.name) (Told 𝓤 H A change.ended (change.clauses 𝓤 H A at-mem run)) → (i : ℕ)
+        (c : CoreAnswer) (pair : Pair) (check : PendingCheck) {κ′ : Lft} {q′ : Share} (body : RefT (List ℕ))
+        → Is usize i (uint-vals w64 i) → Is D.the-row c (LL.vals D.the-type D′.the-laws c)
+        → Is P.the-row pair (LL.vals P.the-type P′.the-laws pair)
+        → Is N.the-row check (LL.vals N.the-type N′.the-laws check)
+        → ((j : Item 𝓤) → Opds K W (j ∷ Γ) E ops (vptr (x .ptr .0) (x .ptr .1) ∷ vint w64 i
+        ∷ only (LL.vals D.the-type D′.the-laws c) ∷ only (LL.vals P.the-type P′.the-laws pair)
+        ∷ only (LL.vals N.the-type N′.the-laws check) ∷ only (slice-vals body) ∷ []))
+        → ((zs : List IkeRecord)
+        → zs ≡ set (x .now) i (changedBy c pair check (body .now) (getD (x .now) i noIke))
+        → Seq K W (‵ (fres (x .name) (Ike.Q .coded .code zs)) ∷ ‵ (flft κ q) ∷ ‵ (flft κ′ q′) ∷ Γ)
+        (lands C Λ E d vunit rest p))
+        → Seq K W (‵ (MutRef erased κ Ike.Q .own x (ptr-vals x)) ∷ ‵ (flft κ q)
+        ∷ ‵ (ShrSlice erased κ′ u8 .own body (slice-vals body)) ∷ ‵ (flft κ′ q′) ∷ Γ)
+        (runs C Λ E (seq (call change-def.name ops d) rest) p)
+    changes-ike known i c pair check {κ′} {q′} body i-is c-is pair-is check-is os s =
+        nothing t $ move t (3 ∷ 0 ∷ []) $ fjoin t $
+        owned t N.the-row (Is N.the-row) (LL.makes N.the-type N′.the-plain 𝓤 H A) check _ check-is $ fjoin t $
+        owned t P.the-row (Is P.the-row) (LL.makes P.the-type P′.the-plain 𝓤 H A) pair _ pair-is $ fjoin t $
+        owned t D.the-row (Is D.the-row) (LL.makes D.the-type D′.the-plain 𝓤 H A) c _ c-is $ fjoin t $
+        owned t usize (Is usize) (uint-makes 𝓤 H A W w64) i _ i-is $ fjoin t $ move t (1 ∷ 0 ∷ []) $ fjoin t $
+        move t (2 ∷ []) $ token t $ move t (2 ∷ 0 ∷ []) $ join t $
+        calls-to t fm change.ended (change.clauses 𝓤 H A at-mem run) known (
+          (
+            (κ & κ′ & tt),
+            (q & q′ & tt),
+            tt,
+            (x & i & c & pair & check & body & tt),
+            (ptr-vals x & uint-vals w64 i & LL.vals D.the-type D′.the-laws c & LL.vals P.the-type P′.the-laws pair
+                & LL.vals N.the-type N′.the-laws check & slice-vals body & tt),
+          ),
+          tt,
+        ) (id⊢ 𝓤 _) (os _) nothing-tells
+        (λ ws. ws .0 ≡ set (x .now) i (changedBy c pair check (body .now) (getD (x .now) i noIke))) (λ r ws. id⊢ 𝓤 _)
+        (λ ws e. fsplit t $ move t (1 ∷ []) $ drop t $ move t (1 ∷ []) $ split t $ move t (1 ∷ []) $ no-token t $
+        move t (2 ∷ 1 ∷ []) $ s (ws .0) e)
 
   module _ {κ : Lft} {q : Share} (x : RefT Policy) where
     module _ (known : Triple 𝓤 (C read-def.name) (Told 𝓤 H A read.ended (read.clauses 𝓤 H A at-mem run))) (os : (i j : Item 𝓤) → Opds K W (i ∷ j ∷ Γ) E ops (ptr-vals x)) where

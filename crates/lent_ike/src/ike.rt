@@ -1,6 +1,7 @@
 // The lent IKE table: the lowest place with an SPI, and the record at a place, read, stored, and changed by an answer.
 use address::pair::Pair;
 use octets::limits::IKE_PLACES;
+use records::check::PendingCheck;
 use records::ike::IkeRecord;
 use records::ike::no_ike;
 use replying::change::changed;
@@ -50,15 +51,16 @@ pub fn ike_change(
     place: usize,
     answer: CoreAnswer,
     pair: Pair,
+    check: PendingCheck,
     body: &[u8],
 )
     ensures { λ _. ⌜ (
         let old = getD (now (records .entry)) place noIke in
-        now (records .exit) ≡ set (now (records .entry)) place (changedBy answer pair (now (body .entry)) old)
+        now (records .exit) ≡ set (now (records .entry)) place (changedBy answer pair check (now (body .entry)) old)
         ) ⌝ }
 {
     if place < IKE_PLACES {
         let x = records[place];
-        records[place] = changed(x, answer, pair, body);
+        records[place] = changed(x, answer, pair, check, body);
     }
 }

@@ -1,2 +1,2 @@
-// The IPsec records of an owner in the lent list, moved with it.
+// The IPsec records of an owner in the lent list, moved to its pair.
 pub mod owned;

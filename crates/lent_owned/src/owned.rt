@@ -21,7 +21,7 @@ pub fn follow_all(records: &mut [IpsecRecord], owner: u64, pair: Pair)
     }
 }
 
-// Moves the records of an owner, if it moved.
+// Moves the records of an owner, if they are to follow it.
 pub fn follow_if(records: &mut [IpsecRecord], moves: bool, owner: u64, pair: Pair)
     ensures { λ _. ⌜ (
         let before = now (records .entry) in

@@ -4,3 +4,4 @@ pub mod Cores
 pub mod Ways
 pub mod Numbers
 pub mod Marks
+pub mod Responses

@@ -27,7 +27,7 @@ use Rattle.numbers.proofs.Cores.{chainNumber}
 use Rattle.numbers.proofs.Ways.{early, entry, ComesTo, refused-early, refused-chain, decided-here}
 
 -- what an element has, some element has
-some-at : {A : Type 0} (P : A → Type 0) (d : A) (xs : List A) (k : ℕ) → k < length xs → P (getD xs k d) → Some P xs
+pub some-at : {A : Type 0} (P : A → Type 0) (d : A) (xs : List A) (k : ℕ) → k < length xs → P (getD xs k d) → Some P xs
 some-at P d [] k l p = absurd (omega arith)
 some-at P d (x ∷ xs) zero l p = inl p
 some-at P d (x ∷ xs) (suc k) l p = inr (some-at P d xs k (omega arith) p)

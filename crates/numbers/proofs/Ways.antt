@@ -2,8 +2,8 @@
 use Prim.Native.Nat.{ℕ, _+_, _≤_}
 use mathlib.Core.Path.{_≡_, refl, ap, _∙_}
 use mathlib.Core.Logic.{_⊎_, inl, inr}
-use mathlib.Core.List.{List, [], map}
-use mathlib.Core.Bool.{Bool, true, false, cond}
+use mathlib.Core.List.{List, []}
+use mathlib.Core.Bool.{Bool, true, false}
 use native.Mathlib.Omega.{arith}
 use native.Mathlib.Decide.{ℕ-discrete}
 use borrow.Author.Tests.{eq-eqb, ne-eqb}
@@ -15,13 +15,13 @@ use Rattle.octets.proofs.Small.{chosen}
 use Rattle.writing.specs.Notify.{Notification, firstType, chained}
 use Rattle.policy.specs.declared.rules.Policy.{Policy}
 use Rattle.reader.specs.Chain.{reading}
-use Rattle.records.specs.Records.{ikeSpi, noIke, marksIn, follows}
-use Rattle.tables.specs.Tables.{Tables, tables}
+use Rattle.records.specs.Records.{ikeSpi, noIke, marksIn}
+use Rattle.tables.specs.Tables.{Tables, tables, meant}
 use Rattle.records.specs.declared.ike.IkeRecord.{IkeRecord}
 use Rattle.records.specs.declared.ike.Marks.{Marks}
 use Rattle.answering.specs.Core.{decidedResponse, chainError, decisionOn}
 use Rattle.checking.specs.Checks.{Request}
-use Rattle.responder.specs.Handle.{meant, accepts, earlyNumber, handled, handledResponse, seenIn, afterRequest}
+use Rattle.responder.specs.Handle.{accepts, earlyNumber, handled, handledResponse, seenIn, afterRequest}
 use Rattle.verdict.specs.Verdict.{verdictNumber}
 use Rattle.verdict.specs.declared.update.Verdict.{Verdict}
 use Rattle.numbers.specs.Numbers.{applies, replaces}
@@ -38,10 +38,9 @@ place t q = placeOf ikeSpi (q .spi) (t .ike)
 abbrev pub entry : Tables → Request → IkeRecord
 entry t q = meant (t .ike) (q .spi)
 
--- the tables with the record meant so, and, if it moves, what it owns moved with it
-abbrev pub changedTo : Tables → Request → IkeRecord → Bool → Tables
-changedTo t q e u =
-    tables (set (t .ike) (place t q) e) (cond u (map (follows (q .spi) (q .asks .pair)) (t .ipsec)) (t .ipsec))
+-- the tables with the record meant so
+abbrev pub changedTo : Tables → Request → IkeRecord → Tables
+changedTo t q e = tables (set (t .ike) (place t q) e) (t .ipsec)
 
 module _ (policy : Policy) (t : Tables) (q : Request) where
   -- number, response with what is told of it, and tables
@@ -59,8 +58,8 @@ module _ (policy : Policy) (t : Tables) (q : Request) where
       record { number = rw f; octets = rw f; first = rw f; long = rw f; after = rw f }
 
   module _ (passes : early t q ≡ 0) where
-    by-core : {n : ℕ} {response : List Notification} {e : IkeRecord} {u : Bool}
-        → CoreComes (accepts policy q) q (entry t q) n response e u → ComesTo n response (changedTo t q e u)
+    by-core : {n : ℕ} {response : List Notification} {e : IkeRecord}
+        → CoreComes (accepts policy q) q (entry t q) n response e → ComesTo n response (changedTo t q e)
     unfolding afterRequest handled handledResponse
     by-core c =
         let f = eq-eqb (early t q) 0 passes in
@@ -69,7 +68,7 @@ module _ (policy : Policy) (t : Tables) (q : Request) where
           octets = rw f (c .octets);
           first = rw f (c .first);
           long = rw f (c .long);
-          after = rw (f, c .entry, c .moves);
+          after = rw (f, c .entry);
         }
 
     pub refused-chain : (chainNumber q ≡ 0 → ⊥)
@@ -82,13 +81,13 @@ module _ (policy : Policy) (t : Tables) (q : Request) where
     pub decided-here : chainNumber q ≡ 0 → {v : Verdict} {u l : Bool} {m : Marks}
         → Comes v u l m (decisionOn (accepts policy q) (q .asks) (marksIn (entry t q)))
         → ComesTo (verdictNumber v) (decidedResponse v (q .asks) (seenIn q))
-        (changedTo t q (entryBy q (entry t q) u l m) u)
+        (changedTo t q (entryBy q (entry t q) u l m))
     decided-here w c = by-core (core-decided (accepts policy q) q (entry t q) w c)
 
   -- A change of the record meant: it moves only with an update that counts, and its marks stay or become the ID.
   pub record Changes (u l : Bool) (m : Marks) : Type 0 where
     pub passes : early t q ≡ 0
-    pub is : afterRequest policy q t ≡ changedTo t q (entryBy q (entry t q) u l m) u
+    pub is : afterRequest policy q t ≡ changedTo t q (entryBy q (entry t q) u l m)
     pub moves : u ≡ true → applies q (entry t q) ≡ true
     pub update-mark : (m .«update_mark» ≡ entry t q .«update_mark») ⊎
         ((applies q (entry t q) ≡ true) × (m .«update_mark» ≡ q .asks .id + 1))

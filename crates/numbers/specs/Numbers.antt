@@ -10,7 +10,7 @@
 use Prim.Native.Nat.{ℕ, _+_, min}
 use mathlib.Core.Path.{_≡_}
 use mathlib.Core.Logic.{_⊎_}
-use mathlib.Core.List.{List, [], _∷_, _++_, map}
+use mathlib.Core.List.{List, [], _∷_, _++_}
 use mathlib.Core.Bool.{Bool, cond, _&&_}
 use lib.Dec.{leb}
 use lib.ListN.{length, set}
@@ -28,8 +28,8 @@ use Rattle.values.specs.Values.{addressesIn}
 use Rattle.findings.specs.declared.seen.Seen.{Seen}
 use Rattle.policy.specs.declared.rules.Policy.{Policy}
 use Rattle.reader.specs.Chain.{reading}
-use Rattle.records.specs.Records.{ikeSpi, rewritten, follows}
-use Rattle.tables.specs.Tables.{Tables, tables}
+use Rattle.records.specs.Records.{ikeSpi, rewritten}
+use Rattle.tables.specs.Tables.{Tables, tables, meant}
 use Rattle.records.specs.declared.ike.IkeRecord.{IkeRecord}
 use Rattle.writing.specs.Notify.{Notification, notification, firstType, chained}
 use Rattle.writing.specs.Parts.{natNotifies, cookieNotifies}
@@ -37,7 +37,7 @@ use Rattle.deciding.specs.Decide.{tallied, hasList}
 use Rattle.answering.specs.Core.{cookieIn}
 use Rattle.responding.specs.Respond.{wantsNats}
 use Rattle.checking.specs.Checks.{Request}
-use Rattle.responder.specs.Handle.{meant, handled, handledResponse, seenIn, afterRequest}
+use Rattle.responder.specs.Handle.{handled, handledResponse, seenIn, afterRequest}
 
 -- "if the ID doesn't exceed the update mark, the update is stale": a mark is kept as the least ID that exceeds it.
 abbrev pub applies : Request → IkeRecord → Bool
@@ -63,15 +63,17 @@ same q t = t
 abbrev changed : (IkeRecord → IkeRecord) → Request → List IkeRecord → List IkeRecord
 changed f q ike = set ike (placeOf ikeSpi (q .spi) ike) (f (meant ike (q .spi)))
 
--- "tally and update mark": pair, list mark and list stay as they are, and so does every other record
+-- "tally and update mark": pair, list mark, list and pending check stay as they are, and so does every other record
 abbrev marked : Request → IkeRecord → IkeRecord
-marked q r = rewritten (r .pair) (q .asks .id + 1) (r .«list_mark») (r .count) (r .addresses) (tallyAfter q r) r
+marked q r =
+    rewritten (r .pair) (q .asks .id + 1) (r .«list_mark») (r .count) (r .addresses) (tallyAfter q r) (r .check) r
 
 abbrev pub tallyAndMark : Request → Tables → Tables
 tallyAndMark q t = tables (changed (marked q) q (t .ike)) (t .ipsec)
 
--- "as steps 1 to 3": an update that applies sets the mark and moves the record and what it owns; a list that replaces,
--- list and list mark
+-- "as steps 1 to 3": an update that applies sets the mark and moves the record; a list that replaces, list and list
+-- mark. 02, E6: "kept when its update is applied, in place of an older one", the pending check; "An applied update now
+-- moves the IKE record at once, but its IPsec records only after a return routability check."
 abbrev pub stepped : Request → IkeRecord → IkeRecord
 stepped q r =
     let up = applies q r in
@@ -79,12 +81,10 @@ stepped q r =
     let l = seenIn q .list in
     rewritten (cond up (q .asks .pair) (r .pair)) (cond up (q .asks .id + 1) (r .«update_mark»))
     (cond new (q .asks .id + 1) (r .«list_mark»)) (cond new (min (l .count) addressesMost) (r .count))
-    (cond new (addressesIn (q .asks .body) l) (r .addresses)) (tallyAfter q r) r
+    (cond new (addressesIn (q .asks .body) l) (r .addresses)) (tallyAfter q r) (cond up (q .asks .check) (r .check)) r
 
 abbrev pub asSteps : Request → Tables → Tables
-asSteps q t =
-    tables (changed (stepped q) q (t .ike))
-    (cond (applies q (meant (t .ike) (q .spi))) (map (follows (q .spi) (q .asks .pair)) (t .ipsec)) (t .ipsec))
+asSteps q t = tables (changed (stepped q) q (t .ike)) (t .ipsec)
 
 -- The column "Response".
 abbrev pub none : Request → List Notification

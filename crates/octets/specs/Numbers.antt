@@ -1,6 +1,6 @@
 -- Trusted. The numbers that a call gives, by name: 01, "The numbers given back", and 02, E4: "Split 6 everywhere into
 -- 61 (chain lengths), 62 (Notify lengths or SPI), 63 (data size), 64 (repeated or contradictory notification), and 65
--- (octets after the end)".
+-- (octets after the end)"; E6: "14 (no pending check, or another ID)".
 --
 --   Number     an enum, as `octets/src/number.rt` declares it: a name for each number
 --   numberOf   the number for it
@@ -11,7 +11,7 @@ use Rattle.octets.specs.declared.number.Number.the-variants.{NoSuchRecor
 use Rattle.octets.specs.declared.number.Number.the-variants.{BadChainLength, BadNotify, BadDataSize}
 use Rattle.octets.specs.declared.number.Number.the-variants.{Repeated, OctetsAfterEnd}
 use Rattle.octets.specs.declared.number.Number.the-variants.{UnknownCritical, AddressesAltered, NotAcceptable}
-use Rattle.octets.specs.declared.number.Number.the-variants.{Full, SpiInUse, BadPolicy}
+use Rattle.octets.specs.declared.number.Number.the-variants.{Full, SpiInUse, BadPolicy, CheckNotPending}
 
 abbrev pub numberOf : Number → ℕ
 numberOf Done = 0
@@ -31,3 +31,4 @@ numberOf NotAcceptable = 9
 numberOf Full = 10
 numberOf SpiInUse = 11
 numberOf BadPolicy = 12
+numberOf CheckNotPending = 14

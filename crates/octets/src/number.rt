@@ -2,7 +2,7 @@
 ghost use mathlib.Core.Path.{_≡_};
 ghost use Rattle.octets.specs.Numbers.{numberOf};
 
-// In the order of 01's table, with 02's 61 to 65 in the place of its 6.
+// In the order of 01's table, with 02's 61 to 65 in the place of its 6 and 02's later ones at the end.
 pub enum Number {
     Done,
     BadArgument,
@@ -21,6 +21,7 @@ pub enum Number {
     Full,
     SpiInUse,
     BadPolicy,
+    CheckNotPending,
 }
 
 // As it is told.
@@ -45,5 +46,6 @@ pub fn number_of(n: Number) -> u8
         Number::Full => 10,
         Number::SpiInUse => 11,
         Number::BadPolicy => 12,
+        Number::CheckNotPending => 14,
     }
 }

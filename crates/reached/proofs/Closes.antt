@@ -1,17 +1,18 @@
 -- Closings keep tables well-formed.
-use Prim.Native.Nat.{ℕ}
+use Prim.Native.Nat.{ℕ, _<_}
 use mathlib.Core.Path.{_≡_, refl, sym, ap, _∙_}
 use mathlib.Core.Logic.{⊎-elim}
 use mathlib.Core.List.{map}
 use mathlib.Core.Bool.{Bool, true, false, cond}
 use borrow.Author.Tests.{eqb-false, eqb-true}
 use lib.Dec.{eqb}
-use lib.ListN.{getD, length-map, List·getD-map}
+use lib.ListN.{length, getD, length-map, List·getD-map}
 use Rattle.octets.specs.Lists.{placeOf}
 use Rattle.octets.proofs.Small.{chosen}
 use Rattle.octets.proofs.Places.{place-has}
 use Rattle.records.specs.Records.{ikeSpi, ipsecSpi, noIke, noIpsec, released}
-use Rattle.tables.specs.Tables.{Tables}
+use Rattle.tables.specs.Calls.{ikeClosed, ownedClosed}
+use Rattle.tables.specs.Tables.{Tables, tables}
 use Rattle.records.specs.declared.ipsec.IpsecRecord.{IpsecRecord}
 use Rattle.tables.proofs.Cases.{IkeClosed, IpsecClosed, close-ike-cases, close-ipsec-cases}
 use Rattle.reached.specs.WellFormed.{WellFormed}
@@ -48,11 +49,11 @@ module _ (t : Tables) (w : WellFormed t) (spi : ℕ) where
         owned = owned-stored (t .ike) (t .ipsec) q noIpsec (w .owned) (λ n. absurd (n refl));
       })
 
-  closed-ike : IkeClosed (t .ike) (t .ipsec) spi → WellFormed (afterCall t (closesIke spi))
-  unfolding afterCall
-  closed-ike o =
-      rw (o .is)
-      (record {
+  -- by a call or by a check
+  pub closed-well : placeOf ikeSpi spi (t .ike) < length (t .ike)
+      → WellFormed (tables (ikeClosed (t .ike) spi) (ownedClosed (t .ipsec) spi))
+  closed-well there =
+      record {
         ikes = closed ikeSpi noIke (t .ike) (w .ikes) (placeOf ikeSpi spi (t .ike)) refl;
         ipsecs =
             each ipsecSpi noIpsec (t .ipsec) (w .ipsecs) (released spi) refl (λ r n. ap ipsecSpi (in-use spi r n .0))
@@ -68,9 +69,13 @@ module _ (t : Tables) (w : WellFormed t) (spi : ℕ) where
             rw same (
               old .0,
               still-there (t .ike) (getD (t .ipsec) j noIpsec .owner) (placeOf ikeSpi spi (t .ike)) noIke (old .1)
-                  (λ e. kept .1 (sym e ∙ place-has ikeSpi spi (t .ike) noIke (o .there))),
+                  (λ e. kept .1 (sym e ∙ place-has ikeSpi spi (t .ike) noIke there)),
             );
-      })
+      }
+
+  closed-ike : IkeClosed (t .ike) (t .ipsec) spi → WellFormed (afterCall t (closesIke spi))
+  unfolding afterCall
+  closed-ike o = rw (o .is) (closed-well (o .there))
 
 pub closes-ike-keeps : (spi : ℕ) → Keeps (λ (t : Tables). afterCall t (closesIke spi))
 unfolding afterCall

@@ -5,6 +5,9 @@ pub mod Stored
 pub mod Opens
 pub mod Closes
 pub mod Lists
+pub mod Checks
 pub mod Requests
+pub mod Responses
 pub mod Reached
+pub mod PairMoves
 pub mod Undone

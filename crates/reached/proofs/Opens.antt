@@ -17,10 +17,11 @@ use Rattle.tables.proofs.Lookup.{finds-opened}
 use Rattle.tables.proofs.Cases.{IpsecOpened, both-or-neither, open-ipsec-cases}
 use Rattle.reached.specs.WellFormed.{IkeBounds, WellFormed}
 use Rattle.reached.specs.Reached.{opensBoth, opensIpsec, afterCall}
+use Rattle.reached.proofs.Checks.{none-bounds}
 use Rattle.reached.proofs.Consistent.{opened}
 use Rattle.reached.proofs.Stored.{Keeps, still-there, owned-stored}
 
--- a new record has no marks, an empty list and no tally
+-- a new record has no marks, an empty list, no tally and no check
 new-bounds : (o : Opening) → pairFits (o .pair) ≡ true → IkeBounds (ikeOf o)
 new-bounds o e =
     record {
@@ -31,6 +32,7 @@ new-bounds o e =
       families = λ i l. absurd
           (omega arith);
       tally = omega arith;
+      check = none-bounds;
     }
 
 module _ (t : Tables) (w : WellFormed t) where

@@ -6,13 +6,14 @@ use Rattle.octets.specs.Limits.{ikePlaces, ipsecPlaces}
 use Rattle.records.specs.Records.{ikeSpi, ipsecSpi, noIke, noIpsec}
 use Rattle.tables.specs.Tables.{Tables}
 use Rattle.reached.specs.WellFormed.{IkeBounds, IpsecBounds, WellFormed}
-use Rattle.reached.specs.Reached.{empty, Call, opensBoth, opensIpsec, closesIke, closesIpsec, requests, afterCall}
-use Rattle.reached.specs.Reached.{afterAll, Typed, StaysWellFormed, Reached}
+use Rattle.reached.specs.Reached.{empty, Call, opensBoth, opensIpsec, closesIke, closesIpsec, requests, checks}
+use Rattle.reached.specs.Reached.{afterCall, afterAll, Typed, StaysWellFormed, Reached}
 use Rattle.reached.proofs.Consistent.{all-free}
 use Rattle.reached.proofs.Stored.{Keeps}
 use Rattle.reached.proofs.Opens.{opens-both-keeps, opens-ipsec-keeps}
 use Rattle.reached.proofs.Closes.{closes-ike-keeps, closes-ipsec-keeps}
 use Rattle.reached.proofs.Requests.{requests-keeps}
+use Rattle.reached.proofs.Responses.{checks-keeps}
 
 -- A law for each call.
 keeps : (c : Call) → Typed c → Keeps (λ (t : Tables). afterCall t c)
@@ -21,6 +22,7 @@ keeps (opensIpsec spi owner) typed = opens-ipsec-keeps spi owner
 keeps (closesIke spi) typed = closes-ike-keeps spi
 keeps (closesIpsec spi) typed = closes-ipsec-keeps spi
 keeps (requests policy q) typed = requests-keeps policy q typed
+keeps (checks q) typed = checks-keeps q
 
 pub stays-well-formed : StaysWellFormed
 unfolding afterAll

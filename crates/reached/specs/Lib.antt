@@ -1,3 +1,4 @@
 pub mod WellFormed
 pub mod Reached
 pub mod Undone
+pub mod PairMoves

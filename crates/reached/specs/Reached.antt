@@ -2,20 +2,23 @@
 --   empty                   both tables with no record
 --   Call                    a call that writes tables, with its arguments
 --   afterCall, afterAll     the tables after a call, and after a list of them
---   Typed                   what the types of the arguments fix
+--   LentWith, Typed         what the types of the arguments fix
 --   StaysWellFormed, Reached      what is claimed: of well-formed tables, and of empty ones
 use Prim.Native.Nat.{ℕ, _<_}
+use mathlib.Core.Path.{_≡_}
 use mathlib.Core.List.{List, [], _∷_}
 use lib.ListN.{replicate}
 use Rattle.octets.specs.Limits.{ikePlaces, ipsecPlaces}
 use Rattle.order.specs.Order.{All}
 use Rattle.policy.specs.declared.rules.Policy.{Policy}
+use Rattle.records.specs.Pending.{checkOf}
 use Rattle.records.specs.Records.{noIke, noIpsec}
 use Rattle.tables.specs.Calls.{openBoth, openIpsec, closeIke, closeIpsec}
 use Rattle.tables.specs.Tables.{Tables, tables}
 use Rattle.tables.specs.declared.calls.Opening.{Opening}
 use Rattle.checking.specs.Checks.{Request}
 use Rattle.responder.specs.Handle.{afterRequest}
+use Rattle.routability.specs.Routability.{CheckResponse, afterResponse}
 use Rattle.reached.specs.WellFormed.{messageIds, WellFormed}
 
 abbrev pub empty : Tables
@@ -28,6 +31,7 @@ pub data Call : Type 0 where
   closesIke : ℕ → Call
   closesIpsec : ℕ → Call
   requests : Policy → Request → Call
+  checks : CheckResponse → Call
 
 -- the tables after a call, whatever number it gives
 unfoldable pub afterCall : Tables → Call → Tables
@@ -40,11 +44,20 @@ afterCall t (closesIke spi) =
     tables (r .ike) (r .ipsec)
 afterCall t (closesIpsec spi) = tables (t .ike) (closeIpsec (t .ipsec) spi .ipsec)
 afterCall t (requests policy q) = afterRequest policy q t
+afterCall t (checks q) = afterResponse q t
 
 unfoldable pub afterAll : Tables → List Call → Tables
 unfolding afterCall
 afterAll t [] = t
 afterAll t (c ∷ cs) = afterAll (afterCall t c) cs
+
+-- A request's check is that of a cookie and of an ID of 32 bits, which the exported call takes.
+pub record LentWith (q : Request) : Type 0 where
+  pub id : q .asks .id < messageIds
+  pub cookie : List ℕ
+  pub check-id : ℕ
+  pub check-id-fits : check-id < messageIds
+  pub check : q .asks .check ≡ checkOf cookie check-id
 
 -- What the types of the exported arguments fix: a message ID has 32 bits.
 abbrev pub Typed : Call → Type 0
@@ -52,7 +65,8 @@ Typed (opensBoth o) = Unit {0}
 Typed (opensIpsec spi owner) = Unit {0}
 Typed (closesIke spi) = Unit {0}
 Typed (closesIpsec spi) = Unit {0}
-Typed (requests policy q) = q .asks .id < messageIds
+Typed (requests policy q) = LentWith q
+Typed (checks q) = Unit {0}
 
 -- Whatever calls are made on well-formed tables, and so on empty ones.
 abbrev pub StaysWellFormed : Type 0

@@ -4,20 +4,24 @@
 --   Consistent                        all of it, of a table of so many places
 --   messageIds                        how many message IDs there are
 --   isFamily                          4 or 6
+--   CheckBounds                       the bounds of a pending check
 --   IkeBounds, IpsecBounds            the bounds of a record in use
 --   Owned                             every IPsec record has an owner
 --   WellFormed                        both tables
 use Prim.Native.Nat.{ℕ, _<_, _≤_}
 use mathlib.Core.Path.{_≡_}
+use mathlib.Core.Logic.{_⊎_}
 use mathlib.Core.List.{List}
 use mathlib.Core.Bool.{Bool, true, not}
 use lib.Dec.{eqb}
 use lib.ListN.{length, getD}
-use Rattle.octets.specs.Limits.{ikePlaces, ipsecPlaces, addressesMost, tallyMost}
+use Rattle.octets.specs.Limits.{ikePlaces, ipsecPlaces, addressesMost, cookieMost, tallyMost}
 use Rattle.octets.specs.Lists.{placeOf}
 use Rattle.address.specs.Address.{widthOf, noAddress, pairFits}
+use Rattle.records.specs.Pending.{cookieSized}
 use Rattle.records.specs.Records.{ikeSpi, ipsecSpi, noIke, noIpsec}
 use Rattle.tables.specs.Tables.{Tables}
+use Rattle.records.specs.declared.check.PendingCheck.{PendingCheck}
 use Rattle.records.specs.declared.ike.IkeRecord.{IkeRecord}
 use Rattle.records.specs.declared.ipsec.IpsecRecord.{IpsecRecord}
 
@@ -50,6 +54,15 @@ isFamily family = not (eqb (widthOf family) 0)
 abbrev pub messageIds : ℕ
 messageIds = 4294967296
 
+-- 02, E6: "a cookie of 8 to 64 octets and the ID of our request", or none. 01: "Places past a list's count ...; in a
+-- list newly kept or given they are 0", so with the octets past the cookie's; of no check the ID is 0 too.
+pub record CheckBounds (c : PendingCheck) : Type 0 where
+  pub sized : (c .length ≡ 0) ⊎ (cookieSized (c .length) ≡ true)
+  pub octets : length (c .octets) ≡ cookieMost
+  pub cleared : (i : ℕ) → c .length ≤ i → getD (c .octets) i 0 ≡ 0
+  pub no-id : c .length ≡ 0 → c .id ≡ 0
+  pub id : c .id < messageIds
+
 -- What 01 says of an IKE record in use: its pair passed check 1, so its family is 4 or 6; "an update mark and a list
 -- mark (each none or a message ID of 32 bits ...)", kept as 0 or the ID and one; "up to 16 additional addresses", each
 -- of family 4 or 6; "an unknown tally that stays at 4,294,967,295 once there".
@@ -60,6 +73,7 @@ pub record IkeBounds (r : IkeRecord) : Type 0 where
   pub count : r .count ≤ addressesMost
   pub families : (i : ℕ) → i < r .count → isFamily (getD (r .addresses) i noAddress .family) ≡ true
   pub tally : r .unknown ≤ tallyMost
+  pub check : CheckBounds (r .check)
 
 pub record IpsecBounds (r : IpsecRecord) : Type 0 where
   pub pair : pairFits (r .pair) ≡ true

@@ -3,6 +3,7 @@ pub mod tables;
 
 use crate::tables::ADD_IPSEC;
 use crate::tables::AFTER_RULES;
+use crate::tables::CHECK_RESPONSE;
 use crate::tables::CLOSE_IKE;
 use crate::tables::CLOSE_IPSEC;
 use crate::tables::OPEN_BOTH;
@@ -30,5 +31,6 @@ pub fn read_fields(kind: Kind, s: &[u8], at: usize, slots: &mut [u64]) -> Step
         Kind::CloseIpsec => read_table(s, at, &CLOSE_IPSEC, slots, 0),
         Kind::Request => read_table(s, at, &REQUEST, slots, 0),
         Kind::Policy => read_listed(s, at, &RULE, RULE_SLOTS, &AFTER_RULES, slots, 0),
+        Kind::CheckResponse => read_table(s, at, &CHECK_RESPONSE, slots, 0),
     }
 }

@@ -31,7 +31,7 @@ pub const CLOSE_IPSEC: [u8; 1] = [
     BITS_32, // SPI of the IPsec record
 ];
 
-pub const REQUEST: [u8; 11] = [
+pub const REQUEST: [u8; 13] = [
     BITS_64, // SPI
     BITS_32, // ID
     BITS_8, // family
@@ -43,6 +43,8 @@ pub const REQUEST: [u8; 11] = [
     STRING, // NAT value of the destination
     BITS_8, // first type
     STRING, // body
+    STRING, // our check's cookie
+    BITS_32, // our check's ID
 ];
 
 pub const RULE: [u8; 5] = [
@@ -58,3 +60,10 @@ pub const RULE_SLOTS: usize = 5;
 
 // What follows the rules of a policy.
 pub const AFTER_RULES: [u8; 0] = [];
+
+pub const CHECK_RESPONSE: [u8; 4] = [
+    BITS_64, // SPI of the IKE record that is checked
+    BITS_32, // the response's ID
+    BITS_8, // its first type
+    STRING, // its body
+];

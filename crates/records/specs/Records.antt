@@ -7,7 +7,8 @@
 --   released, follows       an IPsec record after its owner is closed, after it moves
 --   marksIn                 what of a record a request is decided by
 --   rewritten               a record with all that a request may change in it
---   remarked, relisted      a record with other marks (and pair), with another list
+--   remarked, relisted      a record with other marks (and pair and check), with another list
+--   unchecked               a record whose check has ended
 use Prim.Native.Nat.{ℕ}
 use mathlib.Core.Bool.{Bool, cond}
 use mathlib.Core.List.{List}
@@ -18,6 +19,8 @@ use Rattle.octets.specs.Flags.{zeroOrOne}
 use Rattle.address.specs.Address.{noPair, noAddress}
 use Rattle.address.specs.declared.address.Address.{Address}
 use Rattle.address.specs.declared.pair.Pair.{Pair}
+use Rattle.records.specs.Pending.{noCheck}
+use Rattle.records.specs.declared.check.PendingCheck.{PendingCheck}
 use Rattle.records.specs.declared.ike.Agreed.{Agreed}
 use Rattle.records.specs.declared.ike.IkeRecord.{IkeRecord}
 use Rattle.records.specs.declared.ike.Marks.{Marks}
@@ -36,7 +39,7 @@ settled a = record { mobike = zeroOrOne (a .mobike) }
 abbrev pub noneAgreed : Agreed
 noneAgreed = record { mobike = 0 }
 
--- 01: "A new IKE record has no marks, an empty list, tally 0."
+-- 01: "A new IKE record has no marks, an empty list, tally 0." It has no pending check (02, E6) either.
 abbrev pub newIke : ℕ → Agreed → Pair → IkeRecord
 newIke spi agreed pair =
     record {
@@ -48,6 +51,7 @@ newIke spi agreed pair =
       count = 0;
       addresses = replicate addressesMost noAddress;
       unknown = 0;
+      check = noCheck;
     }
 
 -- 01: "A place is free when its SPI is 0; closing sets all its fields to 0 or none."
@@ -65,8 +69,7 @@ noIpsec = newIpsec 0 0 noPair
 abbrev pub released : ℕ → IpsecRecord → IpsecRecord
 released owner r = cond (eqb (r .spi) 0) r (cond (eqb (r .owner) owner) noIpsec r)
 
--- 01: "the IKE record and all its IPsec records take the packet's pair, and no other record changes": those in use with
--- this owner.
+-- E6: "moves all its IPsec records to the IKE record's pair": those in use with this owner.
 abbrev pub follows : ℕ → Pair → IpsecRecord → IpsecRecord
 follows owner pair r = cond (eqb (r .spi) 0) r (cond (eqb (r .owner) owner) (newIpsec (r .spi) (r .owner) pair) r)
 
@@ -82,8 +85,8 @@ marksIn r =
     }
 
 -- the record with all that a request may change in it; what else it holds is kept
-abbrev pub rewritten : Pair → ℕ → ℕ → ℕ → List Address → ℕ → IkeRecord → IkeRecord
-rewritten pair updateMark listMark count addresses unknown r =
+abbrev pub rewritten : Pair → ℕ → ℕ → ℕ → List Address → ℕ → PendingCheck → IkeRecord → IkeRecord
+rewritten pair updateMark listMark count addresses unknown check r =
     record {
       spi = r .spi;
       agreed = r .agreed;
@@ -93,13 +96,22 @@ rewritten pair updateMark listMark count addresses unknown r =
       count = count;
       addresses = addresses;
       unknown = unknown;
+      check = check;
     }
 
--- the record with these marks and this tally; and, where it moves, "the IKE record ... take[s] the packet's pair"
-abbrev pub remarked : Marks → Bool → Pair → IkeRecord → IkeRecord
-remarked m moves pair r =
-    rewritten (cond moves pair (r .pair)) (m .«update_mark») (m .«list_mark») (r .count) (r .addresses) (m .unknown) r
+-- the record with these marks and this tally; and, where it moves, "the IKE record ... take[s] the packet's pair" and
+-- keeps the check "in place of an older one" (02, E6)
+abbrev pub remarked : Marks → Bool → Pair → PendingCheck → IkeRecord → IkeRecord
+remarked m moves pair check r =
+    rewritten (cond moves pair (r .pair)) (m .«update_mark») (m .«list_mark») (r .count) (r .addresses) (m .unknown)
+    (cond moves check (r .check)) r
 
 -- the record with another list
 abbrev pub relisted : ℕ → List Address → IkeRecord → IkeRecord
-relisted count addresses r = rewritten (r .pair) (r .«update_mark») (r .«list_mark») count addresses (r .unknown) r
+relisted count addresses r =
+    rewritten (r .pair) (r .«update_mark») (r .«list_mark») count addresses (r .unknown) (r .check) r
+
+-- E6: "each ends the check and changes nothing else"
+abbrev pub unchecked : IkeRecord → IkeRecord
+unchecked r =
+    rewritten (r .pair) (r .«update_mark») (r .«list_mark») (r .count) (r .addresses) (r .unknown) noCheck r

@@ -1,11 +1,13 @@
-// IKE records: a new one, a closed one, and what a request changes in one.
+// IKE records: a new one, a closed one, and what a request or the end of a check changes in one.
+use crate::check::PendingCheck;
+use crate::check::no_check;
 use address::address::Address;
 use address::pair::Pair;
 use octets::flag::zero_or_one;
 use octets::limits::ADDRESS_OCTETS;
 use octets::limits::ADDRESSES_MOST;
 ghost use mathlib.Core.Path.{_≡_};
-ghost use Rattle.records.specs.Records.{settled, newIke, noIke, marksIn, remarked, relisted};
+ghost use Rattle.records.specs.Records.{settled, newIke, noIke, marksIn, remarked, relisted, unchecked};
 
 // What is agreed when a record is opened; no request changes it. Yes or no is an octet, 0 or any other.
 #[repr(C)]
@@ -25,6 +27,7 @@ pub struct IkeRecord {
     pub count: u16,
     pub addresses: [Address; ADDRESSES_MOST],
     pub unknown: u32,
+    pub check: PendingCheck,
 }
 
 // What a request is decided by in its record, and changes there whether it moves or not. Decisions go by these alone,
@@ -45,7 +48,7 @@ pub fn settle(given: Agreed) -> Agreed
     }
 }
 
-// A record with no marks, an empty list and no tally.
+// A record with no marks, an empty list, no tally and no check.
 pub fn new_ike(spi: u64, agreed: Agreed, pair: Pair) -> IkeRecord
     ensures { λ r. ⌜ r ≡ newIke spi agreed pair ⌝ }
 {
@@ -62,6 +65,7 @@ pub fn new_ike(spi: u64, agreed: Agreed, pair: Pair) -> IkeRecord
         count: 0,
         addresses: [none; ADDRESSES_MOST],
         unknown: 0,
+        check: no_check(),
     }
 }
 
@@ -92,9 +96,15 @@ pub fn marks_of(entry: IkeRecord) -> Marks
     }
 }
 
-// The record with these marks and this tally, and with the pair if it moves.
-pub fn remark(entry: IkeRecord, marks: Marks, moves: bool, pair: Pair) -> IkeRecord
-    ensures { λ r. ⌜ r ≡ remarked marks moves pair entry ⌝ }
+// The record with these marks and this tally, and with the pair and the check if it moves.
+pub fn remark(
+    entry: IkeRecord,
+    marks: Marks,
+    moves: bool,
+    pair: Pair,
+    check: PendingCheck,
+) -> IkeRecord
+    ensures { λ r. ⌜ r ≡ remarked marks moves pair check entry ⌝ }
 {
     let mut new = entry;
     new.update_mark = marks.update_mark;
@@ -102,6 +112,7 @@ pub fn remark(entry: IkeRecord, marks: Marks, moves: bool, pair: Pair) -> IkeRec
     new.unknown = marks.unknown;
     if moves {
         new.pair = pair;
+        new.check = check;
     }
     new
 }
@@ -113,5 +124,14 @@ pub fn relist(entry: IkeRecord, count: u16, addresses: [Address; ADDRESSES_MOST]
     let mut new = entry;
     new.count = count;
     new.addresses = addresses;
+    new
+}
+
+// The record whose check has ended.
+pub fn uncheck(entry: IkeRecord) -> IkeRecord
+    ensures { λ r. ⌜ r ≡ unchecked entry ⌝ }
+{
+    let mut new = entry;
+    new.check = no_check();
     new
 }

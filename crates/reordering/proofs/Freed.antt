@@ -2,62 +2,44 @@
 -- order.
 use Prim.Native.Nat.{ℕ, _+_, min}
 use mathlib.Core.Path.{_≡_, refl, sym, ap, _∙_}
-use mathlib.Core.Bool.{Bool, true, false, cond}
-use mathlib.Core.Option.{Option, none, some, orElse}
+use mathlib.Core.Option.{none, some, orElse}
 use native.Mathlib.Omega.{arith}
 use Rattle.octets.specs.Limits.{addressesMost}
-use Rattle.address.specs.declared.pair.Pair.{Pair}
 use Rattle.policy.specs.declared.rules.Policy.{Policy}
 use Rattle.records.specs.Records.{rewritten}
 use Rattle.tables.specs.Tables.{Tables}
 use Rattle.tables.specs.View.{View, view, becomes, applied}
 use Rattle.records.specs.declared.ike.IkeRecord.{IkeRecord}
-use Rattle.views.proofs.Own.{view-own, applied-twice}
+use Rattle.views.proofs.View.{place}
+use Rattle.views.proofs.Own.{stays-in-place, view-own, applied-twice}
 use Rattle.deciding.specs.Decide.{tallied, hasList}
 use Rattle.values.specs.Values.{addressesIn}
 use Rattle.checking.specs.Checks.{Request}
 use Rattle.responder.specs.Handle.{seenIn, afterRequest}
-use Rattle.numbers.specs.Numbers.{applies, stepped}
+use Rattle.numbers.specs.Numbers.{stepped}
 use Rattle.reordering.proofs.Steps.{Terms, terms, earlyBy, does, does-taken, step-is}
 use Rattle.reordering.proofs.Winner.{winner, agree}
-use Rattle.reordering.proofs.Sound.{idOf, Sound, core-sound}
+use Rattle.reordering.proofs.Sound.{idIn, Sound, core-sound}
 
 -- the two records after both
-advanced-agree : (q r : Request) → (idOf q ≡ idOf r → ⊥) → (e : IkeRecord)
+advanced-agree : (q r : Request) → (idIn q ≡ idIn r → ⊥) → (e : IkeRecord)
     → stepped r (stepped q e) ≡ stepped q (stepped r e)
 advanced-agree q r d e =
-    let u = winner (idOf q) (idOf r) (e .«update_mark») d (seenIn q .update) (seenIn r .update) in
-    let l = winner (idOf q) (idOf r) (e .«list_mark») d (hasList (seenIn q)) (hasList (seenIn r)) in
+    let u = winner (idIn q) (idIn r) (e .«update_mark») d (seenIn q .update) (seenIn r .update) in
+    let l = winner (idIn q) (idIn r) (e .«list_mark») d (hasList (seenIn q)) (hasList (seenIn r)) in
     λ i.
     rewritten (agree u (q .asks .pair) (r .asks .pair) (e .pair) i)
-    (agree u (idOf q + 1) (idOf r + 1) (e .«update_mark») i)
-    (agree l (idOf q + 1) (idOf r + 1) (e .«list_mark») i)
+    (agree u (idIn q + 1) (idIn r + 1) (e .«update_mark») i)
+    (agree l (idIn q + 1) (idIn r + 1) (e .«list_mark») i)
     (agree l (min (seenIn q .list .count) addressesMost) (min (seenIn r .list .count) addressesMost) (e .count) i)
     (agree l (addressesIn (q .asks .body) (seenIn q .list)) (addressesIn (r .asks .body) (seenIn r .list))
-    (e .addresses) i) (tally i) e
+    (e .addresses) i) (tally i) (agree u (q .asks .check) (r .asks .check) (e .check) i) e
   where
     amount : Request → ℕ
     amount x = seenIn x .tally .«unknown_payloads» + seenIn x .tally .«unknown_notifies»
 
     tally : tallied (tallied (e .unknown) (amount q)) (amount r) ≡ tallied (tallied (e .unknown) (amount r)) (amount q)
     tally = omega arith
-
--- the pair that the IPsec records take, if any, and that they take after both
-abbrev moving : Request → IkeRecord → Option Pair
-moving q e = cond (applies q e) (some (q .asks .pair)) none
-
-moving-agree : (q r : Request) → (idOf q ≡ idOf r → ⊥) → (e : IkeRecord)
-    → orElse (moving r (stepped q e)) (moving q e) ≡ orElse (moving q (stepped r e)) (moving r e)
-unfolding orElse
-moving-agree q r d e =
-    let u = winner (idOf q) (idOf r) (e .«update_mark») d (seenIn q .update) (seenIn r .update) in
-    either (applies r (stepped q e)) (r .asks .pair) (moving q e)
-    ∙ agree u (some (q .asks .pair)) (some (r .asks .pair)) none
-    ∙ sym (either (applies q (stepped r e)) (q .asks .pair) (moving r e))
-  where
-    either : (b : Bool) (p : Pair) (o : Option Pair) → orElse (cond b (some p) none) o ≡ cond b (some p) o
-    either true p o = refl
-    either false p o = refl
 
 -- an SPI's view with this record in it
 abbrev pub seeing : IkeRecord → ℕ → View
@@ -72,36 +54,36 @@ module _ (policy : Policy) where
 
   module _ (k : ℕ) (s : Tables) {e : IkeRecord} {n : ℕ} (seen : view k s ≡ seeing e n) (q : Request)
       (w : Taken k (terms (seeing e n)) q) where
-    step-sound : afterRequest policy q s ≡ applied k (becomes (stepped q e) (moving q e)) s
+    step-sound : afterRequest policy q s ≡ applied k (becomes (stepped q e) none) s
     step-sound =
         step-is policy q s
         ∙ ap (λ (i : ℕ). applied i (does policy q (view i s)) s) (w .spi)
         ∙ ap (λ (v : View). applied k (does policy q v) s) seen
-        ∙ (rw (
-          does-taken policy q (seeing e n) (w .passes) refl,
-          core-sound policy q (w .fine) e .0,
-          core-sound policy q (w .fine) e .1,
-        ))
+        ∙ (rw (does-taken policy q (seeing e n) (w .passes) refl, core-sound policy q (w .fine) e))
 
     pub view-sound : view k (afterRequest policy q s) ≡ seeing (stepped q e) n
     view-sound =
         ap (view k) step-sound
-        ∙ view-own k s (ap (λ (v : View). v .entry) seen) (stepped q e) refl (moving q e)
+        ∙ view-own k s (ap (λ (v : View). v .entry) seen) (stepped q e) refl none
         ∙ ap (λ (v : View). seeing (stepped q e) (v .lent)) seen
+
+    pub place-sound : place k (afterRequest policy q s) ≡ place k s
+    place-sound =
+        ap (place k) step-sound
+        ∙ stays-in-place k s (ap (λ (v : View). v .entry) seen) (stepped q e) refl none
 
   module _ (k : ℕ) (s : Tables) {e : IkeRecord} {n : ℕ} (seen : view k s ≡ seeing e n) where
     abbrev Fits : Request → Type 0
     Fits q = Taken k (terms (seeing e n)) q
 
     two-sound : (q r : Request) → Fits q → Fits r
-        → afterRequest policy r (afterRequest policy q s)
-        ≡ applied k (becomes (stepped r (stepped q e)) (orElse (moving r (stepped q e)) (moving q e))) s
+        → afterRequest policy r (afterRequest policy q s) ≡ applied k (becomes (stepped r (stepped q e)) none) s
+    unfolding orElse
     two-sound q r v w =
         step-sound k (afterRequest policy q s) (view-sound k s seen q v) r w
-        ∙ ap (applied k (becomes (stepped r (stepped q e)) (moving r (stepped q e)))) (step-sound k s seen q v)
-        ∙ applied-twice k s (ap (λ (v : View). v .entry) seen) (stepped q e) refl (moving q e) _ _
+        ∙ ap (applied k (becomes (stepped r (stepped q e)) none)) (step-sound k s seen q v)
+        ∙ applied-twice k s (ap (λ (v : View). v .entry) seen) (stepped q e) refl none _ none
 
-    pub swap-sound : (q r : Request) → Fits q → Fits r → (idOf q ≡ idOf r → ⊥)
+    pub swap-sound : (q r : Request) → Fits q → Fits r → (idIn q ≡ idIn r → ⊥)
         → afterRequest policy r (afterRequest policy q s) ≡ afterRequest policy q (afterRequest policy r s)
-    swap-sound q r v w d =
-        two-sound q r v w ∙ (rw (advanced-agree q r d e, moving-agree q r d e) (sym (two-sound r q w v)))
+    swap-sound q r v w d = two-sound q r v w ∙ (rw (advanced-agree q r d e) (sym (two-sound r q w v)))

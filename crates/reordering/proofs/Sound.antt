@@ -16,14 +16,14 @@ use Rattle.verdict.specs.Verdict.{isAccepted, verdict}
 use Rattle.answering.specs.Core.{decisionOn}
 use Rattle.checking.specs.Checks.{Request}
 use Rattle.responder.specs.Handle.{accepts, seenIn}
-use Rattle.numbers.specs.Numbers.{applies, stepped}
+use Rattle.numbers.specs.Numbers.{stepped}
 use Rattle.numbers.proofs.Decisions.{Decides, done, refused, decides}
 use Rattle.numbers.proofs.Cores.{core-decided}
-use Rattle.reordering.specs.Requests.{sound}
+use Rattle.reordering.specs.Requests.{soundRequest}
 use Rattle.reordering.proofs.Steps.{early, core}
 
-abbrev pub idOf : Request → ℕ
-idOf q = q .asks .id
+abbrev pub idIn : Request → ℕ
+idIn q = q .asks .id
 
 module _ (policy : Policy) (q : Request) where
   pub record Sound : Type 0 where
@@ -31,13 +31,12 @@ module _ (policy : Policy) (q : Request) where
     pub fine : seenIn q .update ≡ true
         → isAccepted (verdict (accepts policy q) (noNatsSeen (q .asks .body) (seenIn q)) (q .asks .pair)) ≡ true
 
-  pub core-sound : Sound → (e : IkeRecord)
-      → (core policy q e .entry ≡ stepped q e) × (core policy q e .moves ≡ applies q e)
+  pub core-sound : Sound → (e : IkeRecord) → core policy q e .entry ≡ stepped q e
   core-sound w e = go (decides (accepts policy q) q (marksIn e))
     where
       go : Decides (accepts policy q) q (marksIn e) (decisionOn (accepts policy q) (q .asks) (marksIn e))
-          → (core policy q e .entry ≡ stepped q e) × (core policy q e .moves ≡ applies q e)
-      go (done c) = let x = core-decided (accepts policy q) q e (w .whole) c in (x .entry, x .moves)
+          → core policy q e .entry ≡ stepped q e
+      go (done c) = core-decided (accepts policy q) q e (w .whole) c .entry
       go (refused v which r) =
           let accepted : isAccepted v ≡ true =
           rw (r .verdict-is) at (w .fine (both (seenIn q .update) (leb (e .«update_mark») (q .asks .id)) (r .counts)
@@ -45,7 +44,7 @@ module _ (policy : Policy) (q : Request) where
           absurd (⊎-elim (λ f. false≢true (rw f at accepted)) (λ f. false≢true (rw f at accepted)) which)
 
 -- 01's soundness on the starting tables, taken apart
-pub sound-parts : (policy : Policy) (t : Tables) (q : Request) → sound policy t q ≡ true
+pub sound-parts : (policy : Policy) (t : Tables) (q : Request) → soundRequest policy t q ≡ true
     → (early t q ≡ 0) × Sound policy q
 sound-parts policy t q e =
     let n = eqb (early t q) 0 in

@@ -1,32 +1,29 @@
 -- A request as a call by its SPI: what it does to the record that it sees, and what it answers.
 use Prim.Native.Nat.{ℕ}
 use mathlib.Core.Path.{_≡_, refl, sym, ap, _∙_}
-use mathlib.Core.List.{[], map, map-id}
-use mathlib.Core.Bool.{Bool, true, false, cond, _&&_, and-false, false≢true}
+use mathlib.Core.List.{[]}
+use mathlib.Core.Bool.{Bool, true, false, cond, and-false, false≢true}
 use mathlib.Core.Option.{Option, none, some, Option·map, Option·getD}
 use native.Mathlib.Decide.{ℕ-discrete}
 use borrow.Author.Tests.{eq-eqb, ne-eqb}
 use lib.Dec.{eqb}
-use lib.ListN.{set}
-use Rattle.octets.specs.Lists.{placeOf}
 use Rattle.octets.proofs.Small.{chosen}
-use Rattle.address.specs.declared.pair.Pair.{Pair}
 use Rattle.values.specs.Values.{partOf}
 use Rattle.policy.specs.declared.rules.Policy.{Policy}
-use Rattle.records.specs.Records.{ikeSpi, noneAgreed, noIke, marksIn, follows}
+use Rattle.records.specs.Records.{noneAgreed, noIke, marksIn}
 use Rattle.tables.specs.Calls.{hasIke, listFits}
-use Rattle.tables.specs.Tables.{Tables, tables}
-use Rattle.tables.specs.View.{View, view, Change, stays, becomes, applied, Proper, BySpi}
+use Rattle.tables.specs.Tables.{Tables, meant}
+use Rattle.tables.specs.View.{View, view, Change, stays, becomes, applied, Proper}
 use Rattle.records.specs.declared.ike.Agreed.{Agreed}
 use Rattle.records.specs.declared.ike.IkeRecord.{IkeRecord}
-use Rattle.views.proofs.View.{found, applied-stays}
+use Rattle.views.proofs.View.{found, applied-stays, applied-alone}
 use Rattle.replying.specs.Reply.{refusalReply, listReplaced}
 use Rattle.answering.specs.Core.{CoreResult, coreAnswer, coreResult, coreResponse}
 use Rattle.replying.specs.Change.{changedBy}
 use Rattle.checking.specs.Checks.{Request, earlyNumberBy}
-use Rattle.responder.specs.Handle.{meant, accepts, earlyNumber, handled, handledResponse, afterRequest}
+use Rattle.responder.specs.Handle.{accepts, earlyNumber, handled, handledResponse, afterRequest}
 use Rattle.checking.proofs.Checks.{passed}
-use Rattle.reordering.specs.Requests.{Answer, answer}
+use Rattle.reordering.specs.Requests.{RequestAnswer, requestAnswer}
 
 abbrev pub early : Tables → Request → ℕ
 early t q = earlyNumber (t .ike) (t .ipsec) q
@@ -40,7 +37,7 @@ pub record Terms : Type 0 where
 abbrev pub terms : View → Terms
 terms v = record { lent = v .lent; agreed = Option·map (λ (r : IkeRecord). r .agreed) (v .entry) }
 
-abbrev isThere : {A : Type 0} → Option A → Bool
+abbrev pub isThere : {A : Type 0} → Option A → Bool
 isThere none = false
 isThere (some x) = true
 
@@ -66,14 +63,6 @@ passed-seen q v e = go (v .entry) (passed _ _ _ q e .found)
     go none z = absurd (false≢true z)
     go (some r) z = (r, refl)
 
--- a record stored, and its IPsec records moved or not, as the handler says it
-moved : (k : ℕ) (t : Tables) (r : IkeRecord) (p : Pair) (b : Bool)
-    → tables (set (t .ike) (placeOf ikeSpi k (t .ike)) r) (cond b (map (follows k p) (t .ipsec)) (t .ipsec))
-    ≡ applied k (becomes r (cond b (some p) none)) t
-unfolding applied
-moved k t r p true = refl
-moved k t r p false = rw (map-id (t .ipsec))
-
 module _ (policy : Policy) where
   abbrev pub core : Request → IkeRecord → CoreResult
   core q e = coreResult (accepts policy q) (q .asks) e
@@ -81,13 +70,13 @@ module _ (policy : Policy) where
   -- what it does where checks 1 to 5 pass, and what it does at all
   abbrev pub altered : Request → Option IkeRecord → Change
   altered q none = stays
-  altered q (some r) = becomes (core q r .entry) (cond (core q r .moves) (some (q .asks .pair)) none)
+  altered q (some r) = becomes (core q r .entry) none
 
   abbrev pub does : Request → View → Change
   does q v = cond (eqb (earlyBy q (terms v)) 0) (altered q (v .entry)) stays
 
   -- the answer by the number of the first five checks and by the record
-  abbrev answerBy : Request → ℕ → IkeRecord → Answer
+  abbrev answerBy : Request → ℕ → IkeRecord → RequestAnswer
   answerBy q n e =
       let r = cond (eqb n 0) (core q e .reply) (refusalReply n) in
       record {
@@ -96,10 +85,10 @@ module _ (policy : Policy) where
         octets = cond (eqb n 0) (coreResponse (accepts policy q) (q .asks) (marksIn e)) [];
       }
 
-  abbrev says : Request → View → Answer
+  abbrev pub says : Request → View → RequestAnswer
   says q v = answerBy q (earlyBy q (terms v)) (Option·getD (v .entry) noIke)
 
-  proper : (q : Request) (v : View) → Proper (v .entry) (does q v)
+  pub proper : (q : Request) (v : View) → Proper (v .entry) (does q v)
   unfolding changedBy
   proper q v = go (v .entry) (eqb (earlyBy q (terms v)) 0)
     where
@@ -119,8 +108,7 @@ module _ (policy : Policy) where
       → afterRequest policy q t ≡ applied (q .spi) (altered q (some r)) t
   unfolding afterRequest handled
   step-taken q t {r} e o =
-      rw (eq-eqb (early t q) 0 e, found (q .spi) t o .is)
-      (moved (q .spi) t (core q r .entry) (q .asks .pair) (core q r .moves))
+      rw (eq-eqb (early t q) 0 e, found (q .spi) t o .is) (sym (applied-alone (q .spi) t (core q r .entry)))
 
   step-refused : (q : Request) (t : Tables) → (early t q ≡ 0 → ⊥) → afterRequest policy q t ≡ t
   unfolding afterRequest handled
@@ -136,15 +124,16 @@ module _ (policy : Policy) where
           step-taken q t e o ∙ ap (λ (c : Change). applied (q .spi) c t) (sym (does-taken q (view (q .spi) t) passes o))
       go (no n) = step-refused q t n ∙ sym (rw (← early-is q t, ne-eqb (early t q) 0 n) (applied-stays (q .spi) t))
 
-  answer-by : (q : Request) (t : Tables) → answer policy q t ≡ answerBy q (early t q) (meant (t .ike) (q .spi))
-  unfolding answer handled handledResponse
+  answer-by : (q : Request) (t : Tables) → requestAnswer policy q t ≡ answerBy q (early t q) (meant (t .ike) (q .spi))
+  unfolding requestAnswer handled handledResponse
   answer-by q t = go (eqb (early t q) 0) refl
     where
-      go : (b : Bool) → eqb (early t q) 0 ≡ b → answer policy q t ≡ answerBy q (early t q) (meant (t .ike) (q .spi))
+      go : (b : Bool) → eqb (early t q) 0 ≡ b
+          → requestAnswer policy q t ≡ answerBy q (early t q) (meant (t .ike) (q .spi))
       go true e = rw e
       go false e = rw e
 
-  answer-is : (q : Request) (t : Tables) → answer policy q t ≡ says q (view (q .spi) t)
+  pub answer-is : (q : Request) (t : Tables) → requestAnswer policy q t ≡ says q (view (q .spi) t)
   answer-is q t = answer-by q t ∙ go (ℕ-discrete (early t q) 0) ∙ ap (λ (n : ℕ). answerBy q n e) (early-is q t)
     where
       e : IkeRecord
@@ -156,6 +145,3 @@ module _ (policy : Policy) where
           ap (answerBy q (early t q))
           (found (q .spi) t o .is ∙ ap (λ (x : Option IkeRecord). Option·getD x noIke) (sym o))
       go (no n) = rw (ne-eqb (early t q) 0 n)
-
-  pub by-spi : BySpi (λ (q : Request). q .spi) (afterRequest policy) (answer policy)
-  by-spi = record { does = does; says = says; proper = proper; step-is = step-is; answer-is = answer-is }

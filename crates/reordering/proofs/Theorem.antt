@@ -1,27 +1,30 @@
--- Demand 3, proved: the laws of calls that go by their SPI, at the handler's requests.
+-- Demand 3, proved: the laws of calls that go by their SPI, at requests and check responses.
 use Prim.Native.Nat.{ℕ}
 use mathlib.Core.Path.{_≡_, refl, sym, ap, subst, _∙_}
 use mathlib.Core.Logic.{_⊎_, inl, inr}
 use mathlib.Core.List.{List, [], _∷_}
-use mathlib.Core.Bool.{true}
+use mathlib.Core.Bool.{Bool, true, false≢true}
 use native.Mathlib.Decide.{ℕ-discrete}
 use lib.ListN.{length}
-use Rattle.order.specs.Order.{All, Pairwise, Held}
+use Rattle.order.specs.Order.{All, Pairwise, Held, after}
 use Rattle.order.proofs.Orders.{order-pairs, all-map}
 use Rattle.address.specs.declared.pair.Pair.{Pair}
 use Rattle.policy.specs.declared.rules.Policy.{Policy}
-use Rattle.tables.specs.Tables.{Tables}
+use Rattle.tables.specs.Tables.{Tables, inUse}
 use Rattle.tables.specs.View.{view}
+use Rattle.records.specs.declared.check.PendingCheck.{PendingCheck}
 use Rattle.records.specs.declared.ike.IkeRecord.{IkeRecord}
 use Rattle.checking.specs.Checks.{Request}
-use Rattle.responder.specs.Handle.{afterRequest}
-use Rattle.reordering.specs.Requests.{Apart, sound, pairHeld}
-use Rattle.reordering.specs.Reordering.{TablesKept, AnyOrder}
-use Rattle.reordering.proofs.Events as events
-use Rattle.reordering.proofs.Steps.{Terms, terms, earlyBy, early-is, passed-seen, by-spi}
-use Rattle.reordering.proofs.Sound.{idOf, sound-parts}
+use Rattle.reordering.specs.Requests.{soundRequest}
+use Rattle.reordering.specs.Events.{Event, request, response, spiOf, idOf, afterEvent, Apart, sound}
+use Rattle.reordering.specs.Reordering.{FreedEnds, TablesKept, AnyOrder}
+use Rattle.reordering.proofs.Calls as calls
+use Rattle.reordering.proofs.Steps.{Terms, terms, earlyBy, early-is, passed-seen}
+use Rattle.reordering.proofs.Events.{by-spi}
+use Rattle.reordering.proofs.Sound.{sound-parts}
 use Rattle.reordering.proofs.Freed.{seeing, Taken, view-sound, swap-sound}
-use Rattle.reordering.proofs.Held.{pair-held}
+use Rattle.reordering.proofs.Held.{Fits, place-ends, held-ends}
+use Rattle.reordering.proofs.Owned.{Quiet, owned-kept}
 
 -- what every element has, every two have
 pairs-have : {R : Type 0} (P : R → Type 0) (Q : R → R → Type 0) (xs : List R) → All P xs → Pairwise Q xs
@@ -34,18 +37,18 @@ pairs-have {R} P Q (x ∷ xs) a p = (beside xs (a .1) (p .0), pairs-have P Q xs 
     beside (y ∷ ys) b q = ((a .0, b .0, q .0), beside ys (b .1) (q .1))
 
 module _ (policy : Policy) (t : Tables) where
-  -- two requests of one SPI, sound on t, with different IDs
-  record Both (q r : Request) : Type 0 where
-    same : q .spi ≡ r .spi
-    first : sound policy t q ≡ true
-    second : sound policy t r ≡ true
-    distinct : idOf q ≡ idOf r → ⊥
+  -- two of one SPI, sound on t, with different IDs
+  record Both (e f : Event) : Type 0 where
+    same : spiOf e ≡ spiOf f
+    first : sound policy t e ≡ true
+    second : sound policy t f ≡ true
+    distinct : idOf e ≡ idOf f → ⊥
 
   -- the terms of k are those of the starting tables
   abbrev Same : ℕ → Tables → Type 0
   Same k s = terms (view k s) ≡ terms (view k t)
 
-  taken : (k : ℕ) (q : Request) → q .spi ≡ k → sound policy t q ≡ true → Taken policy k (terms (view k t)) q
+  taken : (k : ℕ) (q : Request) → q .spi ≡ k → soundRequest policy t q ≡ true → Taken policy k (terms (view k t)) q
   taken k q e w =
       let parts = sound-parts policy t q w in
       record {
@@ -60,10 +63,10 @@ module _ (policy : Policy) (t : Tables) where
     record Seen : Type 0 where
       entry : IkeRecord
       whole : view k s ≡ seeing entry (length (s .ipsec))
-      fits : (q : Request) → q .spi ≡ k → sound policy t q ≡ true
+      fits : (q : Request) → q .spi ≡ k → soundRequest policy t q ≡ true
           → Taken policy k (terms (seeing entry (length (s .ipsec)))) q
 
-    seen : Same k s → (q : Request) → q .spi ≡ k → sound policy t q ≡ true → Seen
+    seen : Same k s → (q : Request) → q .spi ≡ k → soundRequest policy t q ≡ true → Seen
     seen same q p w =
         let x = passed-seen q (view k s) (ap (earlyBy q) same ∙ taken k q p w .passes) in
         let whole : view k s ≡ seeing (x .0) (length (s .ipsec)) =
@@ -74,46 +77,74 @@ module _ (policy : Policy) (t : Tables) where
           fits = λ r o v. subst (λ (u : Terms). Taken policy k u r) (sym same ∙ ap terms whole) (taken k r o v);
         }
 
-  keep : (q : Request) → sound policy t q ≡ true → (s : Tables) → Same (q .spi) s
-      → Same (q .spi) (afterRequest policy q s)
-  keep q w s same =
+  keep : (e : Event) → sound policy t e ≡ true → (s : Tables) → Same (spiOf e) s
+      → Same (spiOf e) (afterEvent policy e s)
+  keep (response q) w s same = absurd (false≢true w)
+  keep (request q) w s same =
       let x = seen (q .spi) s same q refl w in
       ap terms (view-sound policy (q .spi) s (x .whole) q (x .fits q refl w)) ∙ ap terms (sym (x .whole)) ∙ same
 
-  swap : (q r : Request) → Both q r → (s : Tables) → Same (q .spi) s
-      → afterRequest policy r (afterRequest policy q s) ≡ afterRequest policy q (afterRequest policy r s)
-  swap q r b s same =
+  swap : (e f : Event) → Both e f → (s : Tables) → Same (spiOf e) s
+      → afterEvent policy f (afterEvent policy e s) ≡ afterEvent policy e (afterEvent policy f s)
+  swap (response q) f b s same = absurd (false≢true (b .first))
+  swap (request q) (response r) b s same = absurd (false≢true (b .second))
+  swap (request q) (request r) b s same =
       let x = seen (q .spi) s same q refl (b .first) in
       swap-sound policy (q .spi) s (x .whole) q r (x .fits q refl (b .first)) (x .fits r (sym (b .same)) (b .second))
       (b .distinct)
 
-  tables-kept : (qs rs : List Request) → TablesKept policy t qs rs
-  tables-kept qs rs freed sounds distinct o =
-      let P : Request → Type 0 = λ (q : Request). freed (q .spi) ≡ true → sound policy t q ≡ true in
-      let Q : Request → Request → Type 0 = λ (q r : Request). freed (q .spi) ≡ true → q .spi ≡ r .spi → idOf q ≡ idOf r
-      → ⊥ in
-      let may = order-pairs (λ (q r : Request). P q × P r × Q q r) o (pairs-have P Q qs sounds distinct) weaken in
-      let same = events.tables-kept (by-spi policy) t terms freed P Both (λ q f e. keep q (f e)) swap sounds may in (
+  -- Some SPIs are freed, and what is for them is sound.
+  module _ (freed : ℕ → Bool) where
+    abbrev Fine : Event → Type 0
+    Fine e = freed (spiOf e) ≡ true → sound policy t e ≡ true
+
+    abbrev Differ : Event → Event → Type 0
+    Differ e f = freed (spiOf e) ≡ true → spiOf e ≡ spiOf f → idOf e ≡ idOf f → ⊥
+
+    may : (e f : Event) → Apart t e f ⊎ (freed (spiOf e) ≡ true) → Fine e × Fine f × Differ e f
+        → Apart t e f ⊎ ((freed (spiOf e) ≡ true) × Both e f)
+    may e f (inl x) h = inl x
+    may e f (inr o) h = go (ℕ-discrete (spiOf e) (spiOf f))
+      where
+        go : Dec (spiOf e ≡ spiOf f) → Apart t e f ⊎ ((freed (spiOf e) ≡ true) × Both e f)
+        go (yes p) =
+            inr (o, record { same = p; first = h .0 o; second = h .1 (ap freed (sym p) ∙ o); distinct = h .2 o p })
+        go (no n) = inl (inl n)
+
+    -- an IKE SA that is freed
+    module _ (k : ℕ) (u : inUse k t ≡ true) (o : freed k ≡ true) where
+      fits : (e : Event) → Fine e → Fits policy k (terms (view k t)) e
+      fits (request q) f = λ x. taken k q x (f (ap freed x ∙ o))
+      fits (response q) f = λ x. false≢true (f (ap freed x ∙ o))
+
+      quiet : (j : ℕ) (e : Event) → Fine e → Quiet policy k j e
+      quiet j (request q) f = tt
+      quiet j (response q) f = λ x. false≢true (f (ap freed x ∙ o))
+
+      ends : (es : List Event) → All Fine es → FreedEnds k t es (after (afterEvent policy) t es)
+      ends es fine =
+          record {
+            place = place-ends policy k t u es (all-map fits es fine);
+            pair =
+                ap (λ (h : Held Pair). h .value)
+                (held-ends (λ q. q .asks .pair) (λ r. r .pair) (λ q e. refl) policy k t u es (all-map fits es fine));
+            check =
+                ap (λ (h : Held PendingCheck). h .value)
+                (held-ends (λ q. q .asks .check) (λ r. r .check) (λ q e. refl) policy k t u es (all-map fits es fine));
+            owned = λ j n. owned-kept policy k j es (all-map (quiet j) es fine) t n;
+          }
+
+  tables-kept : (es fs : List Event) → TablesKept policy t es fs
+  tables-kept es fs freed sounds distinct o =
+      let free =
+      order-pairs (λ (e f : Event). Fine freed e × Fine freed f × Differ freed e f) o
+      (pairs-have (Fine freed) (Differ freed) es sounds distinct) (may freed) in
+      let same =
+      calls.tables-kept (by-spi policy) t terms freed (Fine freed) Both (λ e f x. keep e (f x)) swap sounds free in (
         same,
-        λ k u e.
-            ap (λ (x : Tables). pairHeld k x .value) (sym same)
-            ∙ ap (λ (h : Held Pair). h .value)
-            (pair-held policy k t u qs (all-map (λ q f x. taken k q x (f (ap freed x ∙ e))) qs sounds)),
+        λ k u x. subst (FreedEnds k t es) same (ends freed k u x es sounds),
       )
-    where
-      weaken : (q r : Request) → Apart t q r ⊎ (freed (q .spi) ≡ true)
-          → (freed (q .spi) ≡ true → sound policy t q ≡ true)
-          × (freed (r .spi) ≡ true → sound policy t r ≡ true)
-          × (freed (q .spi) ≡ true → q .spi ≡ r .spi → idOf q ≡ idOf r → ⊥)
-          → Apart t q r ⊎ ((freed (q .spi) ≡ true) × Both q r)
-      weaken q r (inl x) h = inl x
-      weaken q r (inr e) h = go (ℕ-discrete (q .spi) (r .spi))
-        where
-          go : Dec (q .spi ≡ r .spi) → Apart t q r ⊎ ((freed (q .spi) ≡ true) × Both q r)
-          go (yes p) =
-              inr (e, record { same = p; first = h .0 e; second = h .1 (ap freed (sym p) ∙ e); distinct = h .2 e p })
-          go (no n) = inl (inl n)
 
 -- Demand 3.
 pub any-order : AnyOrder
-any-order policy t qs rs = (events.answers-kept (by-spi policy) t, tables-kept policy t qs rs)
+any-order policy t es fs = (calls.answers-kept (by-spi policy) t, tables-kept policy t es fs)

@@ -1,5 +1,6 @@
--- Trusted. Demand 3: one statement about whole lists of requests, from any policy and any tables.
+-- Trusted. Demand 3: one statement about whole lists of requests and check responses, from any policy and any tables.
 --   AnswersKept             its first half: each IKE SA's own requests in sequence
+--   FreedEnds               what an IKE SA whose own sequence changes ends with
 --   TablesKept              its second half: some IKE SAs' own sequences change too
 --   AnyOrder                both
 use Prim.Native.Nat.{ℕ}
@@ -7,51 +8,69 @@ use mathlib.Core.Path.{_≡_}
 use mathlib.Core.Logic.{_⊎_}
 use mathlib.Core.List.{List}
 use mathlib.Core.Bool.{Bool, true}
+use lib.ListN.{getD}
 use Rattle.order.specs.Order.{All, Pairwise, Order, after, answered, FreeAnswered, greatest, settled}
 use Rattle.policy.specs.declared.rules.Policy.{Policy}
+use Rattle.octets.specs.Lists.{placeOf}
+use Rattle.records.specs.Records.{ikeSpi, noIpsec}
+use Rattle.records.specs.declared.ike.IkeRecord.{IkeRecord}
 use Rattle.tables.specs.Tables.{Tables, inUse}
 use Rattle.checking.specs.Checks.{Request}
-use Rattle.responder.specs.Handle.{afterRequest}
-use Rattle.reordering.specs.Requests.{answer, Apart, sound, updatesFor, pairHeld}
+use Rattle.reordering.specs.Events.{Event, spiOf, idOf, afterEvent, answer, Apart, sound, updatesFor, heldBy}
 
 -- "For every other order of that list which keeps each IKE SA's own requests in sequence, each request gets the same
--- answer and octets, and the tables end the same."
---   "that list", "each made on the tables that the one before it left": qs, by `after` and `answered` of the handler's
---     `afterRequest`.
---   "every other order ... which keeps each IKE SA's own requests in sequence": `Order (Apart t) qs rs`: rs has the
---     requests of qs, and a request stands in rs behind only such later ones of qs as are apart from it, of no common
---     IKE SA of the tables t.
---   "each request gets the same answer and octets": the requests with their answers stand in the same other order.
+-- answer and octets, and the tables end the same." 02, E6: "In demand 3 the list also holds check responses, ..., each
+-- counted as one of the requests that give its SPI, and these closings are allowed"; "the tables compared include the
+-- pending check".
+--   "that list", "each made on the tables that the one before it left": es, by `after` and `answered` of the calls'
+--     own `afterEvent`.
+--   "every other order ... which keeps each IKE SA's own requests in sequence": `Order (Apart t) es fs`: fs has the
+--     events of es, and one stands in fs behind only such later ones of es as are apart from it, of no common IKE SA
+--     of the tables t.
+--   "each request gets the same answer and octets": the events with their answers stand in the same other order.
 --   "the tables end the same": `after` is equal, so each field of each place is.
-abbrev pub AnswersKept : Policy → Tables → List Request → List Request → Type 0
-AnswersKept policy t qs rs =
-    let made = answered (afterRequest policy) (answer policy) t in
-    Order (Apart t) qs rs
-    → (Order (FreeAnswered (Apart t)) (made qs) (made rs))
-    × (after (afterRequest policy) t qs ≡ after (afterRequest policy) t rs)
+abbrev pub AnswersKept : Policy → Tables → List Event → List Event → Type 0
+AnswersKept policy t es fs =
+    let made = answered (afterEvent policy) (answer policy) t in
+    Order (Apart t) es fs
+    → (Order (FreeAnswered (Apart t)) (made es) (made fs))
+    × (after (afterEvent policy) t es ≡ after (afterEvent policy) t fs)
+
+-- "The address pair of each IKE SA so freed ends as the one carried by its update with the greatest ID, if that exceeds
+-- the update mark it began with, else as the pair it had." So does its pending check, the one lent with that update.
+-- Its record is the one that it was, and the IPsec records that name it stay as they were.
+--   k                  the IKE SA's SPI; t the starting tables, es the list, s the tables at its end
+--   `settled (greatest ..)`: the greatest update if its ID exceeds the mark, else what was held.
+pub record FreedEnds (k : ℕ) (t : Tables) (es : List Event) (s : Tables) : Type 0 where
+  pub place : placeOf ikeSpi k (s .ike) ≡ placeOf ikeSpi k (t .ike)
+  pub pair :
+      let pairHeld = heldBy (λ (r : IkeRecord). r .pair) k in
+      pairHeld s .value ≡ settled (greatest (updatesFor (λ (q : Request). q .asks .pair) k es)) (pairHeld t) .value
+  pub check :
+      let checkHeld = heldBy (λ (r : IkeRecord). r .check) k in
+      checkHeld s .value ≡ settled (greatest (updatesFor (λ (q : Request). q .asks .check) k es)) (checkHeld t) .value
+  pub owned : (j : ℕ) → getD (t .ipsec) j noIpsec .owner ≡ k → getD (s .ipsec) j noIpsec ≡ getD (t .ipsec) j noIpsec
 
 -- "Where an IKE SA's requests are all sound ... and no two of them have the same message ID, its own sequence may
--- change too. For every order that keeps the sequence of all other IKE SAs, the tables still end the same. The address
--- pair of each IKE SA so freed ends as the one carried by its update with the greatest ID, if that exceeds the update
--- mark it began with, else as the pair it had."
+-- change too. For every order that keeps the sequence of all other IKE SAs, the tables still end the same." 02, E6:
+-- "only an IKE SA without check responses may change its own sequence".
 --   `freed` picks the IKE SAs that are freed, by their SPIs; any of those that may be.
---   "all sound", on the starting tables t; "no two of them have the same message ID": of the requests for a freed SPI.
---   "keeps the sequence of all other IKE SAs": two requests may change places if they are apart or the first one's SPI
+--   "all sound", on the starting tables t, which no check response is; "no two of them have the same message ID": of
+--     the events for a freed SPI.
+--   "keeps the sequence of all other IKE SAs": two events may change places if they are apart or the first one's SPI
 --     is freed.
 --   "each IKE SA so freed": a freed SPI that a record of the starting tables has.
---   `settled (greatest ..)`: the greatest update if its ID exceeds the mark, else what was held.
-abbrev pub TablesKept : Policy → Tables → List Request → List Request → Type 0
-TablesKept policy t qs rs =
+abbrev pub TablesKept : Policy → Tables → List Event → List Event → Type 0
+TablesKept policy t es fs =
     (freed : ℕ → Bool)
-    → All (λ (q : Request). freed (q .spi) ≡ true → sound policy t q ≡ true) qs
-    → Pairwise (λ (q r : Request). freed (q .spi) ≡ true → q .spi ≡ r .spi → q .asks .id ≡ r .asks .id → ⊥) qs
-    → Order (λ (q r : Request). Apart t q r ⊎ (freed (q .spi) ≡ true)) qs rs
-    → (after (afterRequest policy) t qs ≡ after (afterRequest policy) t rs)
-    × ((k : ℕ) → inUse k t ≡ true → freed k ≡ true
-    → pairHeld k (after (afterRequest policy) t rs) .value ≡ settled (greatest (updatesFor k qs)) (pairHeld k t) .value)
+    → All (λ (e : Event). freed (spiOf e) ≡ true → sound policy t e ≡ true) es
+    → Pairwise (λ (e f : Event). freed (spiOf e) ≡ true → spiOf e ≡ spiOf f → idOf e ≡ idOf f → ⊥) es
+    → Order (λ (e f : Event). Apart t e f ⊎ (freed (spiOf e) ≡ true)) es fs
+    → (after (afterEvent policy) t es ≡ after (afterEvent policy) t fs)
+    × ((k : ℕ) → inUse k t ≡ true → freed k ≡ true → FreedEnds k t es (after (afterEvent policy) t fs))
 
 -- Both halves, "from any tables and policy": those not reached from empty ones and an IPsec list of any length
 -- included.
 abbrev pub AnyOrder : Type 0
-AnyOrder = (policy : Policy) (t : Tables) (qs rs : List Request)
-    → AnswersKept policy t qs rs × TablesKept policy t qs rs
+AnyOrder = (policy : Policy) (t : Tables) (es fs : List Event)
+    → AnswersKept policy t es fs × TablesKept policy t es fs

@@ -1,4 +1,5 @@
--- The arguments of an opening and of a request, as taken from the slots, are those of the entry. Assumes nothing.
+-- The arguments of an opening, a request and the response to a check, as taken from the slots, are those of the entry.
+-- Assumes nothing.
 use Prim.Native.Nat.{ℕ, _+_}
 use mathlib.Core.Path.{_≡_}
 use mathlib.Core.Bool.{true}
@@ -11,11 +12,13 @@ use Rattle.fields.specs.Fields.{Field, bits, address, _then_}
 use Rattle.fields.specs.Slots.{valueIn, fitsIn}
 use Rattle.entries.specs.Kinds.{fieldsOf}
 use Rattle.entries.specs.declared.kind.Kind.the-variants as kind
-use Rattle.given.specs.Given.{pairIn, openingIn}
+use Rattle.calling.specs.Calling.{pairIn, openingIn}
 use Rattle.answering.specs.Core.{asked}
 use Rattle.checking.specs.Checks.{requestOf}
-use Rattle.acts.specs.Performed.{requestBy}
-use Rattle.replays.specs.Calls.{pairOf, openingOf, requestFrom}
+use Rattle.records.specs.Pending.{checkOf}
+use Rattle.routability.specs.Routability.{checkResponse}
+use Rattle.acts.specs.Performed.{requestBy, responseBy}
+use Rattle.replays.specs.Calls.{pairOf, openingOf, requestFrom, responseFrom}
 use Rattle.replays.proofs.Taken.{lent, told, then-fits, number-taken, address-taken, string-taken}
 
 -- a pair, and whatever follows it
@@ -76,6 +79,8 @@ module _ (w behind slots : List ℕ) where
       let nat-destination = then-fits _ _ _ _ (nat-source .1) in
       let first = then-fits _ _ _ _ (nat-destination .1) in
       let body = then-fits _ _ _ _ (first .1) in
+      let cookie = then-fits _ _ _ _ (body .1) in
+      let check-id = then-fits _ _ _ _ (cookie .1) in
       let given = lent slots in
       let p1 = number-taken w behind given _ 1 (simp getD-drop (told slots 1)) 32 _ (id .0) (omega arith) in
       let pair = pair-taken _ (id .1) in
@@ -87,4 +92,23 @@ module _ (w behind slots : List ℕ) where
       let p11 = number-taken w behind given _ 11 (simp getD-drop (told slots 11)) 8 _ (first .0) (omega arith) in
       let p12 =
       string-taken w behind given _ 12 (simp getD-drop (told slots 12)) (simp getD-drop (told slots 13)) (body .0) in
-      λ i. requestOf (told slots 0 i) (asked (p1 i) (pair i) (p7 i) (p9 i) (p11 i) (p12 i)) responseRoom
+      let p14 =
+      string-taken w behind given _ 14 (simp getD-drop (told slots 14)) (simp getD-drop (told slots 15)) (cookie .0) in
+      let p16 = number-taken w behind given _ 16 (simp getD-drop (told slots 16)) 32 _ (check-id .0) (omega arith) in
+      λ i. requestOf (told slots 0 i)
+      (asked (p1 i) (pair i) (p7 i) (p9 i) (p11 i) (p12 i) (checkOf (p14 i) (p16 i))) responseRoom
+
+  pub response-taken : fitsIn (fieldsOf kind.CheckResponse) w slots ≡ true
+      → responseBy (w ++ behind) (lent slots) ≡ responseFrom (valueIn (fieldsOf kind.CheckResponse) w slots)
+  unfolding valueIn
+  response-taken h =
+      let spi = then-fits _ _ _ _ h in
+      let id = then-fits _ _ _ _ (spi .1) in
+      let first = then-fits _ _ _ _ (id .1) in
+      let body = then-fits _ _ _ _ (first .1) in
+      let given = lent slots in
+      let p1 = number-taken w behind given _ 1 (simp getD-drop (told slots 1)) 32 _ (id .0) (omega arith) in
+      let p2 = number-taken w behind given _ 2 (simp getD-drop (told slots 2)) 8 _ (first .0) (omega arith) in
+      let p3 =
+      string-taken w behind given _ 3 (simp getD-drop (told slots 3)) (simp getD-drop (told slots 4)) (body .0) in
+      λ i. checkResponse (told slots 0 i) (p1 i) (p2 i) (p3 i)

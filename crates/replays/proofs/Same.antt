@@ -12,6 +12,7 @@ use Rattle.tables.specs.Calls.{openBoth, openIpsec, closeIke, closeIpsec}
 use Rattle.tables.specs.declared.calls.Opening.{Opening}
 use Rattle.checking.specs.Checks.{Request}
 use Rattle.responder.specs.Handle.{handled}
+use Rattle.routability.specs.Routability.{CheckResponse, checked}
 use Rattle.fields.specs.Fields.{Value}
 use Rattle.fields.specs.Slots.{valueIn, fitsIn}
 use Rattle.entries.specs.Kinds.{kindNumber, fieldsOf}
@@ -25,7 +26,7 @@ use Rattle.replays.specs.Calls.{calledAs, empty}
 use Rattle.replays.specs.Replay.{replayed}
 use Rattle.replays.specs.Same.{Performing, Replays, allRead}
 use Rattle.replays.proofs.Taken.{lent, told, then-fits, number-taken}
-use Rattle.replays.proofs.Arguments.{opening-taken, request-taken}
+use Rattle.replays.proofs.Arguments.{opening-taken, request-taken, response-taken}
 use Rattle.replays.proofs.Rules.{rules-taken}
 use Rattle.replays.proofs.Sizes.{empty-sized}
 use Rattle.replays.proofs.Runs.{runs}
@@ -60,7 +61,7 @@ acts-as kind.CloseIpsec w behind slots g h =
 acts-as kind.Request w behind slots g h =
     ap (λ (q : Request).
     let a = handled (g .policy) (g .ike) (g .ipsec) q in
-    gives (repliedBy (a .reply)) (gateway (a .ike) (a .ipsec) (g .policy)))
+    gives (repliedBy (a .reply)) (gateway (a .ike) (g .ipsec) (g .policy)))
     (request-taken w behind slots h)
 acts-as kind.Policy w behind slots g h =
     let rules = rules-taken w behind slots h in
@@ -68,6 +69,11 @@ acts-as kind.Policy w behind slots g h =
     let a = setPolicy (g .policy) n rs in
     gives (numberedBy (a .number)) (gateway (g .ike) (g .ipsec) (a .policy)))
     (rules .0) (rules .1)
+acts-as kind.CheckResponse w behind slots g h =
+    ap (λ (q : CheckResponse).
+    let a = checked (g .ike) (g .ipsec) q in
+    gives (numberedBy (a .told .number)) (gateway (a .ike) (a .ipsec) (g .policy)))
+    (response-taken w behind slots h)
 
 pub performing : Performing
 performing w behind at e slots next g o q =

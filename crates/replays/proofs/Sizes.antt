@@ -1,26 +1,28 @@
 -- No call changes how many places the tables have. Assumes nothing.
 use Prim.Native.Nat.{ℕ}
 use mathlib.Core.Path.{_≡_, refl}
-use mathlib.Core.Bool.{Bool, true, false, cond}
-use mathlib.Core.List.{List, map}
+use mathlib.Core.Bool.{Bool, true, false}
 use lib.Dec.{eqb}
 use lib.ListN.{length, length-set, length-map, length-replicate}
 use Rattle.octets.specs.Limits.{ikePlaces, ipsecPlaces}
 use Rattle.octets.specs.Checks.{firstFailed}
-use Rattle.records.specs.Records.{noIke, noIpsec, follows}
-use Rattle.records.specs.declared.ipsec.IpsecRecord.{IpsecRecord}
+use Rattle.records.specs.Records.{noIke, noIpsec}
 use Rattle.tables.specs.Calls.{openingChecks, addingChecks, closingChecks, hasIke, hasIpsec}
 use Rattle.tables.specs.declared.calls.Opening.{Opening}
 use Rattle.tables.specs.Calls.{openBoth, openIpsec, closeIke, closeIpsec}
-use Rattle.answering.specs.Core.{coreResult}
+use Rattle.tables.specs.Tables.{meant}
 use Rattle.checking.specs.Checks.{Request}
-use Rattle.responder.specs.Handle.{meant, accepts, earlyNumber, handled}
+use Rattle.responder.specs.Handle.{earlyNumber, handled}
+use Rattle.initiator.specs.Response.{outcomeNumber, noOutcome}
+use Rattle.initiator.specs.declared.response.Assessment.{Assessment}
+use Rattle.initiator.specs.declared.response.Outcome.the-variants.{Close, Accepted}
+use Rattle.routability.specs.Routability.{CheckResponse, checkTold, checked}
 use Rattle.fields.specs.Fields.{Value}
 use Rattle.entries.specs.Kinds.{fieldsOf}
 use Rattle.entries.specs.declared.kind.Kind.{Kind}
 use Rattle.entries.specs.declared.kind.Kind.the-variants as kind
 use Rattle.acts.specs.Performed.{Gateway, gateway}
-use Rattle.replays.specs.Calls.{openingOf, requestFrom, calledAs, empty}
+use Rattle.replays.specs.Calls.{openingOf, requestFrom, responseFrom, calledAs, empty}
 
 pub record Sized (g : Gateway) : Type 0 where
   pub ikes : length (g .ike) ≡ ikePlaces
@@ -70,26 +72,39 @@ child-closed g spi h = go (eqb (firstFailed (closingChecks (g .ipsec) spi (hasIp
     go true e = rw e (record { ikes = h .ikes; ipsecs = rw length-set (h .ipsecs) })
     go false e = rw e (record { ikes = h .ikes; ipsecs = h .ipsecs })
 
-followed : (b : Bool) (f : IpsecRecord → IpsecRecord) (xs : List IpsecRecord) → length xs ≡ ipsecPlaces
-    → length (cond b (map f xs) xs) ≡ ipsecPlaces
-followed true f xs h = rw length-map h
-followed false f xs h = h
-
 answered : (g : Gateway) (q : Request) → Sized g
-    → let a = handled (g .policy) (g .ike) (g .ipsec) q in Sized (gateway (a .ike) (a .ipsec) (g .policy))
+    → let a = handled (g .policy) (g .ike) (g .ipsec) q in Sized (gateway (a .ike) (g .ipsec) (g .policy))
 unfolding handled
 answered g q h = go (eqb (earlyNumber (g .ike) (g .ipsec) q) 0) refl
   where
     go : (b : Bool) → eqb (earlyNumber (g .ike) (g .ipsec) q) 0 ≡ b
-        → let a = handled (g .policy) (g .ike) (g .ipsec) q in Sized (gateway (a .ike) (a .ipsec) (g .policy))
-    go true e =
-        let c = coreResult (accepts (g .policy) q) (q .asks) (meant (g .ike) (q .spi)) in
-        rw e
-        (record {
-          ikes = rw length-set (h .ikes);
-          ipsecs = followed (c .moves) (follows (q .spi) (q .asks .pair)) (g .ipsec) (h .ipsecs);
-        })
+        → let a = handled (g .policy) (g .ike) (g .ipsec) q in Sized (gateway (a .ike) (g .ipsec) (g .policy))
+    go true e = rw e (record { ikes = rw length-set (h .ikes); ipsecs = h .ipsecs })
     go false e = rw e (record { ikes = h .ikes; ipsecs = h .ipsecs })
+
+-- by what the response comes to: refused, close, accepted, an error
+module _ (g : Gateway) (q : CheckResponse) (h : Sized g) where
+  abbrev told : Assessment
+  told = checkTold (length (g .ipsec)) (hasIke (q .spi) (g .ike)) (meant (g .ike) (q .spi)) q
+
+  abbrev Left : Type 0
+  Left = let a = checked (g .ike) (g .ipsec) q in Sized (gateway (a .ike) (a .ipsec) (g .policy))
+
+  responded : Left
+  unfolding checked
+  responded =
+      go (eqb (told .outcome) noOutcome) refl (eqb (told .outcome) (outcomeNumber Close)) refl
+      (eqb (told .outcome) (outcomeNumber Accepted)) refl
+    where
+      go : (x : Bool) → eqb (told .outcome) noOutcome ≡ x → (y : Bool)
+          → eqb (told .outcome) (outcomeNumber Close) ≡ y → (z : Bool)
+          → eqb (told .outcome) (outcomeNumber Accepted) ≡ z → Left
+      go true e y f z k = rw e (record { ikes = h .ikes; ipsecs = h .ipsecs })
+      go false e true f z k =
+          rw (e, f) (record { ikes = rw length-set (h .ikes); ipsecs = rw length-map (h .ipsecs) })
+      go false e false f true k =
+          rw (e, f, k) (record { ikes = rw length-set (h .ikes); ipsecs = rw length-map (h .ipsecs) })
+      go false e false f false k = rw (e, f, k) (record { ikes = rw length-set (h .ikes); ipsecs = h .ipsecs })
 
 pub called-sized : (k : Kind) (v : Value (fieldsOf k)) (g : Gateway) → Sized g → Sized (calledAs k v g .after)
 called-sized kind.OpenBoth v g h = opened g (openingOf v) h
@@ -98,3 +113,4 @@ called-sized kind.CloseIke v g h = closed g (v .0) h
 called-sized kind.CloseIpsec v g h = child-closed g (v .0) h
 called-sized kind.Request v g h = answered g (requestFrom v) h
 called-sized kind.Policy v g h = record { ikes = h .ikes; ipsecs = h .ipsecs }
+called-sized kind.CheckResponse v g h = responded g (responseFrom v) h

@@ -8,6 +8,7 @@ use mathlib.Core.List.{List, map, _++_}
 use lib.ListN.{length, replicate}
 use Rattle.octets.specs.Limits.{ikePlaces, ipsecPlaces, rulesMost, responseRoom}
 use Rattle.address.specs.declared.pair.Pair.{Pair}
+use Rattle.records.specs.Pending.{checkOf}
 use Rattle.records.specs.Records.{noIke, noIpsec}
 use Rattle.policy.specs.Policy.{setPolicy, noRule}
 use Rattle.policy.specs.declared.rules.Rule.{Rule}
@@ -17,6 +18,7 @@ use Rattle.tables.specs.declared.calls.Opening.{Opening}
 use Rattle.answering.specs.Core.{asked}
 use Rattle.checking.specs.Checks.{Request, requestOf}
 use Rattle.responder.specs.Handle.{handled}
+use Rattle.routability.specs.Routability.{CheckResponse, checkResponse, checked}
 use Rattle.fields.specs.Fields.{Value, inOrder}
 use Rattle.entries.specs.Kinds.{fieldsOf, ruleFields}
 use Rattle.entries.specs.Entries.{Entry}
@@ -55,14 +57,19 @@ openingOf v =
       child = behindPair (v .1 .1) .0;
     }
 
--- "A request is given as SPI, ID, packet's pair, the two NAT values, first type, body"; the replay lends an output of
--- the room that a response needs
+-- "A request is given as SPI, ID, packet's pair, the two NAT values, first type, body", and with it the cookie and the
+-- ID of our check; the replay lends an output of the room that a response needs
 abbrev pub requestFrom : Value (fieldsOf kind.Request) → Request
 requestFrom v =
     let pair = v .1 .1 in
     let more = behindPair pair in
-    let a = asked (v .1 .0) (pairOf pair) (more .0) (more .1 .0) (more .1 .1 .0) (more .1 .1 .1 .0) in
+    let check = checkOf (more .1 .1 .1 .1 .0) (more .1 .1 .1 .1 .1 .0) in
+    let a = asked (v .1 .0) (pairOf pair) (more .0) (more .1 .0) (more .1 .1 .0) (more .1 .1 .1 .0) check in
     requestOf (v .0) a responseRoom
+
+-- 02, E6: "a response (SPI, ID, first type, body)"
+abbrev pub responseFrom : Value (fieldsOf kind.CheckResponse) → CheckResponse
+responseFrom v = checkResponse (v .0) (v .1 .0) (v .1 .1 .0) (v .1 .1 .1 .0)
 
 abbrev pub ruleOf : Value (inOrder ruleFields) → Rule
 ruleOf v =
@@ -94,10 +101,14 @@ calledAs kind.CloseIpsec v g =
     gives (numberedBy (a .number)) (gateway (g .ike) (a .ipsec) (g .policy))
 calledAs kind.Request v g =
     let a = handled (g .policy) (g .ike) (g .ipsec) (requestFrom v) in
-    gives (repliedBy (a .reply)) (gateway (a .ike) (a .ipsec) (g .policy))
+    gives (repliedBy (a .reply)) (gateway (a .ike) (g .ipsec) (g .policy))
 calledAs kind.Policy v g =
     let a = setPolicy (g .policy) (length (v .0)) (rulesOf (v .0)) in
     gives (numberedBy (a .number)) (gateway (g .ike) (g .ipsec) (a .policy))
+-- its outcome is not printed: what it did shows in the pairs
+calledAs kind.CheckResponse v g =
+    let a = checked (g .ike) (g .ipsec) (responseFrom v) in
+    gives (numberedBy (a .told .number)) (gateway (a .ike) (a .ipsec) (g .policy))
 
 abbrev pub called : Entry → Gateway → Performed
 called e g = calledAs (e .kind) (e .values) g

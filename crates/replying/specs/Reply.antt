@@ -8,7 +8,7 @@
 --   CoreAnswer        a reply, the marks after it, and where in the body the list stands that may be kept
 --   decidedAnswer     the answer by a decision
 --   unchangedAnswer   the answer that leaves the record as it is
---   moved             whether the record takes the packet's pair, and what it owns with it
+--   moved             whether the record takes the packet's pair, and keeps the check
 --   listReplaced      whether the list is kept
 use Prim.Native.Nat.{ℕ}
 use mathlib.Core.Bool.{Bool}

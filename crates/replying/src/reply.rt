@@ -33,8 +33,8 @@ pub struct Reply {
     pub length: u16,
 }
 
-// The reply, and what changes in the record: its marks; its pair, where the reply says that the update was applied, and
-// its IPsec records follow it; its list, where the reply says that it was replaced, by where it stands in the body.
+// The reply, and what changes in the record: its marks; its pair and its pending check, where the reply says that the
+// update was applied; its list, where the reply says that it was replaced, by where it stands in the body.
 pub struct CoreAnswer {
     pub reply: Reply,
     pub marks: Marks,
@@ -112,7 +112,7 @@ pub fn unchanged(reply: Reply, marks: Marks) -> CoreAnswer
     CoreAnswer { reply, marks, list }
 }
 
-// Whether the record moves, and what it owns follows.
+// Whether the record moves.
 pub fn moves(a: CoreAnswer) -> bool
     ensures { λ r. ⌜ r ≡ moved a ⌝ }
 {

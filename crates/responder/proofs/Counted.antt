@@ -17,7 +17,8 @@ use Rattle.verdict.proofs.Numbers.{verdict-of}
 use Rattle.answering.specs.Core.{decisionOn, coreAnswer}
 use Rattle.checking.proofs.Checks.{passed, early-passes}
 use Rattle.checking.specs.Checks.{Request}
-use Rattle.responder.specs.Handle.{meant, accepts, earlyNumber, handled}
+use Rattle.responder.specs.Handle.{accepts, earlyNumber, handled}
+use Rattle.tables.specs.Tables.{meant}
 
 -- a refusal counts nothing
 refused-none : (n first : ℕ) (body : List ℕ) → oneToSeven n ≡ true → 0 ≡ countTold n first body

@@ -2,8 +2,7 @@
 -- around it.
 use Prim.Native.Nat.{ℕ}
 use mathlib.Core.Path.{_≡_}
-use mathlib.Core.List.{List, map}
-use mathlib.Core.Bool.{cond}
+use mathlib.Core.List.{List}
 use native.Mathlib.Decide.{ℕ-discrete}
 use borrow.Author.Tests.{eq-eqb, ne-eqb}
 use lib.ListN.{length, set}
@@ -11,17 +10,17 @@ use lib.Seq.{set-getD}
 use Rattle.octets.specs.Limits.{ikePlaces}
 use Rattle.octets.specs.Lists.{placeOf}
 use Rattle.policy.specs.declared.rules.Policy.{Policy}
-use Rattle.records.specs.Records.{ikeSpi, noIke, follows}
+use Rattle.records.specs.Records.{ikeSpi, noIke}
 use Rattle.records.specs.declared.ike.IkeRecord.{IkeRecord}
 use Rattle.records.specs.declared.ipsec.IpsecRecord.{IpsecRecord}
 use Rattle.replying.specs.Change.{changedBy}
-use Rattle.replying.specs.Reply.{moved}
 use Rattle.replying.specs.declared.reply.CoreAnswer.{CoreAnswer}
 use Rattle.checking.specs.Checks.{Request}
-use Rattle.responder.specs.Handle.{Handled, meant, accepts, earlyNumber, handled, handledResponse}
+use Rattle.responder.specs.Handle.{Handled, accepts, earlyNumber, handled, handledResponse}
 use Rattle.checking.specs.Lookup.{lookedUp, earlyNumberAt}
 use Rattle.responder.specs.Looked.{handledAt, responseAt}
 use Rattle.checking.specs.declared.lookup.Looked.{Looked}
+use Rattle.tables.specs.Tables.{meant}
 
 module _ (policy : Policy) (ike : List IkeRecord) (ipsec : List IpsecRecord) (q : Request)
     (long : length ike ≡ ikePlaces) where
@@ -37,11 +36,11 @@ module _ (policy : Policy) (ike : List IkeRecord) (ipsec : List IpsecRecord) (q 
   same-number : earlyNumber ike ipsec q ≡ earlyNumberAt looked q
   same-number = rw long
 
-  -- the tables after a change of one record, and of what it owns if it moved
+  -- the table after a change of one record
   pub record Handles (h : Handled) (response : List ℕ) : Type 0 where
     pub reply : result .reply ≡ h .reply
-    pub ike-after : set ike place (changedBy result (q .asks .pair) (q .asks .body) (meant ike (q .spi))) ≡ h .ike
-    pub ipsec-after : cond (moved result) (map (follows (q .spi) (q .asks .pair)) ipsec) ipsec ≡ h .ipsec
+    pub ike-after :
+        set ike place (changedBy result (q .asks .pair) (q .asks .check) (q .asks .body) (meant ike (q .spi))) ≡ h .ike
     pub octets : responseAt (accepts policy q) looked q ≡ response
 
   pub handles : Handles (handled policy ike ipsec q) (handledResponse policy ike ipsec q)
@@ -54,7 +53,6 @@ module _ (policy : Policy) (ike : List IkeRecord) (ipsec : List IpsecRecord) (q 
           record {
             reply = rw (same-number, t);
             ike-after = rw (same-number, t);
-            ipsec-after = rw (same-number, t);
             octets = rw (same-number, t);
           }
       go (no n) =
@@ -62,6 +60,5 @@ module _ (policy : Policy) (ike : List IkeRecord) (ipsec : List IpsecRecord) (q 
           record {
             reply = rw (same-number, t);
             ike-after = rw (same-number, t) (set-getD ike place noIke);
-            ipsec-after = rw (same-number, t);
             octets = rw (same-number, t);
           }

@@ -1,6 +1,5 @@
 -- Trusted. One request on the tables: 01's "One request, step by step", its checks 1 to 5, then the core on the record
 -- that the SPI means; what `unmavreth_handle` gives back and leaves.
---   meant                   the record that an SPI means
 --   accepts                 whether the policy accepts a request's pair
 --   earlyNumber             the number of the first of checks 1 to 5 that fails on these tables; 0 where all pass
 --   Handled, handled        all that a request gives back, both tables after it included
@@ -9,18 +8,18 @@
 --   seenIn                  what was seen in its chain
 --   afterRequest            both tables after it
 use Prim.Native.Nat.{ℕ}
-use mathlib.Core.List.{List, [], map}
+use mathlib.Core.List.{List, []}
 use mathlib.Core.Bool.{Bool, cond}
 use mathlib.Core.Path.{_≡_}
 use lib.Dec.{eqb}
-use lib.ListN.{length, getD, set}
+use lib.ListN.{length, set}
 use Rattle.writing.specs.Notify.{placed}
 use Rattle.octets.specs.Lists.{placeOf}
 use Rattle.policy.specs.Policy.{acceptable}
 use Rattle.policy.specs.declared.rules.Policy.{Policy}
-use Rattle.records.specs.Records.{ikeSpi, noIke, marksIn, follows}
+use Rattle.records.specs.Records.{ikeSpi, marksIn}
 use Rattle.tables.specs.Calls.{hasIke}
-use Rattle.tables.specs.Tables.{Tables, tables}
+use Rattle.tables.specs.Tables.{Tables, tables, meant}
 use Rattle.records.specs.declared.ike.IkeRecord.{IkeRecord}
 use Rattle.records.specs.declared.ipsec.IpsecRecord.{IpsecRecord}
 use Rattle.findings.specs.declared.seen.Seen.{Seen}
@@ -30,10 +29,6 @@ use Rattle.answering.specs.Core.{coreResult, coreResponse}
 use Rattle.replying.specs.declared.reply.Reply.{Reply}
 use Rattle.checking.specs.Checks.{Request, earlyNumberBy}
 
--- the record that an SPI means
-abbrev pub meant : List IkeRecord → ℕ → IkeRecord
-meant ike spi = getD ike (placeOf ikeSpi spi ike) noIke
-
 -- 01: "the pair must be acceptable": the packet's, by the policy that is lent
 abbrev pub accepts : Policy → Request → Bool
 accepts policy q = acceptable policy (q .asks .pair)
@@ -41,23 +36,19 @@ accepts policy q = acceptable policy (q .asks .pair)
 abbrev pub earlyNumber : List IkeRecord → List IpsecRecord → Request → ℕ
 earlyNumber ike ipsec q = earlyNumberBy (length ipsec) (hasIke (q .spi) ike) (meant ike (q .spi) .agreed) q
 
--- All that a request gives back, the tables after it included.
+-- All that a request gives back, the table after it included.
 pub record Handled : Type 0 where
   pub reply : Reply
   pub ike : List IkeRecord
-  pub ipsec : List IpsecRecord
 
--- "the IKE record and all its IPsec records take the packet's pair, and no other record changes".
+-- 01: "the IKE record ... take[s] the packet's pair, and no other record changes"; 02, E6: "but its IPsec records only
+-- after a return routability check", so the IPsec list stays as it is.
 unfoldable pub handled : Policy → List IkeRecord → List IpsecRecord → Request → Handled
 handled policy ike ipsec q =
     let c = coreResult (accepts policy q) (q .asks) (meant ike (q .spi)) in
     cond (eqb (earlyNumber ike ipsec q) 0)
-    (record {
-      reply = c .reply;
-      ike = set ike (placeOf ikeSpi (q .spi) ike) (c .entry);
-      ipsec = cond (c .moves) (map (follows (q .spi) (q .asks .pair)) ipsec) ipsec;
-    })
-    (record { reply = refusalReply (earlyNumber ike ipsec q); ike = ike; ipsec = ipsec })
+    (record { reply = c .reply; ike = set ike (placeOf ikeSpi (q .spi) ike) (c .entry) })
+    (record { reply = refusalReply (earlyNumber ike ipsec q); ike = ike })
 
 -- The response's octets; "None" for 1 to 5.
 unfoldable pub handledResponse : Policy → List IkeRecord → List IpsecRecord → Request → List ℕ
@@ -65,14 +56,12 @@ handledResponse policy ike ipsec q =
     cond (eqb (earlyNumber ike ipsec q) 0)
     (coreResponse (accepts policy q) (q .asks) (marksIn (meant ike (q .spi)))) []
 
--- What is promised of a request on these tables and this output, from any of them: all that it gives back, both tables
--- and the output after it, and that the payload count is the chain's.
+-- What is promised of a request on these tables and this output, from any of them: all that it gives back, the IKE table
+-- and the output after it, and that the payload count is the chain's. The IPsec list is lent for reading alone.
 module _ (policy : Policy) (ike : List IkeRecord) (ipsec : List IpsecRecord) (q : Request) (out : List ℕ) where
-  pub record HandledAs (r : Reply) (ike-after : List IkeRecord) (ipsec-after : List IpsecRecord) (out-after : List ℕ)
-      : Type 0 where
+  pub record HandledAs (r : Reply) (ike-after : List IkeRecord) (out-after : List ℕ) : Type 0 where
     pub reply : r ≡ handled policy ike ipsec q .reply
     pub records : ike-after ≡ handled policy ike ipsec q .ike
-    pub owned : ipsec-after ≡ handled policy ike ipsec q .ipsec
     pub output : out-after ≡ placed out 0 (handledResponse policy ike ipsec q)
     pub counts : r .payloads ≡ countTold (r .number) (q .asks .first) (q .asks .body)
 
@@ -83,5 +72,4 @@ seenIn q = reading (q .asks .first) (q .asks .body) .seen
 -- the tables after a request
 unfoldable pub afterRequest : Policy → Request → Tables → Tables
 afterRequest policy q t =
-    let h = handled policy (t .ike) (t .ipsec) q in
-    tables (h .ike) (h .ipsec)
+    tables (handled policy (t .ike) (t .ipsec) q .ike) (t .ipsec)

@@ -8,6 +8,7 @@ use Rattle.findings.specs.Seen.{noted, contentNoted}
 use Rattle.reader.specs.Chain.{chain, chainAt, scanned, reading}
 use Rattle.prefix.specs.Prefix.{prefixMatches}
 use Rattle.policy.specs.Policy.{ruleMatches, acceptable}
+use Rattle.records.specs.Pending.{checkOf}
 use Rattle.writing.specs.Notify.{notifyOctets, chained}
 use Rattle.verdict.specs.Verdict.{unaltered, verdict}
 use Rattle.deciding.specs.Decide.{listDecided, updateDecided, decided}
@@ -19,6 +20,6 @@ use Rattle.rows.specs.Rows.{rowHolds, rows}
 
 pub rows-hold : all rowHolds rows ≡ true
 unfolding rowHolds kindOf notifyAt sized payloadAt noted contentNoted chain chainAt scanned reading prefixMatches
-    ruleMatches acceptable notifyOctets unaltered verdict listDecided updateDecided decided chained chainError
+    ruleMatches acceptable checkOf notifyOctets unaltered verdict listDecided updateDecided decided chained chainError
     coreResponse coreAnswer changedBy earlyNumberBy handled handledResponse
 rows-hold = refl

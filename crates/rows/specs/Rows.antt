@@ -12,7 +12,8 @@ use lib.Dec.{eqb}
 use lib.ListN.{length, getD, replicate}
 use Rattle.octets.specs.declared.number.Number.{Number}
 use Rattle.octets.specs.declared.number.Number.the-variants as told
-use Rattle.octets.specs.Limits.{addressOctets, ipsecPlaces, natOctets, notifyHeader, responseRoom, rulesMost}
+use Rattle.octets.specs.Limits.{addressOctets, cookieLeast, ipsecPlaces, natOctets, notifyHeader, responseRoom}
+use Rattle.octets.specs.Limits.{rulesMost}
 use Rattle.octets.specs.Numbers.{numberOf}
 use Rattle.octets.specs.Wire.{notifyPayload}
 use Rattle.octets.specs.Octets.{padded}
@@ -20,6 +21,7 @@ use Rattle.address.specs.declared.pair.Pair.{Pair}
 use Rattle.policy.specs.Policy.{noRule}
 use Rattle.policy.specs.declared.rules.Rule.{Rule}
 use Rattle.policy.specs.declared.rules.Policy.{Policy}
+use Rattle.records.specs.Pending.{noCheck, checkOf}
 use Rattle.records.specs.Records.{newIke, noIke, noIpsec, remarked}
 use Rattle.records.specs.declared.ike.Agreed.{Agreed}
 use Rattle.records.specs.declared.ike.IkeRecord.{IkeRecord}
@@ -93,11 +95,13 @@ agreed = record { mobike = 1 }
 abbrev recordWith : ℕ → IkeRecord
 recordWith mark =
     let marks : Marks = record { agreed = agreed; «update_mark» = mark; «list_mark» = 0; unknown = 0 } in
-    remarked marks false pair (newIke 7 agreed pair)
+    remarked marks false pair noCheck (newIke 7 agreed pair)
 
+-- a request for that record, with a cookie of ours that passes check 1 (02, E6)
 abbrev asksFor : Given → Request
 asksFor g =
-    let asks = asked (g .id) pair (replicate natOctets 1) (replicate natOctets 2) (g .first) (g .body) in
+    let check = checkOf (replicate cookieLeast 3) 1 in
+    let asks = asked (g .id) pair (replicate natOctets 1) (replicate natOctets 2) (g .first) (g .body) check in
     requestOf 7 asks responseRoom
 
 unfoldable pub rowHolds : Row → Bool

@@ -3,6 +3,7 @@ use entries::kind::Kind;
 use fields::room::Room;
 use reading_kinds::tables::ADD_IPSEC;
 use reading_kinds::tables::AFTER_RULES;
+use reading_kinds::tables::CHECK_RESPONSE;
 use reading_kinds::tables::CLOSE_IKE;
 use reading_kinds::tables::CLOSE_IPSEC;
 use reading_kinds::tables::OPEN_BOTH;
@@ -29,5 +30,6 @@ pub fn fields_room(kind: Kind, slots: &[u64], source: &[u8], room: Room) -> Room
         Kind::CloseIpsec => table_room(&CLOSE_IPSEC, slots, 0, source, room),
         Kind::Request => table_room(&REQUEST, slots, 0, source, room),
         Kind::Policy => listed_room(&RULE, RULE_SLOTS, &AFTER_RULES, slots, 0, source, room),
+        Kind::CheckResponse => table_room(&CHECK_RESPONSE, slots, 0, source, room),
     }
 }

@@ -7,6 +7,7 @@
 --   openingChecks, openBoth     an IKE record and its first IPsec record are opened
 --   addingChecks, openIpsec     another IPsec record is opened
 --   closingChecks               of either closing
+--   ikeClosed, ownedClosed      the tables after an IKE record is closed, by a call or by a check
 --   closeIke, closeIpsec        a record is closed
 use Prim.Native.Nat.{ℕ}
 use mathlib.Core.List.{List, [], _∷_, map}
@@ -100,11 +101,17 @@ closingChecks ipsec spi there =
     ∷ []
 
 -- 01: "closing sets all its fields to 0 or none"; "Closing an IKE record closes the IPsec records it owns."
+abbrev pub ikeClosed : List IkeRecord → ℕ → List IkeRecord
+ikeClosed ike spi = set ike (placeOf ikeSpi spi ike) noIke
+
+abbrev pub ownedClosed : List IpsecRecord → ℕ → List IpsecRecord
+ownedClosed ipsec spi = map (released spi) ipsec
+
 unfoldable pub closeIke : List IkeRecord → List IpsecRecord → ℕ → TablesAnswer
 closeIke ike ipsec spi =
     let number = firstFailed (closingChecks ipsec spi (hasIke spi ike)) in
     cond (eqb number 0)
-    (tablesAnswer 0 (set ike (placeOf ikeSpi spi ike) noIke) (map (released spi) ipsec))
+    (tablesAnswer 0 (ikeClosed ike spi) (ownedClosed ipsec spi))
     (tablesAnswer number ike ipsec)
 
 unfoldable pub closeIpsec : List IpsecRecord → ℕ → IpsecAnswer

@@ -1,6 +1,6 @@
 -- Inner. The tables by SPI: what a call that gives an SPI sees of them, and what it may change. Serves the proof of
 -- demand 3, which does not speak of it; each kind of call is shown to be such (`closing-by-spi` in
--- `views/proofs/Closing.antt`, `by-spi` in `reordering/proofs/Steps.antt`).
+-- `views/proofs/Closing.antt`, `by-spi` in `reordering/proofs/Events.antt`).
 use Prim.Native.Nat.{ℕ}
 use mathlib.Core.Path.{_≡_}
 use mathlib.Core.List.{map}

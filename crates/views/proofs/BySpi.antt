@@ -9,7 +9,7 @@ use native.Mathlib.Decide.{ℕ-discrete}
 use Rattle.tables.specs.Tables.{Tables, inUse}
 use Rattle.tables.specs.View.{View, view, Change, stays, applied, Proper, BySpi}
 use Rattle.records.specs.declared.ike.IkeRecord.{IkeRecord}
-use Rattle.views.proofs.View.{applied-stays, unseen, applied-swap}
+use Rattle.views.proofs.View.{place, applied-stays, unseen, place-beside, applied-swap}
 
 -- s was reached from t: an SPI that no record of t has sees in s what it saw in t
 abbrev pub Since : Tables → Tables → Type 0
@@ -26,6 +26,9 @@ module _ {E A : Type 0} {spi : E → ℕ} {step : E → Tables → Tables} {answ
 
   pub unseen-by : (e : E) (k : ℕ) → (spi e ≡ k → ⊥) → (t : Tables) → view k (step e t) ≡ view k t
   unseen-by e k n t = rw (b .step-is e t) (unseen (spi e) k n t (done e t) (own e t))
+
+  pub place-by : (e : E) (k : ℕ) → (spi e ≡ k → ⊥) → (k ≡ 0 → ⊥) → (t : Tables) → place k (step e t) ≡ place k t
+  place-by e k n named t = rw (b .step-is e t) (place-beside (spi e) k n named t (done e t) (own e t))
 
   -- one call after the other, by what each sees at first
   one-after : (e f : E) → (spi e ≡ spi f → ⊥) → (t : Tables)

@@ -34,6 +34,11 @@ module _ (k : ℕ) (t : Tables) {r : IkeRecord} (seen : view k t .entry ≡ some
   place-own : place k (tables (set (t .ike) (place k t) new) (t .ipsec)) ≡ place k t
   place-own = store-same ikeSpi k (t .ike) (place k t) new noIke (same ∙ ap ikeSpi (sym (found k t seen .is)))
 
+  -- in the same place
+  pub stays-in-place : place k (applied k (becomes new p) t) ≡ place k t
+  unfolding applied
+  stays-in-place = place-own
+
   pub view-own : view k (applied k (becomes new p) t) ≡ record { entry = some new; lent = length (t .ipsec) }
   unfolding applied
   view-own =

@@ -10,12 +10,12 @@ use native.Mathlib.Omega.{arith}
 use native.Mathlib.Decide.{ℕ-discrete}
 use borrow.Author.Tests.{eq-eqb, ne-eqb, eqb-false, ltb-true}
 use lib.Dec.{eqb}
-use lib.ListN.{length, getD, set, length-set, length-map}
+use lib.ListN.{length, getD, set, length-set, length-map, List·getD-map}
 use lib.Seq.{getD-set-other, set-getD, set-comm}
 use Rattle.octets.specs.Lists.{placeOf}
 use Rattle.octets.proofs.Places.{place-has, store-other}
 use Rattle.octets.proofs.Small.{chosen}
-use Rattle.records.specs.Records.{ikeSpi, noIke}
+use Rattle.records.specs.Records.{ikeSpi, noIke, noIpsec}
 use Rattle.tables.specs.Calls.{hasIke}
 use Rattle.tables.specs.Tables.{Tables, tables}
 use Rattle.tables.specs.View.{view, Change, stays, becomes, closes, entryAfter, childAfter, applied, Proper}
@@ -95,6 +95,21 @@ pub applied-stays : (k : ℕ) (t : Tables) → applied k stays t ≡ t
 unfolding applied
 applied-stays k t = rw (set-getD (t .ike) (place k t) noIke, map-id (t .ipsec))
 
+-- a call that makes the record another, and leaves alone what it owns
+pub applied-alone : (k : ℕ) (t : Tables) (r : IkeRecord)
+    → applied k (becomes r none) t ≡ tables (set (t .ike) (place k t) r) (t .ipsec)
+unfolding applied
+applied-alone k t r = rw (map-id (t .ipsec))
+
+-- an IPsec record that names another owner stays, in its place
+pub child-beside : (k : ℕ) (c : Change) (t : Tables) (j : ℕ) → (getD (t .ipsec) j noIpsec .owner ≡ k → ⊥)
+    → getD (applied k c t .ipsec) j noIpsec ≡ getD (t .ipsec) j noIpsec
+unfolding applied
+child-beside k c t j n =
+    ap (getD (map (childAfter k c) (t .ipsec)) j) (sym (child-stays k noIpsec c (inl refl)))
+    ∙ List·getD-map (childAfter k c) (t .ipsec) j noIpsec
+    ∙ child-stays k (getD (t .ipsec) j noIpsec) c (inr n)
+
 -- A record that is stored in the place of another SPI than k, and has not the SPI k, is not seen by k.
 module _ (k : ℕ) (t : Tables) (p : ℕ) (y : IkeRecord) (xs : List IpsecRecord) (there : p < length (t .ike))
     (before : getD (t .ike) p noIke .spi ≡ k → ⊥) (behind : y .spi ≡ k → ⊥) where
@@ -136,6 +151,10 @@ module _ (k l : ℕ) (n : k ≡ l → ⊥) (named : l ≡ 0 → ⊥) (t : Tables
   view-beside =
       rw (entry-unseen l t (place k t) new children (m .there) before behind, length-map (t .ipsec) (childAfter k c))
 
+  place-still : place l (applied k c t) ≡ place l t
+  unfolding applied
+  place-still = place-unseen l t (place k t) new children (m .there) before behind
+
   -- and a change of l's record behind it
   store-beside : (d : Change) → applied l d (applied k c t)
       ≡ tables (set (set (t .ike) (place k t) new) (place l t) (entryAfter d (getD (t .ike) (place l t) noIke)))
@@ -161,6 +180,15 @@ unseen k l n t c = go (view k t .entry) refl (ℕ-discrete l 0)
     go none e d p = rw (p, applied-stays k t)
     go (some r) e (yes z) p = zero-unseen k l z t c
     go (some r) e (no z) p = view-beside k l n z t (found k t e) c p
+
+-- nor is the record that it means in another place
+pub place-beside : (k l : ℕ) → (k ≡ l → ⊥) → (l ≡ 0 → ⊥) → (t : Tables) (c : Change) → Proper (view k t .entry) c
+    → place l (applied k c t) ≡ place l t
+place-beside k l n named t c = go (view k t .entry) refl
+  where
+    go : (o : Option IkeRecord) → view k t .entry ≡ o → Proper o c → place l (applied k c t) ≡ place l t
+    go none e p = rw (p, applied-stays k t)
+    go (some r) e p = place-still k l n named t (found k t e) c p
 
 -- Changes of two SPIs may come in either order.
 pub applied-swap : (k l : ℕ) → (k ≡ l → ⊥) → (t : Tables) (c d : Change) → Proper (view k t .entry) c

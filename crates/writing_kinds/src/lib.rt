@@ -3,6 +3,7 @@
 use entries::kind::Kind;
 use reading_kinds::tables::ADD_IPSEC;
 use reading_kinds::tables::AFTER_RULES;
+use reading_kinds::tables::CHECK_RESPONSE;
 use reading_kinds::tables::CLOSE_IKE;
 use reading_kinds::tables::CLOSE_IPSEC;
 use reading_kinds::tables::OPEN_BOTH;
@@ -29,5 +30,6 @@ pub fn put_fields(out: &mut [u8], at: usize, kind: Kind, slots: &[u64], source: 
         Kind::CloseIpsec => put_table(out, at, &CLOSE_IPSEC, slots, 0, source),
         Kind::Request => put_table(out, at, &REQUEST, slots, 0, source),
         Kind::Policy => put_listed(out, at, &RULE, RULE_SLOTS, &AFTER_RULES, slots, 0, source),
+        Kind::CheckResponse => put_table(out, at, &CHECK_RESPONSE, slots, 0, source),
     }
 }

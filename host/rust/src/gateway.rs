@@ -1,7 +1,7 @@
 //! The tables and the policy of one gateway, owned together.
-use crate::layout::{IkeRecord, IpsecRecord, Opening, Pair, Policy, Reply, Rule};
+use crate::layout::{Assessment, IkeRecord, IpsecRecord, Opening, Pair, Policy, Reply, Rule};
 use crate::limits::{IKE_PLACES, IPSEC_PLACES, RULES_MOST};
-use crate::{Number, Request};
+use crate::{CheckResponse, Number, Request};
 
 /// A gateway's tables and policy, empty at first. A host that keeps them elsewhere lends them to the
 /// functions of this crate, to which each call here is handed.
@@ -64,7 +64,12 @@ impl Gateway {
 
     /// As [`handle`](crate::handle).
     pub fn handle(&mut self, request: &Request<'_>, out: &mut [u8]) -> Reply {
-        crate::handle(&mut self.ike, &mut self.ipsec[..], &self.policy, request, out)
+        crate::handle(&mut self.ike, &self.ipsec[..], &self.policy, request, out)
+    }
+
+    /// As [`check`](crate::check).
+    pub fn check(&mut self, response: &CheckResponse<'_>) -> Assessment {
+        crate::check(&mut self.ike, &mut self.ipsec[..], response)
     }
 }
 
@@ -80,7 +85,7 @@ impl Gateway {
         self.ipsec.iter().find(|record| spi != 0 && record.spi == spi)
     }
 
-    /// The IPsec records in use that this IKE record owns: exactly those that an applied update moves.
+    /// The IPsec records in use that this IKE record owns: exactly those that an accepted check moves.
     pub fn owned(&self, owner: u64) -> impl Iterator<Item = &IpsecRecord> {
         self.ipsec.iter().filter(move |record| record.spi != 0 && record.owner == owner)
     }

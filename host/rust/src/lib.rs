@@ -14,12 +14,13 @@
 //! variable `UNMAVRETH_LIBRARY_DIRECTORY` names another directory. A library whose interface has another
 //! number than [`INTERFACE`] does not link.
 //!
-//! A whole exchange, from the initiator's update to what it makes of the response:
+//! Two whole exchanges: the initiator's update with what it makes of the response, and the gateway's check
+//! of where it is now:
 //!
 //! ```
 //! use unmavreth::limits::{NAT_OCTETS, REQUEST_ROOM, RESPONSE_ROOM};
-//! use unmavreth::{assess, write, Agreed, Ask, Draft, Effect, Gateway, Number, Opening, Outcome, Pair};
-//! use unmavreth::{Request, Rule};
+//! use unmavreth::{assess, read, write, write_check, Agreed, Ask, CheckResponse, Draft, Effect, Gateway};
+//! use unmavreth::{Number, Opening, Outcome, Pair, Request, Rule};
 //!
 //! // The responder's end: one IKE SA with one IPsec SA, and where peers may move to.
 //! let old = Pair::ipv4(([203, 0, 113, 5], 4500), ([192, 0, 2, 1], 4500));
@@ -37,7 +38,8 @@
 //! let written = write(&Draft { ask, cookie: &sent, ..Draft::default() }, &mut out);
 //! assert_eq!((written.number(), written.length()), (Number::Done, 24));
 //!
-//! // The request arrives from another address, and is handled.
+//! // The request arrives from another address, and is handled. Lent with it is what a check would have: a
+//! // cookie that nobody can guess, and the message ID of the gateway's next request.
 //! let new = Pair::ipv4(([198, 51, 100, 7], 4500), ([192, 0, 2, 1], 4500));
 //! let request = Request {
 //!     spi: 7,
@@ -47,17 +49,31 @@
 //!     nat_destination: &[0; NAT_OCTETS],
 //!     first: written.first(),
 //!     body: written.body(&out),
+//!     cookie: &[9; 16],
+//!     check_id: 0,
 //! };
 //! let mut answer = [0; RESPONSE_ROOM];
 //! let reply = gateway.handle(&request, &mut answer);
 //! assert_eq!((reply.number(), reply.update()), (Number::Done, Effect::Applied));
 //! assert_eq!(reply.cookie(request.body), sent);
-//! assert_eq!((gateway.ike[0].pair, gateway.ipsec[0].pair), (new, new));
+//! assert_eq!((gateway.ike[0].pair, gateway.ipsec[0].pair), (new, old));
 //!
 //! // The response goes back, and brings the cookie.
 //! let assessed = assess(&sent, reply.first(), reply.response(&answer));
 //! assert_eq!((assessed.number(), assessed.outcome()), (Number::Done, Outcome::Accepted));
 //! assert_eq!(assessed.cookie(reply.response(&answer)), sent);
+//!
+//! // The gateway writes its check, and the initiator's host copies the cookie into a response.
+//! let mut out = [0; REQUEST_ROOM];
+//! let asked = write_check(&reply, &request, &mut out);
+//! let cookie = read(asked.first(), asked.body(&out)).cookie(asked.body(&out));
+//! let mut copy = [0; REQUEST_ROOM];
+//! let copied = write(&Draft { cookie, ..Draft::default() }, &mut copy);
+//!
+//! // It comes back, and the IPsec record moves.
+//! let response = CheckResponse { spi: 7, id: 0, first: copied.first(), body: copied.body(&copy) };
+//! assert_eq!(gateway.check(&response).outcome(), Outcome::Accepted);
+//! assert_eq!((gateway.ike[0].pair, gateway.ipsec[0].pair), (new, new));
 //! ```
 #![deny(missing_docs)]
 #![deny(unsafe_op_in_unsafe_fn)]
@@ -76,6 +92,7 @@ mod raw;
 mod reader;
 mod records;
 mod responder;
+mod routability;
 mod sockets;
 pub mod trace;
 mod version;
@@ -84,8 +101,8 @@ mod words;
 pub use gateway::Gateway;
 pub use initiator::{assess, write, Draft};
 pub use layout::{
-    Address, Agreed, Ask, Assessment, Flag, IkeRecord, IpsecRecord, Offsets, Opening, Pair, Policy,
-    Reading, Reply, Rule, Seen, Tally, Written,
+    Address, Agreed, Ask, Assessment, Flag, IkeRecord, IpsecRecord, Offsets, Opening, Pair,
+    PendingCheck, Policy, Reading, Reply, Rule, Seen, Tally, Written,
 };
 pub use numbers::{Effect, Number, Outcome};
 pub use policy::{acceptable, set_policy};
@@ -93,5 +110,6 @@ pub use raw::INTERFACE;
 pub use reader::{addresses, cookie, nat_value, no_nats, read};
 pub use records::{close_ike, close_ipsec, open, open_ipsec};
 pub use responder::{handle, Request};
+pub use routability::{check, write_check, CheckResponse};
 pub use version::interface;
 pub use words::{notify_words, payload_words};

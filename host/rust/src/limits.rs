@@ -24,9 +24,9 @@ pub const PAYLOAD_HEADER: usize = 4;
 pub const NOTIFY_HEADER: usize = PAYLOAD_HEADER + 4;
 /// A NAT detection value.
 pub const NAT_OCTETS: usize = 20;
-/// The shortest COOKIE2.
+/// The shortest COOKIE2, and the shortest cookie of a check.
 pub const COOKIE_LEAST: usize = 8;
-/// The longest COOKIE2.
+/// The longest.
 pub const COOKIE_MOST: usize = 64;
 /// A NO_NATS_ALLOWED of IPv4: two addresses and two ports.
 pub const NO_NATS_LEAST: usize = 2 * IP4_OCTETS + 2 * PORT_SIZE;
@@ -44,14 +44,14 @@ pub const REQUEST_ROOM: usize = NOTIFY_HEADER
 pub const ENTRY_SLOTS: usize = 1 + RULES_MOST * 5;
 /// The longest string of an entry.
 pub const STRING_MOST: usize = 4096;
-/// The octets of the longest entry, a request with three such strings. A number takes an octet for every
+/// The octets of the longest entry, a request with four such strings. A number takes an octet for every
 /// seven bits: 10 for 64, 5 for 32, 3 for 16, 2 for 8 and for a string's length.
 pub const ENTRY_MOST: usize =
-    1 + 10 + 5 + (2 + 2 * ADDRESS_OCTETS + 2 * 3) + 3 * (2 + STRING_MOST) + 2;
+    1 + 10 + 5 + (2 + 2 * ADDRESS_OCTETS + 2 * 3) + 4 * (2 + STRING_MOST) + 2 + 5;
 /// Where a record's tally of what is unknown stays.
 pub const TALLY_MOST: u32 = u32::MAX;
 
 const _: () = assert!(RESPONSE_ROOM == 128);
 const _: () = assert!(REQUEST_ROOM == 564);
 const _: () = assert!(ENTRY_SLOTS == 81);
-const _: () = assert!(ENTRY_MOST == 12352);
+const _: () = assert!(ENTRY_MOST == 16455);

@@ -7,7 +7,8 @@ pub enum Number {
     /// 0: done.
     Done,
     /// 1: a family other than 4 or 6, an IPv4 tail that isn't zero, an SPI of 0, an IPsec list not of
-    /// 128 records, a NAT value not of 20 octets, or a cookie to send not of 0 or 8 to 64 octets.
+    /// 128 records, a NAT value not of 20 octets, a cookie to send not of 0 or 8 to 64 octets, or one for a
+    /// check not of 8 to 64.
     BadArgument,
     /// 2: the output is under 128 octets, 564 for the writer, or shorter than the entry of a trace.
     OutputTooShort,
@@ -39,6 +40,8 @@ pub enum Number {
     SpiInUse,
     /// 12: a policy of over 16 rules, or a prefix that is too long.
     BadPolicy,
+    /// 14: no check is under way by a request of ours with this ID.
+    CheckNotPending,
     /// 20: a trace ends within an entry, or has a number not in its shortest form or past 64 bits.
     Cut,
     /// 21: the kind of an entry of a trace is not known.
@@ -89,6 +92,7 @@ impl From<u8> for Number {
             10 => Number::Full,
             11 => Number::SpiInUse,
             12 => Number::BadPolicy,
+            14 => Number::CheckNotPending,
             20 => Number::Cut,
             21 => Number::UnknownKind,
             22 => Number::TooLarge,
@@ -117,6 +121,7 @@ impl From<Number> for u8 {
             Number::Full => 10,
             Number::SpiInUse => 11,
             Number::BadPolicy => 12,
+            Number::CheckNotPending => 14,
             Number::Cut => 20,
             Number::UnknownKind => 21,
             Number::TooLarge => 22,

@@ -22,7 +22,7 @@ macro_rules! interface {
         static LINKED: unsafe extern "C" fn() -> u32 = $named;
     };
 }
-interface!(1, unmavreth_interface_1);
+interface!(2, unmavreth_interface_2);
 
 extern "C" {
     pub(crate) fn unmavreth_interface() -> u32;
@@ -116,7 +116,7 @@ extern "C" {
 
     pub(crate) fn unmavreth_handle(
         ike: *mut [IkeRecord; IKE_PLACES],
-        ipsec: *mut IpsecRecord,
+        ipsec: *const IpsecRecord,
         records: usize,
         policy: *const Policy,
         spi: u64,
@@ -126,12 +126,26 @@ extern "C" {
         nat_source_size: usize,
         nat_destination: *const u8,
         nat_destination_size: usize,
+        cookie: *const u8,
+        cookie_size: usize,
+        check_id: u32,
         first: u8,
         body: *const u8,
         body_size: usize,
         out: *mut u8,
         out_size: usize,
     ) -> Reply;
+
+    pub(crate) fn unmavreth_check(
+        ike: *mut [IkeRecord; IKE_PLACES],
+        ipsec: *mut IpsecRecord,
+        records: usize,
+        spi: u64,
+        id: u32,
+        first: u8,
+        body: *const u8,
+        body_size: usize,
+    ) -> Assessment;
 
     pub(crate) fn unmavreth_read_entry(trace: *const u8, trace_size: usize, at: usize)
         -> EntryRead;

@@ -21,6 +21,11 @@ pub struct Request<'a> {
     pub first: u8,
     /// The payloads.
     pub body: &'a [u8],
+    /// The cookie of the return routability check that an applied update asks for: 8 to 64 octets, lent with
+    /// every request. Nobody else is to be able to guess it.
+    pub cookie: &'a [u8],
+    /// The message ID of that check, which is that of the gateway's next request of this IKE SA.
+    pub check_id: u32,
 }
 
 /// Handles one request of a peer that is the original initiator, on lent tables that are changed in
@@ -33,13 +38,15 @@ pub struct Request<'a> {
 /// | [`AddressesAltered`](Number::AddressesAltered), [`NotAcceptable`](Number::NotAcceptable) | the error, then the cookie | tally and update mark |
 /// | [`Done`](Number::Done) | both NAT detection values if the request has both kinds, then the cookie | tally, update, list |
 ///
-/// An applied update moves the IKE record and all IPsec records that it owns to the packet's pair. The
-/// NAT detection values are given with an update, applied or stale, and without one, so that a keepalive
+/// An applied update moves the IKE record to the packet's pair and keeps `cookie` and `check_id` in it, in
+/// place of an older check. The IPsec records that it owns wait: the host sends the check, which
+/// [`write_check`](crate::write_check) writes, and hands the response to [`check`](crate::check). The NAT
+/// detection values are given with an update, applied or stale, and without one, so that a keepalive
 /// shows a changed mapping.
 #[inline]
 pub fn handle(
     ike: &mut [IkeRecord; IKE_PLACES],
-    ipsec: &mut [IpsecRecord],
+    ipsec: &[IpsecRecord],
     policy: &Policy,
     request: &Request<'_>,
     out: &mut [u8],
@@ -49,7 +56,7 @@ pub fn handle(
     unsafe {
         raw::unmavreth_handle(
             ike,
-            ipsec.as_mut_ptr(),
+            ipsec.as_ptr(),
             ipsec.len(),
             policy,
             request.spi,
@@ -59,6 +66,9 @@ pub fn handle(
             request.nat_source.len(),
             request.nat_destination.as_ptr(),
             request.nat_destination.len(),
+            request.cookie.as_ptr(),
+            request.cookie.len(),
+            request.check_id,
             request.first,
             request.body.as_ptr(),
             request.body.len(),

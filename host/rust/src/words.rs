@@ -20,6 +20,7 @@ impl Number {
             Number::Full => "all places in use",
             Number::SpiInUse => "SPI in use",
             Number::BadPolicy => "too many rules or a prefix too long",
+            Number::CheckNotPending => "no check under way by a request with this ID",
             Number::Cut => "a cut entry, or a number not shortest or past 64 bits",
             Number::UnknownKind => "unknown kind of an entry",
             Number::TooLarge => "too large for its field",

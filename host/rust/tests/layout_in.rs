@@ -4,7 +4,7 @@ mod common;
 use common::*;
 use unmavreth::{
     acceptable, addresses, no_nats, write, Address, Agreed, Ask, Draft, Effect, Flag, Gateway,
-    IkeRecord, IpsecRecord, Number, Opening, Pair, Policy, Rule, Seen,
+    IkeRecord, IpsecRecord, Number, Opening, Outcome, Pair, PendingCheck, Policy, Rule, Seen,
 };
 
 /// Octets that are all different.
@@ -153,6 +153,33 @@ fn each_field_of_a_record_matters() {
     assert_eq!(told(|record| record.unknown = u32::MAX).3, u32::MAX);
     assert_eq!(told(|record| record.agreed.mobike = Flag::NO).0, Number::MobikeNotAgreed);
     assert_eq!(told(|record| record.spi = 1 << 40).0, Number::NoSuchRecord);
+}
+
+#[test]
+fn each_field_of_a_check_matters() {
+    let cookie: [u8; 64] = std::array::from_fn(|at| at as u8 + 1);
+    let sent = chain(&[notify(COOKIE2, &cookie)]);
+    let told = |change: &dyn Fn(&mut PendingCheck)| {
+        let mut gateway = gateway();
+        gateway.ike[0].check = PendingCheck { length: 64, octets: cookie, id: CHECK_ID };
+        change(&mut gateway.ike[0].check);
+        let assessed = gateway.check(&response(&sent));
+        (assessed.number(), assessed.outcome())
+    };
+    assert_eq!(told(&|_| ()), (Number::Done, Outcome::Accepted));
+    for at in 0..64 {
+        let closed = (Number::Done, Outcome::Close);
+        assert_eq!(told(&|check| check.octets[at] ^= 1), closed, "octet {at}");
+    }
+    assert_eq!(told(&|check| check.length = 63), (Number::Done, Outcome::Close));
+    for length in [0, 7, 65, 255] {
+        let none = (Number::CheckNotPending, Outcome::None);
+        assert_eq!(told(&|check| check.length = length), none, "length {length}");
+    }
+    for bit in 0..32 {
+        let another = (Number::CheckNotPending, Outcome::None);
+        assert_eq!(told(&|check| check.id ^= 1 << bit), another, "bit {bit} of the ID");
+    }
 }
 
 #[test]

@@ -3,7 +3,7 @@ mod common;
 use common::*;
 use unmavreth::{
     assess, read, Address, Agreed, Effect, Flag, IkeRecord, IpsecRecord, Number, Offsets, Opening,
-    Outcome, Pair, Request, Seen, Tally,
+    Outcome, Pair, PendingCheck, Request, Seen, Tally,
 };
 
 /// A chain with every kind of notification that may stand together, errors and unknown ones.
@@ -106,6 +106,26 @@ fn no_nats_field_by_field() {
     assert_eq!(unmavreth::no_nats(&body, read(first, &body).seen()), pair);
 }
 
+/// The check that an applied update leaves.
+fn kept(cookie: &[u8]) -> PendingCheck {
+    let mut octets = [0; 64];
+    octets[..cookie.len()].copy_from_slice(cookie);
+    PendingCheck { length: cookie.len() as u8, octets, id: CHECK_ID }
+}
+
+#[test]
+fn every_octet_of_a_kept_cookie() {
+    let came = chain(&[notify(UPDATE, &[])]);
+    let octets: [u8; 64] = std::array::from_fn(|at| at as u8 + 1);
+    for length in 8..=64 {
+        let (mut gateway, cookie) = (gateway(), &octets[..length]);
+        let reply = gateway.handle(&Request { cookie, ..request(&came) }, &mut [0; 128]);
+        assert_eq!(reply.update(), Effect::Applied);
+        assert_eq!(gateway.ike[0].check, kept(cookie));
+        assert_eq!(gateway.ike[0].check.cookie(), cookie);
+    }
+}
+
 #[test]
 fn every_field_of_a_record_and_a_reply() {
     let listed = (1..=18).map(|at| notify(IP4, &[10, 0, 0, at]));
@@ -127,10 +147,11 @@ fn every_field_of_a_record_and_a_reply() {
         count: 16,
         addresses: std::array::from_fn(|at| Address::ipv4([10, 0, 0, at as u8 + 1])),
         unknown: 1,
+        check: kept(&CHECK),
     };
     assert_eq!(gateway.ike[0], record);
     let others = [
-        IpsecRecord { spi: 70, owner: 7, pair: NEW },
+        IpsecRecord { spi: 70, owner: 7, pair: OLD },
         IpsecRecord { spi: 80, owner: 8, pair: OLD },
     ];
     assert_eq!(gateway.ipsec[..2], others);
@@ -193,6 +214,7 @@ fn the_lowest_free_places_are_opened() {
         count: 16,
         addresses: [Address::ipv4([10, 0, 0, 1]); 16],
         unknown: 7,
+        check: kept(&CHECK),
     };
     gateway.ipsec[1].spi = 0;
     let agreed = Agreed { mobike: Flag::NO };

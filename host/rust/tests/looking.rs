@@ -1,7 +1,7 @@
 //! Looking at a gateway's records: by their SPI, by their owner, and which of them moved.
 mod common;
-use common::{chain, gateway, notify, request, NEW, OLD, UPDATE};
-use unmavreth::{interface, Effect, Number, INTERFACE};
+use common::{chain, gateway, notify, request, response, CHECK, COOKIE2, NEW, OLD, UPDATE};
+use unmavreth::{interface, Effect, Number, Outcome, INTERFACE};
 
 #[test]
 fn records_by_their_spi() {
@@ -13,13 +13,16 @@ fn records_by_their_spi() {
 }
 
 #[test]
-fn the_records_that_an_update_moves() {
+fn the_records_that_a_check_moves() {
     let mut gateway = gateway();
     assert_eq!(gateway.open_ipsec(71, 7), Number::Done);
     let before = gateway.ipsec.clone();
     assert_eq!(gateway.moved(&before).count(), 0);
     let came = chain(&[notify(UPDATE, &[])]);
     assert_eq!(gateway.handle(&request(&came), &mut [0; 128]).update(), Effect::Applied);
+    assert_eq!(gateway.moved(&before).count(), 0);
+    let answer = chain(&[notify(COOKIE2, &CHECK)]);
+    assert_eq!(gateway.check(&response(&answer)).outcome(), Outcome::Accepted);
     let owned: Vec<u32> = gateway.owned(7).map(|record| record.spi).collect();
     assert_eq!(owned, [70, 71]);
     let moved: Vec<_> =

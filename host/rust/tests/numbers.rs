@@ -2,9 +2,9 @@
 mod common;
 use common::*;
 use unmavreth::{
-    assess, close_ike, close_ipsec, handle, open, open_ipsec, read, set_policy, write, Address,
-    Agreed, Ask, Draft, Effect, Flag, Gateway, IpsecRecord, Number, Opening, Outcome, Pair, Policy,
-    Request, Rule,
+    assess, check, close_ike, close_ipsec, handle, open, open_ipsec, read, set_policy, write,
+    Address, Agreed, Ask, Draft, Effect, Flag, Gateway, IpsecRecord, Number, Opening, Outcome,
+    Pair, Policy, Request, Rule,
 };
 
 /// A pair with a tail after its IPv4 address, one of a family that isn't known, and none.
@@ -19,7 +19,7 @@ fn any_octet_has_a_meaning() {
     for octet in 0..=255 {
         let number = Number::from(octet);
         assert_eq!(u8::from(number), octet);
-        let given = matches!(octet, 0..=5 | 7..=12 | 20..=22 | 61..=65);
+        let given = matches!(octet, 0..=5 | 7..=12 | 14 | 20..=22 | 61..=65);
         assert_eq!(number == Number::Other(octet), !given);
         assert_eq!(number.is_malformed(), (61..=65).contains(&octet));
         assert_eq!(number.is_done(), octet == 0);
@@ -230,8 +230,10 @@ fn a_list_of_another_length_than_128() {
         assert_eq!(close_ipsec(&mut list, 70), Number::BadArgument);
         let came = chain(&[notify(UPDATE, &[])]);
         let mut out = [9; 128];
-        let reply = handle(&mut ike, &mut list, &policy, &request(&came), &mut out);
+        let reply = handle(&mut ike, &list, &policy, &request(&came), &mut out);
         assert_eq!((reply.number(), reply.length()), (Number::BadArgument, 0));
+        let told = check(&mut ike, &mut list, &response(&came));
+        assert_eq!((told.number(), told.outcome()), (Number::BadArgument, Outcome::None));
         assert_eq!((&ike, list, out), (&before, kept, [9; 128]));
     }
 }
@@ -283,6 +285,11 @@ fn requests_refused_1_to_5() {
     bad(Request { spi: 0, ..sound });
     bad(Request { nat_source: &[0; 19], ..sound });
     bad(Request { nat_destination: &[0; 21], ..sound });
+    let (nothing, octets) = ((0, vec![]), [0; 255]);
+    for length in [0, 1, 7, 65, 255] {
+        bad(Request { cookie: &octets[..length], ..sound });
+        bad(Request { cookie: &octets[..length], ..request(&nothing) }); // without an update too
+    }
     bad_pairs().into_iter().for_each(|pair| bad(Request { pair, ..sound }));
     assert_eq!(refused(sound, 127), (Number::OutputTooShort, true, vec![]));
     assert_eq!(refused(sound, 0), (Number::OutputTooShort, true, vec![]));

@@ -2,7 +2,7 @@
 //! through the handler, each response through the judge, and chains of other exchanges read whole.
 //! The file says how it was recorded and what its lines hold.
 mod common;
-use common::{AGREED, VALUES};
+use common::{AGREED, CHECK, CHECK_ID, COOKIE2, VALUES};
 use unmavreth::{assess, read, Effect, Gateway, Number, Opening, Outcome, Pair, Request, Rule};
 
 const RECORDED: &str = include_str!("recorded/strongswan-5.9.8.txt");
@@ -142,8 +142,17 @@ fn replay(run: &Run, gateway: &mut Gateway, exchange: &Exchange) {
     let (first, ref body) = exchange.request;
     let [nat_source, nat_destination] = &exchange.values();
     let pair = exchange.pair();
-    let request =
-        Request { spi: SPI, id: exchange.id, pair, nat_source, nat_destination, first, body };
+    let request = Request {
+        spi: SPI,
+        id: exchange.id,
+        pair,
+        nat_source,
+        nat_destination,
+        first,
+        body,
+        cookie: &CHECK,
+        check_id: CHECK_ID,
+    };
     let before = gateway.ike[0].pair;
     let mut out = [0; 128];
     let reply = gateway.handle(&request, &mut out);
@@ -154,7 +163,16 @@ fn replay(run: &Run, gateway: &mut Gateway, exchange: &Exchange) {
     let response = (reply.first(), reply.response(&out).to_vec());
     assert_eq!(response, exchange.expected(run.name, cookie), "{at:?}");
     let moved = if reply.update() == Effect::Applied { pair } else { before };
-    assert_eq!((gateway.ike[0].pair, gateway.ipsec[0].pair), (moved, moved), "{at:?}");
+    assert_eq!((gateway.ike[0].pair, gateway.ipsec[0].pair), (moved, before), "{at:?}");
+    if reply.update() == Effect::Applied {
+        let copied = common::chain(&[common::notify(COOKIE2, &CHECK)]);
+        let checked = gateway.check(&common::response(&copied));
+        assert_eq!(
+            (checked.outcome(), gateway.ipsec[0].pair),
+            (Outcome::Accepted, moved),
+            "{at:?}"
+        );
+    }
     let judged = assess(cookie, exchange.response.0, &exchange.response.1);
     assert_eq!((judged.number(), judged.outcome()), (Number::Done, exchange.judged()), "{at:?}");
 }

@@ -23,6 +23,7 @@ fn made(gateway: &mut Gateway, entry: &Entry) -> String {
         Entry::AddIpsec { spi, owner } => gateway.open_ipsec(*spi, *owner),
         Entry::CloseIke { spi } => gateway.close_ike(*spi),
         Entry::CloseIpsec { spi } => gateway.close_ipsec(*spi),
+        Entry::CheckResponse(response) => gateway.check(response).number(),
         Entry::Policy(policy) => gateway.set_policy(&policy.rules[..usize::from(policy.count)]),
         Entry::Request(request) => {
             let reply = gateway.handle(request, &mut [0; RESPONSE_ROOM]);

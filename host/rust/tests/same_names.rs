@@ -71,7 +71,7 @@ fn in_capitals(name: &str) -> String {
 
 #[test]
 fn numbers() {
-    for octet in (0..=5).chain(7..=12).chain(20..=22).chain(61..=65) {
+    for octet in (0..=5).chain(7..=12).chain([14]).chain(20..=22).chain(61..=65) {
         let name = format!("{:?}", Number::from(octet));
         let (words, whose) =
             if !(20..=22).contains(&octet) { (NUMBERS, "Number") } else { (REFUSALS, "Refusal") };
@@ -83,7 +83,7 @@ fn numbers() {
 
 #[test]
 fn kinds_of_entries() {
-    for octet in 0..=5 {
+    for octet in 0..=6 {
         let name = format!("{:?}", Kind::from(octet));
         assert!(says(KINDS, &format!("Kind::{name} => {octet}")), "{name} in the library");
         let word = in_capitals(&name);

@@ -3,7 +3,7 @@ mod common;
 use common::*;
 use unmavreth::limits::{ENTRY_MOST, ENTRY_SLOTS, STRING_MOST};
 use unmavreth::trace::{read_entry, read_slots, write_entry, write_slots, Entry, Kind};
-use unmavreth::{Agreed, Flag, Number, Opening, Pair, Policy, Request, Rule};
+use unmavreth::{Agreed, CheckResponse, Flag, Number, Opening, Pair, Policy, Request, Rule};
 
 /// Octets that are all different.
 fn octets(from: u8) -> [u8; 16] {
@@ -29,9 +29,28 @@ fn opening() -> (Entry<'static>, Vec<u8>) {
 fn request() -> (Entry<'static>, Vec<u8>) {
     let (pair, written) = pair();
     let (nat_source, nat_destination, body) = (&[1, 2, 3][..], &[][..], &[7; 200][..]);
-    let request = Request { spi: 7, id: 128, pair, nat_source, nat_destination, first: 41, body };
+    let (cookie, check_id) = (&[8, 9][..], 300);
+    let request = Request {
+        spi: 7,
+        id: 128,
+        pair,
+        nat_source,
+        nat_destination,
+        first: 41,
+        body,
+        cookie,
+        check_id,
+    };
     let strings = [&[3, 1, 2, 3][..], &[0], &[41], &[0xc8, 1], body].concat();
-    (Entry::Request(request), [&[4, 7, 0x80, 1][..], &written, &strings].concat())
+    let check = [2, 8, 9, 0xac, 2];
+    (Entry::Request(request), [&[4, 7, 0x80, 1][..], &written, &strings, &check].concat())
+}
+
+/// A response to a check, and how it is written.
+fn check_response() -> (Entry<'static>, Vec<u8>) {
+    let response = CheckResponse { spi: 300, id: 128, first: 200, body: &[5; 130] };
+    let written = [&[6, 0xac, 2, 0x80, 1, 0xc8, 1, 0x82, 1][..], &[5; 130]].concat();
+    (Entry::CheckResponse(response), written)
 }
 
 /// A policy of so many rules, and how it is written.
@@ -55,6 +74,7 @@ fn entries() -> Vec<(Entry<'static>, Vec<u8>)> {
         (Entry::CloseIke { spi: 7 }, vec![2, 7]),
         (Entry::CloseIpsec { spi: u32::MAX }, vec![3, 0xff, 0xff, 0xff, 0xff, 0xf]),
         request(),
+        check_response(),
     ];
     entries.extend((0..=16).map(policy));
     entries
@@ -96,10 +116,17 @@ fn numbers_that_are_not_read() {
     assert_eq!(read_entry(&past, 0), Ok((Entry::CloseIke { spi: u64::MAX }, 11)));
     past[10] = 2;
     assert_eq!(read_entry(&past, 0), Err(Number::Cut));
-    assert_eq!(read_entry(&[6, 7], 0), Err(Number::UnknownKind));
+    assert_eq!(read_entry(&[7, 7], 0), Err(Number::UnknownKind));
     assert_eq!(read_entry(&[0x82, 0], 0), Err(Number::Cut));
     assert_eq!(read_entry(&[3, 0x80, 0x80, 0x80, 0x80, 0x10], 0), Err(Number::TooLarge));
     assert_eq!(read_entry(&[5, 17], 0), Err(Number::TooLarge));
+    let id = [0x80, 0x80, 0x80, 0x80, 0x10];
+    assert_eq!(read_entry(&[&[6, 7], &id[..]].concat(), 0), Err(Number::TooLarge));
+    assert_eq!(read_entry(&[6, 7, 0, 0x80, 2], 0), Err(Number::TooLarge), "a first type of 256");
+    assert_eq!(read_entry(&[6, 7, 0, 0, 0x81, 0x20], 0), Err(Number::TooLarge));
+    let (_, mut octets) = request();
+    octets.truncate(octets.len() - 2);
+    assert_eq!(read_entry(&[&octets[..], &id].concat(), 0), Err(Number::TooLarge));
 }
 
 #[test]
@@ -110,6 +137,8 @@ fn what_is_too_large_to_write() {
         Entry::Request(Request { nat_source: &long, ..sound }),
         Entry::Request(Request { nat_destination: &long, ..sound }),
         Entry::Request(Request { body: &long, ..sound }),
+        Entry::Request(Request { cookie: &long, ..sound }),
+        Entry::CheckResponse(CheckResponse { spi: 7, id: 0, first: 0, body: &long }),
         Entry::Policy(Policy { count: 17, ..Policy::EMPTY }),
         Entry::Policy(Policy { count: u16::MAX, ..Policy::EMPTY }),
     ] {
@@ -118,8 +147,10 @@ fn what_is_too_large_to_write() {
         assert_eq!(out, [9; 10]);
     }
     let pair = Pair { family: 255, source_port: u16::MAX, destination_port: u16::MAX, ..OLD };
-    let strings = Request { nat_source: &most, nat_destination: &most, body: &most, ..sound };
-    let longest = Request { spi: u64::MAX, id: u32::MAX, pair, first: 255, ..strings };
+    let strings =
+        Request { nat_source: &most, nat_destination: &most, body: &most, cookie: &most, ..sound };
+    let (spi, id, check_id) = (u64::MAX, u32::MAX, u32::MAX);
+    let longest = Request { spi, id, pair, first: 255, check_id, ..strings };
     let mut out = [0; ENTRY_MOST];
     assert_eq!(write_entry(&Entry::Request(longest), &mut out), Ok(ENTRY_MOST));
     assert_eq!(read_entry(&out, 0), Ok((Entry::Request(longest), ENTRY_MOST)));
@@ -129,7 +160,7 @@ fn what_is_too_large_to_write() {
 fn slots_that_point_elsewhere() {
     let mut slots = [0; ENTRY_SLOTS];
     let mut out = [9; 200];
-    assert_eq!(write_slots(Kind::Other(6), &slots, &[], &mut out), Err(Number::UnknownKind));
+    assert_eq!(write_slots(Kind::Other(7), &slots, &[], &mut out), Err(Number::UnknownKind));
     for offset in [1, 16, 17, u64::MAX - 15, u64::MAX] {
         slots[3] = offset;
         let told = write_slots(Kind::OpenBoth, &slots, &[0; 16], &mut out);
@@ -149,7 +180,17 @@ fn slots_of_a_request() {
     let (kind, slots, next) = read_slots(&octets, 0).expect("an entry");
     assert_eq!((kind, next), (Kind::Request, octets.len()));
     assert_eq!(slots[..14], [7, 128, 6, 5, 21, 300, 5, 41, 3, 45, 0, 41, 48, 200]);
-    assert_eq!(slots[14..], [0; ENTRY_SLOTS - 14]);
+    assert_eq!(slots[14..17], [249, 2, 300]);
+    assert_eq!(slots[17..], [0; ENTRY_SLOTS - 17]);
+}
+
+#[test]
+fn slots_of_a_check_response() {
+    let (_, octets) = check_response();
+    let (kind, slots, next) = read_slots(&octets, 0).expect("an entry");
+    assert_eq!((kind, next), (Kind::CheckResponse, octets.len()));
+    assert_eq!(slots[..5], [300, 128, 200, 9, 130]);
+    assert_eq!(slots[5..], [0; ENTRY_SLOTS - 5]);
 }
 
 #[test]
@@ -167,6 +208,6 @@ fn any_yes_is_written_as_1() {
 fn any_octet_is_a_kind() {
     for octet in 0..=255 {
         assert_eq!(u8::from(Kind::from(octet)), octet);
-        assert_eq!(Kind::from(octet) == Kind::Other(octet), octet > 5);
+        assert_eq!(Kind::from(octet) == Kind::Other(octet), octet > 6);
     }
 }

@@ -3,7 +3,7 @@
 mod form;
 use form::{to_text, to_trace, Turned};
 use unmavreth::trace::{write_entry, Entry};
-use unmavreth::{Agreed, Flag, Opening, Pair, Policy, Request, Rule};
+use unmavreth::{Agreed, CheckResponse, Flag, Opening, Pair, Policy, Request, Rule};
 
 const OPEN: &str = "open 7 1 4 192.0.2.1 198.51.100.1 4500 4500 9\n";
 const FOUR: Pair = Pair::ipv4(([192, 0, 2, 1], 4500), ([198, 51, 100, 1], 4500));
@@ -23,7 +23,10 @@ fn lines() -> Vec<(String, Entry<'static>)> {
         nat_destination: &[],
         first: 41,
         body: &[0; 4],
+        cookie: &[0x0b, 0xfe],
+        check_id: 4294967294,
     };
+    let response = CheckResponse { spi: 7, id: 4294967294, first: 41, body: &[0x0c; 5] };
     let mut rules = Policy { count: 2, ..Policy::EMPTY };
     rules.rules[0] = Rule::ipv4(([10, 0, 0, 0], 8), ([0; 4], 0));
     rules.rules[1] = Rule::ipv6((six, 32), (gateway, 128));
@@ -33,11 +36,12 @@ fn lines() -> Vec<(String, Entry<'static>)> {
         ("close 7\n", Entry::CloseIke { spi: 7 }),
         ("close-ipsec 70\n", Entry::CloseIpsec { spi: 70 }),
         (
-            "request 18446744073709551615 4294967295 6 2001:db8:: ::1 1 65535 0aff - 41 00000000\n",
+            "request 18446744073709551615 4294967295 6 2001:db8:: ::1 1 65535 0aff - 41 00000000 0bfe 4294967294\n",
             Entry::Request(request),
         ),
         ("policy 0\n", Entry::Policy(Policy::EMPTY)),
         ("policy 2 4 10.0.0.0 0.0.0.0 8 0 6 2001:db8:: ::1 32 128\n", Entry::Policy(rules)),
+        ("check-response 7 4294967294 41 0c0c0c0c0c\n", Entry::CheckResponse(response)),
     ]
     .map(|(line, entry)| (line.to_string(), entry))
     .to_vec()
@@ -76,7 +80,7 @@ fn the_example_of_the_page() {
     assert_eq!(fault, None);
     let plain = |line: &str| line.split('#').next().unwrap_or_default().trim().to_string();
     let lines: Vec<String> = example.lines().map(plain).filter(|line| !line.is_empty()).collect();
-    assert_eq!(lines.len(), 5);
+    assert_eq!(lines.len(), 6);
     assert_eq!(to_text(&octets), sound(lines.join("\n") + "\n"));
 }
 
@@ -124,6 +128,13 @@ fn lines_that_are_not_understood() {
         ("open 7 1 4 c000 ::1 1 1 9", "c000 is not an address"),
         ("request 7 1 4 ::1 ::1 1 1 0", "0 is not hex digits, two for each octet, or -"),
         ("request 7 1 4 ::1 ::1 1 1 0g", "0g is not hex digits, two for each octet, or -"),
+        ("request 7 1 4 ::1 ::1 1 1 - - 0 - -", "a number in decimal, of 64 bits is missing"),
+        (
+            "request 7 1 4 ::1 ::1 1 1 - - 0 - - 4294967296",
+            "22: something is too large for its field",
+        ),
+        ("check-response 7 1 256 -", "22: something is too large for its field"),
+        ("check-response 7 1 0", "hex digits, two for each octet, or - is missing"),
         ("policy 1", "a number in decimal, of 64 bits is missing"),
         ("policy 17", "22: something is too large for its field"),
         (&format!("policy 17{rules}"), "22: something is too large for its field"),
@@ -136,7 +147,8 @@ fn lines_that_are_not_understood() {
 
 #[test]
 fn strings_of_every_length() {
-    let line = |octets: usize| format!("request 7 1 4 ::1 ::1 1 1 - - 41 {}", "0f".repeat(octets));
+    let line =
+        |octets: usize| format!("request 7 1 4 ::1 ::1 1 1 - - 41 {} - 1", "0f".repeat(octets));
     assert_eq!(to_trace(line(4096).as_bytes()).fault, None);
     let fault = "line 1: 22: something is too large for its field";
     assert_eq!(to_trace(line(4097).as_bytes()).fault.as_deref(), Some(fault));
@@ -144,7 +156,7 @@ fn strings_of_every_length() {
 
 #[test]
 fn a_trace_that_is_refused() {
-    for (number, octets) in [(20, &[2][..]), (21, &[6]), (22, &[5, 17])] {
+    for (number, octets) in [(20, &[2][..]), (21, &[7]), (22, &[5, 17])] {
         let told = to_text(&[&[2, 7], octets].concat());
         let fault = Some(format!("{number} at 2: the trace is refused here"));
         assert_eq!(told, Turned { octets: b"close 7\n".to_vec(), fault });
@@ -159,7 +171,9 @@ fn the_stored_trace() {
     assert_eq!(fault, None);
     assert_eq!(to_trace(&octets), sound(*trace));
     let text = String::from_utf8(octets).expect("a text");
-    for word in ["open ", "add ", "close ", "close-ipsec ", "request ", "policy "] {
+    let words =
+        ["open ", "add ", "close ", "close-ipsec ", "request ", "policy ", "check-response "];
+    for word in words {
         assert!(text.lines().any(|line| line.starts_with(word)), "{word}");
     }
 }

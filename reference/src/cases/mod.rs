@@ -1,5 +1,6 @@
 // The cases that the programs are compared on: each one is made from the seed and its number alone.
 pub mod assess;
+pub mod checks;
 pub mod entries;
 pub mod orders;
 pub mod reader;

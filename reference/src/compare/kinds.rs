@@ -1,5 +1,6 @@
 // The kinds that this program runs, and the cases of each.
 use crate::assess;
+use crate::checks;
 use crate::entries;
 use crate::orders;
 use crate::reader;
@@ -10,6 +11,7 @@ use crate::tables;
 use crate::traces;
 use crate::writer;
 use reference::cases::assess::AssessCases;
+use reference::cases::checks::ChecksCases;
 use reference::cases::entries::EntriesCases;
 use reference::cases::orders::OrdersCases;
 use reference::cases::reader::ReaderCases;
@@ -23,7 +25,7 @@ use reference::rules::{Plain, Rules};
 use std::io;
 
 /// The kinds of the library's calls, in the order in which they take turns in a run of all.
-const OF_CALLS: [Kind; 15] = [
+const OF_CALLS: [Kind; 17] = [
     Kind::Reader,
     Kind::Requests,
     Kind::Tables,
@@ -32,18 +34,21 @@ const OF_CALLS: [Kind; 15] = [
     Kind::Requests,
     Kind::Tables,
     Kind::Assess,
+    Kind::Checks,
     Kind::Requests,
     Kind::Orders,
     Kind::Writer,
     Kind::RoundTrips,
+    Kind::Checks,
     Kind::Writer,
     Kind::RoundTrips,
     Kind::Entries,
 ];
 
-/// The turns of all kinds. A trace has one less often, since a program is started for each.
+/// The turns of all kinds. A trace has one, since a program is started for each, which is enough for a run of the gate
+/// to come to the end of those that are listed.
 pub fn turns() -> Vec<Kind> {
-    [&OF_CALLS[..], &OF_CALLS, &[Kind::Traces]].concat()
+    [&OF_CALLS[..], &[Kind::Traces]].concat()
 }
 
 pub fn named(name: &str) -> Option<Kind> {
@@ -70,6 +75,7 @@ pub struct Cases {
     reader: ReaderCases,
     tables: TablesCases,
     requests: RequestsCases,
+    checks: ChecksCases,
     orders: OrdersCases,
     assess: AssessCases,
     writer: WriterCases,
@@ -84,6 +90,7 @@ impl Cases {
             reader: ReaderCases::new(seed),
             tables: TablesCases::new(seed),
             requests: RequestsCases::new(seed),
+            checks: ChecksCases::new(seed),
             orders: OrdersCases::new(seed),
             assess: AssessCases::new(seed),
             writer: WriterCases::new(seed),
@@ -114,6 +121,7 @@ impl Cases {
             Kind::Reader => reader::run(self.reader.case(number), rules, detail),
             Kind::Tables => tables::run(self.tables.case(number), rules, detail),
             Kind::Requests => requests::run(self.requests.case(number), rules, detail),
+            Kind::Checks => checks::run(self.checks.case(number), rules, detail),
             Kind::Orders => orders::run(self.orders.case(number), rules, detail),
             Kind::Assess => assess::run(self.assess.case(number), rules, detail),
             Kind::Writer => writer::run(self.writer.case(number), rules, detail),

@@ -1,6 +1,7 @@
 // The comparison: runs both programs on the same cases and tells every difference.
 mod arguments;
 mod assess;
+mod checks;
 mod entries;
 mod kinds;
 mod orders;

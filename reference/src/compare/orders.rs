@@ -1,4 +1,4 @@
-// A list of requests run in several orders: each step by both programs, and demand 3 of our steps.
+// A list of requests and check responses run in several orders: each step by both programs, and demand 3 of our steps.
 use crate::kinds::Verdict;
 use crate::report::Detail;
 use crate::requests::Step;
@@ -9,14 +9,14 @@ use reference::rules::Rules;
 use reference::tables::Tables;
 
 pub fn run(case: Case, rules: &impl Rules, detail: Detail) -> Verdict {
-    let Case { tables, requests, chance } = &case;
+    let Case { tables, list, chance } = &case;
     let (mut steps, mut differing) = (0, 0);
     let mut shown_steps = Vec::new();
-    let broken = broken(tables, requests, chance, rules, |request, tables| {
-        let step = Step::take(request, tables, rules);
+    let broken = broken(tables, list, chance, rules, |asked, tables| {
+        let step = Step::take(asked, tables, rules);
         let agrees = step.agrees();
         if detail.shows(agrees) {
-            shown_steps.push((steps, step.lines(request, tables, detail)));
+            shown_steps.push((steps, step.lines(asked, tables, detail)));
         }
         steps += 1;
         differing += usize::from(!agrees);
@@ -37,7 +37,7 @@ pub fn run(case: Case, rules: &impl Rules, detail: Detail) -> Verdict {
 
 /// The orders, what demand 3 asks and isn't so, and in full also the tables at first.
 fn introduction(case: &Case, broken: &[String], rules: &impl Rules, detail: Detail) -> Vec<String> {
-    let orders = Orders::new(&case.tables, &case.requests, &case.chance, rules);
+    let orders = Orders::new(&case.tables, &case.list, &case.chance, rules);
     let mut lines = vec![
         format!("  kept order: {:?}", orders.kept),
         format!("  freed order: {:?}", orders.freed),
@@ -51,13 +51,13 @@ fn introduction(case: &Case, broken: &[String], rules: &impl Rules, detail: Deta
     lines
 }
 
-/// Which request a step makes, in which of the three orders.
+/// Which call a step makes, in which of the three orders.
 fn heading(case: &Case, step: usize, rules: &impl Rules) -> String {
-    let orders = Orders::new(&case.tables, &case.requests, &case.chance, rules);
-    let count = case.requests.len();
+    let orders = Orders::new(&case.tables, &case.list, &case.chance, rules);
+    let count = case.list.len();
     let sequence: Order = (0..count).collect();
     let named =
         [("as it is", sequence), ("kept order", orders.kept), ("freed order", orders.freed)];
     let (name, order) = &named[step / count];
-    format!("  {name}, request {}:", order[step % count])
+    format!("  {name}, call {}:", order[step % count])
 }

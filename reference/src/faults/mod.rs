@@ -8,6 +8,7 @@
 // rules without a fault, and for faults of more than one rule. What a fault needs beside its rule is made here, and
 // nothing of it in the program.
 mod chain;
+mod checks;
 mod orders;
 mod parts;
 mod policy;
@@ -21,7 +22,7 @@ mod writer;
 
 use crate::kind::Kind;
 use crate::rules::{
-    ChainRules, OrderRules, PartRules, Plain, PolicyRules, ReplayRules, RequestRules,
+    ChainRules, CheckRules, OrderRules, PartRules, Plain, PolicyRules, ReplayRules, RequestRules,
     ResponseRules, RoundTripRules, Rules, TableRules, TraceRules, WriterRules,
 };
 
@@ -63,6 +64,7 @@ fn of_every_part() -> Vec<Fault> {
     faults.extend(of_part(tables::FAULTS, |tables| Faulty { tables, ..sound }));
     faults.extend(of_part(policy::FAULTS, |policy| Faulty { policy, ..sound }));
     faults.extend(of_part(requests::FAULTS, |requests| Faulty { requests, ..sound }));
+    faults.extend(of_part(checks::FAULTS, |checks| Faulty { checks, ..sound }));
     faults.extend(of_part(orders::FAULTS, |orders| Faulty { orders, ..sound }));
     faults.extend(of_part(responses::FAULTS, |responses| Faulty { responses, ..sound }));
     faults.extend(of_part(writer::FAULTS, |writer| Faulty { writer, ..sound }));
@@ -91,6 +93,7 @@ pub struct Faulty {
     tables: &'static dyn TableRules,
     policy: &'static dyn PolicyRules,
     requests: &'static dyn RequestRules,
+    checks: &'static dyn CheckRules,
     orders: &'static dyn OrderRules,
     responses: &'static dyn ResponseRules,
     writer: &'static dyn WriterRules,
@@ -107,6 +110,7 @@ impl Faulty {
         tables: &Plain,
         policy: &Plain,
         requests: &Plain,
+        checks: &Plain,
         orders: &Plain,
         responses: &Plain,
         writer: &Plain,
@@ -122,6 +126,7 @@ impl Rules for Faulty {
     type Tables = dyn TableRules;
     type Policy = dyn PolicyRules;
     type Requests = dyn RequestRules;
+    type Checks = dyn CheckRules;
     type Orders = dyn OrderRules;
     type Responses = dyn ResponseRules;
     type Writer = dyn WriterRules;
@@ -147,6 +152,10 @@ impl Rules for Faulty {
 
     fn requests(&self) -> &Self::Requests {
         self.requests
+    }
+
+    fn checks(&self) -> &Self::Checks {
+        self.checks
     }
 
     fn orders(&self) -> &Self::Orders {

@@ -1,6 +1,7 @@
 // Faults of the rules of demand 3: wrong turns of what is asked, not of the handler, so that they show that an order
 // which breaks the demand is noticed.
 use super::Row;
+use crate::asked::Asked;
 use crate::kind::Kind;
 use crate::request::Request;
 use crate::rules::OrderRules;
@@ -16,13 +17,25 @@ pub const FAULTS: &[Row<dyn OrderRules>] = &[
         Kind::Orders,
         "unsound-freed",
         "IKE SAs with unsound requests are freed.",
-        &Freed(|_, ids_differ| ids_differ),
+        &Freed(|_, ids_differ, without_responses| ids_differ && without_responses),
     ),
     (
         Kind::Orders,
         "equal-ids-freed",
         "IKE SAs with equal IDs are freed.",
-        &Freed(|all_sound, _| all_sound),
+        &Freed(|all_sound, _, without_responses| all_sound && without_responses),
+    ),
+    (
+        Kind::Orders,
+        "responses-freed",
+        "IKE SAs with check responses are freed.",
+        &Freed(|all_sound, ids_differ, _| all_sound && ids_differ),
+    ),
+    (
+        Kind::Orders,
+        "responses-anywhere",
+        "Check responses may stand anywhere among the requests that give their SPI.",
+        &ResponsesAnywhere,
     ),
     (
         Kind::Orders,
@@ -51,10 +64,17 @@ impl OrderRules for AnySequence {
     }
 }
 
-struct Freed(fn(bool, bool) -> bool);
+struct Freed(fn(bool, bool, bool) -> bool);
 impl OrderRules for Freed {
-    fn is_freed(&self, all_sound: bool, ids_differ: bool) -> bool {
-        self.0(all_sound, ids_differ)
+    fn is_freed(&self, all_sound: bool, ids_differ: bool, without_responses: bool) -> bool {
+        self.0(all_sound, ids_differ, without_responses)
+    }
+}
+
+struct ResponsesAnywhere;
+impl OrderRules for ResponsesAnywhere {
+    fn counts(&self, asked: &Asked) -> bool {
+        asked.request().is_some()
     }
 }
 

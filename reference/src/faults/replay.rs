@@ -2,6 +2,7 @@
 // else with the fault than without.
 use super::chain::unsplit;
 use super::Row;
+use crate::assess::{Assessed, Verdict};
 use crate::kind::Kind;
 use crate::rules::{Plain, ReplayRules};
 use crate::show::hex;
@@ -15,7 +16,7 @@ pub const FAULTS: &[Row<dyn ReplayRules>] = &[
     (
         Kind::Traces,
         "window-ends",
-        "The octets from one multiple of 12,352 to the next are taken for all that there are.",
+        "The octets from one multiple of 16,455 to the next are taken for all that there are.",
         &WindowEnds,
     ),
     (
@@ -25,12 +26,24 @@ pub const FAULTS: &[Row<dyn ReplayRules>] = &[
         &PieceEnds,
     ),
     (Kind::Traces, "policy-left-out", "The call that sets a policy isn't made.", &LeftOut(5)),
+    (
+        Kind::Traces,
+        "response-left-out",
+        "The call that decides a check response isn't made.",
+        &LeftOut(6),
+    ),
     (Kind::Traces, "lent-127", "Requests are lent 127 octets of output.", &Lent127),
     (
         Kind::Traces,
         "refused-call-ends",
         "A call with another number than 0 ends the trace.",
         &RefusedCallEnds,
+    ),
+    (
+        Kind::Traces,
+        "accepted-applied",
+        "A check response that is accepted is printed as an update that was applied.",
+        &AcceptedApplied,
     ),
     (Kind::Traces, "ordinals-from-1", "Ordinals count from 1.", &Ordinal(|ordinal| ordinal + 1)),
     (
@@ -145,6 +158,14 @@ struct RefusedCallEnds;
 impl ReplayRules for RefusedCallEnds {
     fn goes_on(&self, number: u8) -> bool {
         number == 0
+    }
+}
+
+struct AcceptedApplied;
+impl ReplayRules for AcceptedApplied {
+    fn answer_to_check(&self, assessed: &Assessed) -> Answer {
+        let update = u8::from(assessed.outcome == Verdict::Accepted as u8);
+        Answer { update, ..Plain.answer_to_check(assessed) }
     }
 }
 

@@ -1,4 +1,4 @@
-// Faults of a request's rules. The first five are those of document 01, "Errors the old code invites", but for that of
+// Faults of a request's rules. The first four are those of document 01, "Errors the old code invites", but for that of
 // IPsec records moved by their pair, which is one of the tables' rules.
 use super::chain::{cookie_in, notifies_in, unsplit};
 use super::tables::twins;
@@ -9,14 +9,15 @@ use crate::kind::Kind;
 use crate::notifications::Notification;
 use crate::notify::NotifyType;
 use crate::outcome::Place;
+use crate::pending::{PendingCheck, MOST_COOKIE};
 use crate::reply::Reply;
 use crate::request::Check::{self, Agreed, Argument, Body, Chain, List, Output, Record};
 use crate::request::Request;
 use crate::response::Served;
-use crate::rules::{ChainRules, Plain, RequestRules};
+use crate::rules::{ChainRules, Plain, RequestRules, TableRules};
 use crate::steps::{mark, Effect, Unfit};
 use crate::summary::{Summary, MAX_KEPT};
-use crate::tables::{IkeRecord, IKE_PLACES};
+use crate::tables::{IkeRecord, IpsecRecord, IKE_PLACES};
 
 pub const FAULTS: &[Row<dyn RequestRules>] = &[
     (
@@ -68,6 +69,27 @@ pub const FAULTS: &[Row<dyn RequestRules>] = &[
         "The length of the lent NAT destination isn't checked.",
         &NatSourceLengthOnly,
     ),
+    (
+        Kind::Requests,
+        "check-cookie-0",
+        "A cookie of no octets is allowed, as for a request to write.",
+        &AllowsCookie(|request| request.cookie.is_empty()),
+    ),
+    (
+        Kind::Requests,
+        "check-cookie-65",
+        "A cookie of 65 octets or more is allowed, and cut to 64.",
+        &AllowsCookie(|request| request.cookie.len() > MOST_COOKIE),
+    ),
+    (
+        Kind::Requests,
+        "check-cookie-with-update",
+        "The length of the cookie is looked at only with an update.",
+        &AllowsCookie(|request| {
+            let notifies = notifies_in(request.first, &request.body);
+            notifies.iter().all(|it| it.notify_type != NotifyType::UPDATE_SA_ADDRESSES)
+        }),
+    ),
     (Kind::Requests, "tally-once", "A request adds 1 to the tally at most.", &TallyOnce),
     (Kind::Requests, "tally-wraps", "The tally starts again at 0.", &TallyWraps),
     (
@@ -116,6 +138,71 @@ pub const FAULTS: &[Row<dyn RequestRules>] = &[
         "moved-agreed-1",
         "An update that is applied sets the octet of what is agreed to 1.",
         &MovedAgreed1,
+    ),
+    (
+        Kind::Requests,
+        "ipsec-moved-at-once",
+        "An applied update moves the IPsec records of its IKE record, as before E6.",
+        &MovesAtOnce(|ike, ipsec| Plain.owns(ike, ipsec)),
+    ),
+    (
+        Kind::Requests,
+        "ipsec-moved-if-none-pending",
+        "It moves them at once where no check was pending.",
+        &MovesAtOnce(|ike, ipsec| ike.check.length == 0 && Plain.owns(ike, ipsec)),
+    ),
+    (
+        Kind::Requests,
+        "check-stale-kept",
+        "The check is kept for a stale update too.",
+        &KeepsCheck(|updated| updated == Ok(Effect::Stale)),
+    ),
+    (
+        Kind::Requests,
+        "check-unfit-kept",
+        "The check is kept with 8 and 9 too.",
+        &KeepsCheck(|updated| updated.is_err()),
+    ),
+    (
+        Kind::Requests,
+        "check-without-update",
+        "The check is kept without an update too.",
+        &KeepsCheck(|updated| updated == Ok(Effect::None)),
+    ),
+    (
+        Kind::Requests,
+        "older-check-stays",
+        "A check that is pending isn't replaced.",
+        &KeptCheck(|kept, older, _| {
+            if older.length != 0 {
+                *kept = *older;
+            }
+        }),
+    ),
+    (
+        Kind::Requests,
+        "check-cookie-leftovers",
+        "Octets past the cookie's length stay as they were.",
+        &KeptCheck(|kept, older, _| {
+            let length = usize::from(kept.length);
+            kept.octets[length..].copy_from_slice(&older.octets[length..]);
+        }),
+    ),
+    (
+        Kind::Requests,
+        "check-peer-id",
+        "The check keeps the ID of the peer's request.",
+        &KeptCheck(|kept, _, request| kept.id = request.id),
+    ),
+    (
+        Kind::Requests,
+        "check-peer-cookie",
+        "The check keeps the cookie of the peer's request, if it has one.",
+        &KeptCheck(|kept, _, request| {
+            if let Some(cookie) = cookie_in(request.first, &request.body) {
+                *kept = PendingCheck::of(cookie.octets, kept.id);
+            }
+        }),
     ),
     (Kind::Requests, "unfit-list", "Step 3 is taken with 8 and 9 too.", &UnfitList),
     (
@@ -303,6 +390,40 @@ struct NatSourceLengthOnly;
 impl RequestRules for NatSourceLengthOnly {
     fn allows_values(&self, source: &[u8], _destination: &[u8]) -> bool {
         Plain.allows_values(source, source)
+    }
+}
+
+/// Takes some other cookies too.
+struct AllowsCookie(fn(&Request) -> bool);
+impl RequestRules for AllowsCookie {
+    fn allows_cookie(&self, request: &Request) -> bool {
+        self.0(request) || Plain.allows_cookie(request)
+    }
+}
+
+/// Moves some IPsec records with the IKE record.
+struct MovesAtOnce(fn(&IkeRecord, &IpsecRecord) -> bool);
+impl RequestRules for MovesAtOnce {
+    fn moves_at_once(&self, ike: &IkeRecord, ipsec: &IpsecRecord) -> bool {
+        self.0(ike, ipsec)
+    }
+}
+
+/// Keeps the check of some other requests too.
+struct KeepsCheck(fn(Result<Effect, Unfit>) -> bool);
+impl RequestRules for KeepsCheck {
+    fn keeps_check(&self, updated: Result<Effect, Unfit>) -> bool {
+        self.0(updated) || Plain.keeps_check(updated)
+    }
+}
+
+/// Keeps another check, which is given with the older one and the request.
+struct KeptCheck(fn(&mut PendingCheck, &PendingCheck, &Request));
+impl RequestRules for KeptCheck {
+    fn kept_check(&self, older: &PendingCheck, request: &Request) -> PendingCheck {
+        let mut kept = Plain.kept_check(older, request);
+        self.0(&mut kept, older, request);
+        kept
     }
 }
 

@@ -26,13 +26,13 @@ pub const FAULTS: &[Row<dyn TableRules>] = &[
         Kind::Tables,
         "list-of-127",
         "Opening and closing take an IPsec list of 127 records.",
-        &AllowsList(|user, length| user != User::Handler && length == 127),
+        &AllowsList(|user, length| is_table_call(user) && length == 127),
     ),
     (
         Kind::Tables,
         "list-length-16-bits",
         "Opening and closing look at the low 16 bits of the list's length.",
-        &AllowsList(|user, length| user != User::Handler && length % 65536 == 128),
+        &AllowsList(|user, length| is_table_call(user) && length % 65536 == 128),
     ),
     (
         Kind::Tables,
@@ -51,6 +51,12 @@ pub const FAULTS: &[Row<dyn TableRules>] = &[
         "served-any-list",
         "A request takes an IPsec list of any length.",
         &AllowsList(|user, _| user == User::Handler),
+    ),
+    (
+        Kind::Checks,
+        "response-list-of-127",
+        "A check response takes an IPsec list of 127 records.",
+        &AllowsList(|user, length| user == User::CheckResponse && length == 127),
     ),
     (Kind::Requests, "served-only-1", "In check 5 only an octet of 1 is yes.", &ServedOnly1),
     (
@@ -135,6 +141,12 @@ pub const FAULTS: &[Row<dyn TableRules>] = &[
     ),
     (
         Kind::Tables,
+        "open-leaves-check",
+        "A new IKE record keeps the pending check that was left in its place.",
+        &NewIke(|new, left| new.check = left.check),
+    ),
+    (
+        Kind::Tables,
         "child-owner-32-bits",
         "The first IPsec record has the low 32 bits of its owner's SPI.",
         &NewChild(|new, _| new.owner %= 1 << 32),
@@ -207,6 +219,12 @@ pub const FAULTS: &[Row<dyn TableRules>] = &[
     ),
     (
         Kind::Tables,
+        "close-leaves-check",
+        "Closing leaves the cookie of a pending check, without its length.",
+        &Freed(|freed, closed| freed.check.octets = closed.check.octets),
+    ),
+    (
+        Kind::Tables,
         "twins-closed",
         "Closing an IKE record closes all places with its SPI.",
         &TwinsClosed,
@@ -218,9 +236,9 @@ pub const FAULTS: &[Row<dyn TableRules>] = &[
         &FreeOwned,
     ),
     (
-        Kind::Requests,
+        Kind::Checks,
         "free-owned-moved",
-        "Free IPsec places that name the owner take the pair.",
+        "Free IPsec places that name the owner take the pair, or are cleared.",
         &FreeOwned,
     ),
     (
@@ -230,12 +248,23 @@ pub const FAULTS: &[Row<dyn TableRules>] = &[
         &AlsoByPair,
     ),
     (
-        Kind::Requests,
+        Kind::Checks,
         "moved-by-pair",
-        "The IPsec records that have the IKE record's old pair move.",
+        "The IPsec records that have the IKE record's pair move or are closed.",
         &ByPair,
     ),
+    (
+        Kind::Checks,
+        "others-moved",
+        "IPsec records of every SPI move, or are closed.",
+        &AnyOwner,
+    ),
 ];
+
+/// Whether the list is lent for opening or closing.
+fn is_table_call(user: User) -> bool {
+    !matches!(user, User::Handler | User::CheckResponse)
+}
 
 struct SourceTailOnly;
 impl TableRules for SourceTailOnly {
@@ -429,5 +458,12 @@ struct ByPair;
 impl TableRules for ByPair {
     fn owns(&self, ike: &IkeRecord, ipsec: &IpsecRecord) -> bool {
         ipsec.is_in_use() && ipsec.pair == ike.pair
+    }
+}
+
+struct AnyOwner;
+impl TableRules for AnyOwner {
+    fn owns(&self, _ike: &IkeRecord, ipsec: &IpsecRecord) -> bool {
+        ipsec.is_in_use()
     }
 }

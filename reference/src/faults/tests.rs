@@ -2,6 +2,7 @@
 use super::*;
 use crate::assess::assess;
 use crate::cases::assess::{self, AssessCases};
+use crate::cases::checks::{self, ChecksCases};
 use crate::cases::entries::EntriesCases;
 use crate::cases::orders::{self, OrdersCases};
 use crate::cases::reader::ReaderCases;
@@ -10,6 +11,7 @@ use crate::cases::round_trips::RoundTripsCases;
 use crate::cases::tables::TablesCases;
 use crate::cases::traces::TracesCases;
 use crate::cases::writer::WriterCases;
+use crate::check::decide;
 use crate::handler::handle;
 use crate::orders::broken;
 use crate::outcome::Outcome;
@@ -24,6 +26,7 @@ struct Cases {
     reader: ReaderCases,
     tables: TablesCases,
     requests: RequestsCases,
+    checks: ChecksCases,
     orders: OrdersCases,
     assess: AssessCases,
     writer: WriterCases,
@@ -38,6 +41,7 @@ impl Cases {
             reader: ReaderCases::new(1),
             tables: TablesCases::new(1),
             requests: RequestsCases::new(1),
+            checks: ChecksCases::new(1),
             orders: OrdersCases::new(1),
             assess: AssessCases::new(1),
             writer: WriterCases::new(1),
@@ -58,6 +62,7 @@ impl Cases {
             }
             Kind::Tables => self.calls_differ(number, one, other),
             Kind::Requests => self.requests_differ(number, one, other),
+            Kind::Checks => self.checks_differ(number, one, other),
             Kind::Orders => self.broken(number, one) != self.broken(number, other),
             Kind::Assess => {
                 let assess::Case { sent, first, body } = self.assess.case(number);
@@ -98,12 +103,18 @@ impl Cases {
         handled[0] != handled[1] || of_one != of_other
     }
 
+    fn checks_differ(&self, number: u64, one: &Faulty, other: &Faulty) -> bool {
+        let checks::Case { tables: mut of_one, response } = self.checks.case(number);
+        let mut of_other = of_one.clone();
+        let decided =
+            [decide(&response, &mut of_one, one), decide(&response, &mut of_other, other)];
+        decided[0] != decided[1] || of_one != of_other
+    }
+
     /// What isn't as these rules of demand 3 ask it of this program.
     fn broken(&self, number: u64, rules: &Faulty) -> Vec<String> {
-        let orders::Case { tables, requests, chance } = self.orders.case(number);
-        broken(&tables, &requests, &chance, rules, |request, tables| {
-            handle(request, tables, &Plain)
-        })
+        let orders::Case { tables, list, chance } = self.orders.case(number);
+        broken(&tables, &list, &chance, rules, |asked, tables| asked.make(tables, &Plain))
     }
 }
 
@@ -160,12 +171,13 @@ fn names_are_there_once_and_lines_too() {
 }
 
 /// The rules and the faults of each part, as they are written.
-const PARTS: [[&str; 2]; 11] = [
+const PARTS: [[&str; 2]; 12] = [
     [include_str!("../rules/chain.rs"), include_str!("chain.rs")],
     [include_str!("../rules/parts.rs"), include_str!("parts.rs")],
     [include_str!("../rules/tables.rs"), include_str!("tables.rs")],
     [include_str!("../rules/policy.rs"), include_str!("policy.rs")],
     [include_str!("../rules/requests.rs"), include_str!("requests.rs")],
+    [include_str!("../rules/checks.rs"), include_str!("checks.rs")],
     [include_str!("../rules/orders.rs"), include_str!("orders.rs")],
     [include_str!("../rules/responses.rs"), include_str!("responses.rs")],
     [include_str!("../rules/writer.rs"), include_str!("writer.rs")],

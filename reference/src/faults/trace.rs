@@ -113,6 +113,25 @@ pub const FAULTS: &[Row<dyn TraceRules>] = &[
         "The two NAT values come in the other order, which no line of a replay shows.",
         &Exchanged(4, &[Part::NatDestination, Part::NatSource]),
     ),
+    (Kind::Traces, "kind-6-unknown", "A check response gives 21.", &KindUnknown(6)),
+    (
+        Kind::Traces,
+        "check-id-first",
+        "The ID of our request comes before the cookie.",
+        &Exchanged(4, &[Part::CheckId, Part::Cookie]),
+    ),
+    (
+        Kind::Traces,
+        "cookie-before-chain",
+        "The cookie and the ID of our request come before the first type, as the call has them.",
+        &Exchanged(4, &[Part::Cookie, Part::CheckId, Part::FirstType, Part::Body]),
+    ),
+    (
+        Kind::Traces,
+        "response-id-first",
+        "The ID of a check response comes before its SPI.",
+        &Exchanged(6, &[Part::Id, Part::IkeSpi]),
+    ),
     (
         Kind::Traces,
         "addresses-turned",
@@ -358,6 +377,16 @@ struct OtherKind(fn(u64) -> Refusal);
 impl TraceRules for OtherKind {
     fn kind(&self, number: u64) -> Result<u64, Refusal> {
         Plain.kind(number).map_err(|_| self.0(number))
+    }
+}
+
+struct KindUnknown(u64);
+impl TraceRules for KindUnknown {
+    fn kind(&self, number: u64) -> Result<u64, Refusal> {
+        if number == self.0 {
+            return Err(Refusal::UnknownKind);
+        }
+        Plain.kind(number)
     }
 }
 

@@ -1,6 +1,7 @@
 // The rules of the papers, part by part: each a small method with the sentence that it reads. A program is
 // whatever gives a set of rules for each part; this one goes by the methods as they stand here.
 mod chain;
+mod checks;
 mod orders;
 mod parts;
 mod policy;
@@ -13,6 +14,7 @@ mod trace;
 mod writer;
 
 pub use chain::ChainRules;
+pub use checks::CheckRules;
 pub use orders::OrderRules;
 pub use parts::PartRules;
 pub use policy::PolicyRules;
@@ -31,6 +33,7 @@ pub trait Rules {
     type Tables: TableRules + ?Sized;
     type Policy: PolicyRules + ?Sized;
     type Requests: RequestRules + ?Sized;
+    type Checks: CheckRules + ?Sized;
     type Orders: OrderRules + ?Sized;
     type Responses: ResponseRules + ?Sized;
     type Writer: WriterRules + ?Sized;
@@ -43,6 +46,7 @@ pub trait Rules {
     fn tables(&self) -> &Self::Tables;
     fn policy(&self) -> &Self::Policy;
     fn requests(&self) -> &Self::Requests;
+    fn checks(&self) -> &Self::Checks;
     fn orders(&self) -> &Self::Orders;
     fn responses(&self) -> &Self::Responses;
     fn writer(&self) -> &Self::Writer;
@@ -60,6 +64,7 @@ impl PartRules for Plain {}
 impl TableRules for Plain {}
 impl PolicyRules for Plain {}
 impl RequestRules for Plain {}
+impl CheckRules for Plain {}
 impl OrderRules for Plain {}
 impl ResponseRules for Plain {}
 impl WriterRules for Plain {}
@@ -73,6 +78,7 @@ impl Rules for Plain {
     type Tables = Plain;
     type Policy = Plain;
     type Requests = Plain;
+    type Checks = Plain;
     type Orders = Plain;
     type Responses = Plain;
     type Writer = Plain;
@@ -97,6 +103,10 @@ impl Rules for Plain {
     }
 
     fn requests(&self) -> &Plain {
+        self
+    }
+
+    fn checks(&self) -> &Plain {
         self
     }
 

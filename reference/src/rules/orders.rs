@@ -1,4 +1,5 @@
-// The rules of demand 3: document 00, with document 01, "One request, step by step".
+// The rules of demand 3: document 00, with document 01, "One request, step by step", and request E6 of document 02.
+use crate::asked::Asked;
 use crate::request::Request;
 use crate::steps::mark;
 
@@ -8,12 +9,20 @@ pub trait OrderRules {
         true
     }
 
-    /// "Where an IKE SA's requests are all sound .. and no two of them have the same message ID".
-    fn is_freed(&self, all_sound: bool, ids_differ: bool) -> bool {
-        all_sound && ids_differ
+    /// E6: "the list also holds check responses, refused ones included, each counted as one of the requests that give
+    /// its SPI", so that they are kept in sequence too.
+    fn counts(&self, _asked: &Asked) -> bool {
+        true
     }
 
-    /// "For every order that keeps the sequence of all other IKE SAs, the tables still end the same."
+    /// "Where an IKE SA's requests are all sound .. and no two of them have the same message ID"; E6: "only an IKE SA
+    /// without check responses may change its own sequence".
+    fn is_freed(&self, all_sound: bool, ids_differ: bool, without_responses: bool) -> bool {
+        all_sound && ids_differ && without_responses
+    }
+
+    /// "For every order that keeps the sequence of all other IKE SAs, the tables still end the same"; E6: "the tables
+    /// compared include the pending check".
     fn breaks_freed(&self, same_tables: bool, _same_answers: bool) -> bool {
         !same_tables
     }

@@ -1,5 +1,6 @@
-// The rules of a replay: request E3 of document 02, with docs/TRACE.md for the form of what is printed.
+// The rules of a replay: requests E3 and E6 of document 02, with docs/TRACE.md for the form of what is printed.
 use crate::address::AddressPair;
+use crate::assess::Assessed;
 use crate::request::LEAST_OUTPUT;
 use crate::show::hex;
 use crate::trace::lines::Shown;
@@ -26,6 +27,12 @@ pub trait ReplayRules {
     /// "prints, per entry, its ordinal, the answer number": a call that is refused is no end.
     fn goes_on(&self, _number: u8) -> bool {
         true
+    }
+
+    /// "the answer number, the update and list outcomes": a check response has neither of the two, whatever its
+    /// verdict, which isn't printed.
+    fn answer_to_check(&self, assessed: &Assessed) -> Answer {
+        Answer { number: assessed.number, ..Answer::default() }
     }
 
     /// "per entry, its ordinal", as in "`0 4 none none`".

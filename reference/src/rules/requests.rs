@@ -1,16 +1,17 @@
-// The rules of a request: document 01, "One request, step by step" and "The numbers given back", with requests E2
-// and E4 of document 02.
+// The rules of a request: document 01, "One request, step by step" and "The numbers given back", with requests E2,
+// E4 and E6 of document 02.
 use crate::address::{Address, AddressPair};
 use crate::flaws::{Cause, Flaw};
 use crate::notifications::Notification;
 use crate::notify::NotifyType;
 use crate::outcome::Place;
+use crate::pending::PendingCheck;
 use crate::reply::Reply;
 use crate::request::{Check, Request, NAT_VALUE_LENGTH};
 use crate::response::Served;
 use crate::steps::{mark, Effect, Unfit};
 use crate::summary::{Summary, MAX_KEPT};
-use crate::tables::{IkeRecord, IKE_PLACES};
+use crate::tables::{IkeRecord, IpsecRecord, IKE_PLACES};
 
 pub trait RequestRules {
     /// "After checks 1 to 7 in number order (6 and 7 as above)".
@@ -22,6 +23,12 @@ pub trait RequestRules {
     /// 1 is "a lent NAT value not of 20 octets".
     fn allows_values(&self, source: &[u8], destination: &[u8]) -> bool {
         source.len() == NAT_VALUE_LENGTH && destination.len() == NAT_VALUE_LENGTH
+    }
+
+    /// E6: "a cookie of 8 to 64 octets .. lent with every request", with an update or without; "1 for another cookie
+    /// length".
+    fn allows_cookie(&self, request: &Request) -> bool {
+        (8..=64).contains(&request.cookie.len())
     }
 
     /// Step 1: "Unknown payloads and unknown notifications are added to that record's tally, one each."
@@ -78,8 +85,7 @@ pub trait RequestRules {
         }
     }
 
-    /// "the IKE record and all its IPsec records take the packet's pair, and no other record changes": the IKE
-    /// places that do.
+    /// "the IKE record .. take the packet's pair, and no other record changes": the IKE places that do.
     fn moved(&self, _records: &[IkeRecord; IKE_PLACES], meant: usize) -> Vec<usize> {
         vec![meant]
     }
@@ -87,6 +93,23 @@ pub trait RequestRules {
     /// The same: nothing of the IKE record changes but the pair.
     fn move_ike(&self, record: &mut IkeRecord, pair: AddressPair) {
         record.pair = pair;
+    }
+
+    /// E6: "An applied update now moves the IKE record at once, but its IPsec records only after a return routability
+    /// check."
+    fn moves_at_once(&self, _ike: &IkeRecord, _ipsec: &IpsecRecord) -> bool {
+        false
+    }
+
+    /// E6: "kept when its update is applied", and not with a stale one, 8 or 9.
+    fn keeps_check(&self, updated: Result<Effect, Unfit>) -> bool {
+        updated == Ok(Effect::Done)
+    }
+
+    /// E6: "a cookie of 8 to 64 octets and the ID of our request .., in place of an older one"; document 01: past its
+    /// length "in a list newly kept or given they are 0".
+    fn kept_check(&self, _older: &PendingCheck, request: &Request) -> PendingCheck {
+        PendingCheck::of(&request.cookie, request.check_id)
     }
 
     /// Step 3: "Unless 8 or 9".

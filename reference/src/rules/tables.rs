@@ -139,7 +139,7 @@ pub trait TableRules {
         vec![meant]
     }
 
-    /// "Closing an IKE record closes the IPsec records it owns"; step 2: "the IKE record and all its IPsec records".
+    /// "Closing an IKE record closes the IPsec records it owns"; E6: "accepted moves all its IPsec records".
     /// "A place is free when its SPI is 0", and then no record.
     fn owns(&self, ike: &IkeRecord, ipsec: &IpsecRecord) -> bool {
         ipsec.is_in_use() && self.same_spi(ipsec.owner, ike.spi)

@@ -1,4 +1,4 @@
-// The rules of a trace's entries, read and written: request E3 of document 02, and the header for the two calls.
+// The rules of a trace's entries, read and written: requests E3 and E6 of document 02, and the header for the calls.
 use crate::trace::entry::Entry;
 use crate::trace::fields::{Field, Part, MOST_OCTETS, MOST_RULES};
 use crate::trace::numbers::{group, GROUP_BITS, MORE_FOLLOW};
@@ -69,22 +69,25 @@ pub trait TraceRules {
         16
     }
 
-    /// "kind (0 open both, 1 add IPsec, 2 close IKE, 3 close IPsec, 4 request, 5 policy)"; "21 unknown kind", whatever
-    /// stands behind it.
+    /// "kind (0 open both, 1 add IPsec, 2 close IKE, 3 close IPsec, 4 request, 5 policy)"; "later table calls .. join
+    /// at the end", so that 6 is a check response; "21 unknown kind", whatever stands behind it.
     fn kind(&self, number: u64) -> Result<u64, Refusal> {
-        if number <= 5 {
+        if number <= 6 {
             Ok(number)
         } else {
             Err(Refusal::UnknownKind)
         }
     }
 
-    /// "its fields in document 01's order": IKE records are "local SPI .., MOBIKE agreed or not, the address pair", IPsec
-    /// records "SPI .., owning IKE SPI", a request "SPI, ID, packet's pair, the two NAT values, first type, body". The
-    /// IPsec SPI of an opening comes last by decision.
+    /// "its fields in document 01's order": IKE records are "local SPI .., MOBIKE agreed or not, the address pair",
+    /// IPsec records "SPI .., owning IKE SPI", a request "SPI, ID, packet's pair, the two NAT values, first type,
+    /// body". The IPsec SPI of an opening comes last by decision. "later table calls and fields join at the end as
+    /// named": E6's "a cookie of 8 to 64 octets and the ID of our request", and "a response (SPI, ID, first type,
+    /// body)".
     fn layout(&self, kind: u64) -> Vec<Part> {
         use Part::{
-            Agreed, Body, FirstType, Id, IkeSpi, IpsecSpi, NatDestination, NatSource, Rules,
+            Agreed, Body, CheckId, Cookie, FirstType, Id, IkeSpi, IpsecSpi, NatDestination,
+            NatSource, Rules,
         };
         let pair = &Part::PAIR[..];
         match kind {
@@ -92,8 +95,12 @@ pub trait TraceRules {
             1 => vec![IpsecSpi, IkeSpi],
             2 => vec![IkeSpi],
             3 => vec![IpsecSpi],
-            4 => [&[IkeSpi, Id], pair, &[NatSource, NatDestination, FirstType, Body]].concat(),
-            _ => vec![Rules],
+            4 => {
+                let behind = [NatSource, NatDestination, FirstType, Body, Cookie, CheckId];
+                [&[IkeSpi, Id], pair, &behind].concat()
+            }
+            5 => vec![Rules],
+            _ => vec![IkeSpi, Id, FirstType, Body],
         }
     }
 

@@ -12,6 +12,7 @@ pub enum Entry {
     CloseIpsec { spi: u64 },
     Request(Request),
     Policy { count: u64, rules: Box<Rules> },
+    CheckResponse { spi: u64, id: u64, first: u64, body: Vec<u8> },
 }
 
 /// Those past the count aren't looked at.
@@ -35,6 +36,9 @@ pub struct Request {
     pub nat_destination: Vec<u8>,
     pub first: u64,
     pub body: Vec<u8>,
+    pub cookie: Vec<u8>,
+    /// The ID of our request.
+    pub check_id: u64,
 }
 
 #[derive(Debug, Clone, Copy, Default, PartialEq, Eq)]
@@ -55,6 +59,7 @@ impl Entry {
             Entry::CloseIpsec { .. } => 3,
             Entry::Request(_) => 4,
             Entry::Policy { .. } => 5,
+            Entry::CheckResponse { .. } => 6,
         }
     }
 

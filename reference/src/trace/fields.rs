@@ -37,6 +37,8 @@ pub enum Part {
     NatDestination,
     FirstType,
     Body,
+    Cookie,
+    CheckId,
     SourceLength,
     DestinationLength,
     /// A list: its count, then its rules.
@@ -64,13 +66,13 @@ impl Part {
             Part::IkeSpi => Form::Number(Field::IkeSpi),
             Part::IpsecSpi => Form::Number(Field::IpsecSpi),
             Part::Agreed => Form::Number(Field::Agreed),
-            Part::Id => Form::Number(Field::Id),
+            Part::Id | Part::CheckId => Form::Number(Field::Id),
             Part::Family => Form::Number(Field::Family),
             Part::SourcePort | Part::DestinationPort => Form::Number(Field::Port),
             Part::FirstType => Form::Number(Field::FirstType),
             Part::SourceLength | Part::DestinationLength => Form::Number(Field::PrefixLength),
             Part::Source | Part::Destination => Form::Address,
-            Part::NatSource | Part::NatDestination | Part::Body => Form::String,
+            Part::NatSource | Part::NatDestination | Part::Body | Part::Cookie => Form::String,
             Part::Rules => Form::List,
         }
     }

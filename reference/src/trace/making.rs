@@ -3,6 +3,7 @@ use super::entry::{self, Entry, Pair, Request, Rule};
 use crate::address::AddressPair;
 use crate::agreed::Agreed;
 use crate::calls::Call;
+use crate::check::{decide, CheckResponse};
 use crate::handler::handle;
 use crate::opening_both::Opening;
 use crate::policy::{self, RuleList};
@@ -25,6 +26,11 @@ impl Entry {
     pub fn make(&self, tables: &mut Tables, of: &impl Rules) -> Answer {
         let call = match self {
             Entry::Request(request) => return request.make(tables, of),
+            Entry::CheckResponse { spi, id, first, body } => {
+                let (id, first, body) = (*id as u32, *first as u8, body.clone());
+                let response = CheckResponse { spi: *spi, id, first, body };
+                return of.replay().answer_to_check(&decide(&response, tables, of));
+            }
             Entry::OpenBoth { spi, agreed, pair, child } => {
                 let agreed = Agreed { mobike: *agreed as u8 };
                 let (pair, child) = (pair.narrow(), *child as u32);
@@ -50,6 +56,8 @@ impl Request {
             nat_source: self.nat_source.clone(),
             nat_destination: self.nat_destination.clone(),
             first: self.first as u8,
+            cookie: self.cookie.clone(),
+            check_id: self.check_id as u32,
             body: self.body.clone(),
             output: vec![0; of.replay().output_lent()],
         };

@@ -100,9 +100,15 @@ impl Parts {
             2 => Entry::CloseIke { spi: self.number(Part::IkeSpi) },
             3 => Entry::CloseIpsec { spi: self.number(Part::IpsecSpi) },
             4 => Entry::Request(self.request()),
-            _ => Entry::Policy {
+            5 => Entry::Policy {
                 count: self.number(Part::Rules),
                 rules: self.rules.unwrap_or_default(),
+            },
+            _ => Entry::CheckResponse {
+                spi: self.number(Part::IkeSpi),
+                id: self.number(Part::Id),
+                first: self.number(Part::FirstType),
+                body: self.string(Part::Body),
             },
         }
     }
@@ -116,6 +122,8 @@ impl Parts {
             nat_destination: self.string(Part::NatDestination),
             first: self.number(Part::FirstType),
             body: self.string(Part::Body),
+            cookie: self.string(Part::Cookie),
+            check_id: self.number(Part::CheckId),
         }
     }
 
@@ -222,7 +230,8 @@ mod tests {
         assert_eq!(refusal(&long_body(&[0x81, 0x20], 0)), Refusal::TooLarge);
         assert_eq!(refusal(&long_body(&[0x81, 0x20], 4097)), Refusal::TooLarge);
         assert_eq!(refusal(&long_body(&[0x80, 0x20], 4095)), Refusal::Cut);
-        assert!(read(&long_body(&[0x80, 0x20], 4096), 0, &Plain).is_ok());
+        // Behind the body, a cookie and an ID.
+        assert!(read(&long_body(&[0x80, 0x20], 4096 + 2), 0, &Plain).is_ok());
         // A length that is cut or not shortest, though large.
         assert_eq!(refusal(&long_body(&[0x81, 0xa0], 0)), Refusal::Cut);
         assert_eq!(refusal(&long_body(&[0x81, 0xa0, 0x00], 9)), Refusal::Cut);

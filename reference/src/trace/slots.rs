@@ -37,7 +37,8 @@ pub fn count(kind: u8, items: usize) -> usize {
         0 => 8,
         1 => 2,
         2 | 3 => 1,
-        4 => 14,
+        4 => 17,
+        6 => 5,
         _ => 1 + 5 * items,
     }
 }
@@ -70,6 +71,12 @@ pub fn meant(
         3 => Entry::CloseIpsec { spi: taking.number() },
         4 => Entry::Request(taking.request()),
         5 => taking.policy(),
+        6 => Entry::CheckResponse {
+            spi: taking.number(),
+            id: taking.number(),
+            first: taking.number(),
+            body: taking.string(),
+        },
         _ => return None,
     };
     Some(Meant { entry, within: taking.within })
@@ -124,6 +131,8 @@ impl<R: TraceRules + ?Sized> Taking<'_, R> {
             nat_destination: self.string(),
             first: self.number(),
             body: self.string(),
+            cookie: self.string(),
+            check_id: self.number(),
         }
     }
 
@@ -181,7 +190,7 @@ mod tests {
         assert_eq!(slots[..8], [1 << 40, 1, 4, 109, 125, 4500, 500, 300]);
         let slots = of_entry(&samples()[6], 0);
         assert_eq!(slots[..7], [7, 300, 4, 5, 21, 1024, 500]);
-        assert_eq!(slots[7..14], [42, 20, 63, 20, 41, 85, 12]);
+        assert_eq!(slots[7..17], [42, 20, 63, 20, 41, 85, 12, 98, 8, 70_000]);
     }
 
     #[test]
@@ -198,6 +207,6 @@ mod tests {
         (slots[7], slots[8]) = (u64::MAX, 1);
         assert!(!within(&slots, 4, 17));
         assert!(within(&[0; SLOTS], 5, 0) && !within(&[1; SLOTS], 5, 0));
-        assert!(meant(6, &slots, &[], &Plain).is_none());
+        assert!(meant(7, &slots, &[], &Plain).is_none());
     }
 }

@@ -49,7 +49,7 @@ pub fn write_meant(meant: &Meant, output: &[u8], rules: &(impl TraceRules + ?Siz
 }
 
 /// The longest entry: a request.
-pub const LONGEST: usize = 12_352;
+pub const LONGEST: usize = 16_455;
 
 /// The octets of an entry whose numbers all fit; of another one, what no reader takes.
 pub fn entry_octets(entry: &Entry) -> Vec<u8> {
@@ -96,6 +96,9 @@ pub fn pieces<'a>(entry: &'a Entry, rules: &(impl TraceRules + ?Sized)) -> Vec<P
                 }
             }
             Entry::Request(request) => pieces.extend(of_request(request, part)),
+            Entry::CheckResponse { spi, id, first, body } => {
+                pieces.extend(of_check_response(*spi, *id, *first, body, part));
+            }
             _ => pieces.push(of_table_call(entry, part)),
         }
     }
@@ -112,14 +115,27 @@ fn of_table_call(entry: &Entry, part: Part) -> Piece<'_> {
         (Entry::AddIpsec { spi, .. }, _) => Piece::Number(Field::IpsecSpi, *spi),
         (Entry::CloseIke { spi }, _) => Piece::Number(Field::IkeSpi, *spi),
         (Entry::CloseIpsec { spi }, _) => Piece::Number(Field::IpsecSpi, *spi),
-        (Entry::Request(_) | Entry::Policy { .. }, _) => unreachable!("no call on records"),
+        (Entry::Request(_) | Entry::Policy { .. } | Entry::CheckResponse { .. }, _) => {
+            unreachable!("no call on records")
+        }
+    }
+}
+
+/// Its length, then its octets.
+fn string(octets: &[u8]) -> Vec<Piece<'_>> {
+    vec![Piece::Number(Field::Length, octets.len() as u64), Piece::Octets(octets)]
+}
+
+fn of_check_response(spi: u64, id: u64, first: u64, body: &[u8], part: Part) -> Vec<Piece<'_>> {
+    match part {
+        Part::IkeSpi => vec![Piece::Number(Field::IkeSpi, spi)],
+        Part::Id => vec![Piece::Number(Field::Id, id)],
+        Part::FirstType => vec![Piece::Number(Field::FirstType, first)],
+        _ => string(body),
     }
 }
 
 fn of_request(request: &Request, part: Part) -> Vec<Piece<'_>> {
-    let string = |octets| {
-        vec![Piece::Number(Field::Length, <[u8]>::len(octets) as u64), Piece::Octets(octets)]
-    };
     match part {
         Part::IkeSpi => vec![Piece::Number(Field::IkeSpi, request.spi)],
         Part::Id => vec![Piece::Number(Field::Id, request.id)],
@@ -127,6 +143,8 @@ fn of_request(request: &Request, part: Part) -> Vec<Piece<'_>> {
         Part::NatSource => string(&request.nat_source),
         Part::NatDestination => string(&request.nat_destination),
         Part::Body => string(&request.body),
+        Part::Cookie => string(&request.cookie),
+        Part::CheckId => vec![Piece::Number(Field::Id, request.check_id)],
         _ => vec![of_pair(&request.pair, part)],
     }
 }
@@ -216,6 +234,8 @@ mod tests {
             nat_destination: vec![0; 4096],
             first: 255,
             body: vec![0; 4096],
+            cookie: vec![0; 4096],
+            check_id: u64::from(u32::MAX),
         });
         assert_eq!(entry_octets(&request).len(), LONGEST);
         let rule =

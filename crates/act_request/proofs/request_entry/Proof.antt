@@ -1,5 +1,5 @@
 -- `act_request::request_entry` meets its contract: a walk of its MIR, by hand. The window is asked for the request and
--- for its three strings, `unmavreth_handle` is called, and the covered `replied` says what of the reply is printed.
+-- for its four strings, `unmavreth_handle` is called, and the covered `replied` says what of the reply is printed.
 -- Assumes nothing.
 use Rattle.walks.proofs.Kit.{_≡_, refl, ℕ, [], _∷_, List, length, URA, Val, SProp, ent, id⊢, Memory, Routine, Heap}
 use Rattle.walks.proofs.Kit.{Calls, Loops, WpFn, Atoms, Lfts, Shares, Fun, givenOf, tables, tablesOf, Given, ‵, _$_}
@@ -10,23 +10,25 @@ use mathlib.Core.Option.{Option, none, some}
 use denote.Struct.Laws as LL
 use Rattle.replying.proofs.reply.Reply as Z
 use Rattle.replying.proofs.reply.Reply.Laws as Z′
+use Rattle.records.specs.Pending.{checkOf}
 use Rattle.answering.specs.Core.{asked}
 use Rattle.checking.specs.Checks.{requestOf}
 use Rattle.responder.specs.Handle.{Handled, handled}
-use Rattle.given.specs.Given.{requestIn, stringIn}
+use Rattle.given.specs.Given.{stringIn}
+use Rattle.calling.specs.Calling.{requestIn}
 use Rattle.given.specs.Outcome.{repliedBy}
-use Rattle.given.specs.declared.calling.Given.{Given as Asked}
+use Rattle.calling.specs.declared.Given.{Given as Asked}
 use Rattle.given.specs.declared.outcome.Outcome.{Outcome}
 use Rattle.given.specs.declared.reading.Span.{Span}
-use Rattle.given.proofs.calling.Given as D
-use Rattle.given.proofs.calling.Given.Laws as D′
+use Rattle.calling.proofs.Given as D
+use Rattle.calling.proofs.Given.Laws as D′
 use Rattle.given.proofs.outcome.Outcome as O
 use Rattle.given.proofs.outcome.Outcome.Laws as O′
 use Rattle.given.proofs.reading.Slots as S
 use Rattle.given.proofs.reading.Slots.Laws as S′
-use Rattle.given.proofs.calling.request_in as request
-use Rattle.given.proofs.calling.request_in.Symbol as request-def
-use Rattle.given.proofs.calling.request_in.Met as request-thm
+use Rattle.calling.proofs.request_in as request
+use Rattle.calling.proofs.request_in.Symbol as request-def
+use Rattle.calling.proofs.request_in.Met as request-thm
 use Rattle.given.proofs.reading.string_at as string
 use Rattle.given.proofs.reading.string_at.Symbol as string-def
 use Rattle.given.proofs.reading.string_at.Met as string-thm
@@ -43,7 +45,8 @@ use Rattle.acts.specs.Performed.{handledBy, requestBy}
 use Rattle.acts.proofs.Signed.{Act, Params, Known, Post, signature, vals, slots-vals, outcome-vals, exits, acts}
 use Rattle.acts.proofs.Signed.{ike, ipsec, policy, window, entry, out}
 use Rattle.acts.proofs.Shared.{opened}
-use Rattle.act_request.proofs.Window.{asked-vals, reads-request, takes-string}
+use Rattle.acts.proofs.Window.{takes-string}
+use Rattle.act_request.proofs.Window.{asked-vals, reads-request}
 use Rattle.act_request.proofs.Handling.{reply-vals, Before, handles}
 use Rattle.act_request.proofs.request_entry.Key as key
 use Rattle.act_request.proofs.request_entry.Statement as stated
@@ -69,10 +72,12 @@ module _ (a : Params) where
   abbrev said : Span → List ℕ
   said n = stringIn (window a .now) (n .at) (n .size)
 
-  comes : (x y z : List ℕ) → x ≡ said (q .«nat_source») → y ≡ said (q .«nat_destination») → z ≡ said (q .body)
+  comes : (x y z w : List ℕ) → x ≡ said (q .«nat_source») → y ≡ said (q .«nat_destination») → z ≡ said (q .body)
+      → w ≡ said (q .cookie)
       → handled (policy a .now) (ike a .now) (ipsec a .now)
-      (requestOf (q .spi) (asked (q .id) (q .pair) x y (q .first) z) (length (out a .now))) ≡ h
-  comes x y z e₁ e₂ e₃ = rw e₁ (rw e₂ (rw e₃ refl))
+      (requestOf (q .spi) (asked (q .id) (q .pair) x y (q .first) z (checkOf w (q .«check_id»))) (length (out a .now)))
+      ≡ h
+  comes x y z w e₁ e₂ e₃ e₄ = rw e₁ (rw e₂ (rw e₃ (rw e₄ refl)))
 
 module _ {M : Type 1} (𝓤 : URA M) (H : Heap 𝓤) (A : Atoms 𝓤) (W : Given 𝓤 H A) (at-mem : Memory → SProp 𝓤)
     (run : Routine → Fun 𝓤) (C : Calls 𝓤 H) (Λ : Loops 𝓤 H) (fm : FmC 𝓤 H (W .laws) C)
@@ -86,19 +91,19 @@ module _ {M : Type 1} (𝓤 : URA M) (H : Heap 𝓤) (A : Atoms 𝓤) (W : Given
     En = env 𝓤 H (code.function .locals) l
 
     -- what the locals hold: the parameters, the request, and its strings
-    abbrev held : RefT (List ℕ) → RefT (List ℕ) → RefT (List ℕ) → List (Option Val)
-    held x y z =
+    abbrev held : RefT (List ℕ) → RefT (List ℕ) → RefT (List ℕ) → RefT (List ℕ) → List (Option Val)
+    held x y z w =
         none ∷ some (only (ptr-vals (ike a))) ∷ some (only (slice-vals (ipsec a))) ∷ some (only (ptr-vals (policy a)))
         ∷ some (only (slice-vals (window a))) ∷ some (only (slots-vals (entry a))) ∷ some (only (slice-vals (out a)))
         ∷ some (only (asked-vals (q a))) ∷ some (only (slice-vals x)) ∷ some (only (slice-vals y))
-        ∷ some (only (slice-vals z)) ∷ []
+        ∷ some (only (slice-vals z)) ∷ some (only (slice-vals w)) ∷ []
 
     -- The request is handled.
-    answers : Is D.the-row (q a) (asked-vals (q a)) → (x y z : RefT (List ℕ)) → x .now ≡ said a (q a .«nat_source»)
-        → y .now ≡ said a (q a .«nat_destination») → z .now ≡ said a (q a .body)
-        → Sq W (Before κs qs a x y z (holding 𝓤 H (held x y z) En []))
-        (runs C Λ En mir′.t-5 (atRet En (Post 𝓤 H A κs qs a act)))
-    answers q-is x y z e₁ e₂ e₃ =
+    answers : Is D.the-row (q a) (asked-vals (q a)) → (x y z w : RefT (List ℕ)) → x .now ≡ said a (q a .«nat_source»)
+        → y .now ≡ said a (q a .«nat_destination») → z .now ≡ said a (q a .body) → w .now ≡ said a (q a .cookie)
+        → Sq W (Before κs qs a x y z w (holding 𝓤 H (held x y z w) En []))
+        (runs C Λ En mir′.t-6 (atRet En (Post 𝓤 H A κs qs a act)))
+    answers q-is x y z w e₁ e₂ e₃ e₄ =
         sets ! (addr ! (behind ! refl (stop !))) refl (tt, tt) $
         sets ! (addr ! (behind-part ! refl (sub ! 0 refl (whole !)) (stop !))) refl (tt, tt) $
         sets ! (agg ! (and-then ! (value ! refl) (and-then ! (part ! refl (sub ! 1 refl (whole !))) (no-more !)))) refl
@@ -107,13 +112,14 @@ module _ {M : Type 1} (𝓤 : URA M) (H : Heap 𝓤) (A : Atoms 𝓤) (W : Given
         sets ! (addr ! (behind-part ! refl (sub ! 0 refl (whole !)) (stop !))) refl (tt, tt) $
         sets ! (agg ! (and-then ! (value ! refl) (and-then ! (part ! refl (sub ! 1 refl (whole !))) (no-more !)))) refl
         (tt, (tt, (record { fits = known .1 .1 .1 .1 .1 .0 .0 .1 .0 }, tt))) $
-        handles ! fm at-mem run κs qs a known-handle (q a) q-is x y z (h a)
-        (comes a (x .now) (y .now) (z .now) e₁ e₂ e₃)
-        (λ i j. and-then ! (value ! refl) (and-then ! (value ! refl) (and-then ! (value ! refl)
+        handles ! fm at-mem run κs qs a (known .1 .0 .0 .1) known-handle (q a) q-is x y z w (h a)
+        (comes a (x .now) (y .now) (z .now) (w .now) e₁ e₂ e₃ e₄)
+        (λ i j k. and-then ! (value ! refl) (and-then ! (value ! refl) (and-then ! (value ! refl)
         (and-then ! (part ! refl (sub ! 0 refl (whole !))) (and-then ! (part ! refl (sub ! 1 refl (whole !)))
         (and-then ! (part ! refl (sub ! 2 refl (whole !))) (and-then ! (value ! refl) (and-then ! (value ! refl)
+        (and-then ! (value ! refl) (and-then ! (part ! refl (sub ! 8 refl (whole !)))
         (and-then ! (part ! refl (sub ! 5 refl (whole !))) (and-then ! (value ! refl) (and-then ! (value ! refl)
-        (no-more !)))))))))))) (λ reply-is zs us ws e₄ e₅ lᵢ lₒ.
+        (no-more !)))))))))))))) (λ reply-is zs ws e₅ lₒ.
         -- [each last value with its token, as `exits` takes them; the locals]
         lands-in ! refl (LL.lawful Z.the-type Z′.the-laws 𝓤 H A W .typed (h a .reply) _ reply-is .0) $
         plainly ! (Z.the-row ∷ []) (LL.makes Z.the-type Z′.the-plain 𝓤 H A, tt) (h a .reply, tt)
@@ -123,8 +129,8 @@ module _ {M : Type 1} (𝓤 : URA M) (H : Heap 𝓤) (A : Atoms 𝓤) (W : Given
         (and-then ! (value ! refl) (no-more !)) outcome-vals (LL.tells O.the-type O′.the-laws) (printed a)
         (λ r ws. id⊢ 𝓤 _) (λ is. drop ! $ lands-in ! refl
         (LL.lawful O.the-type O′.the-laws 𝓤 H A W .typed (printed a) _ is .0) $ hands ! refl $ ends ! refl refl $
-        by ! (exits 𝓤 H A κs qs a W act (printed a) zs us (policy a .now) ws is lᵢ lₒ
-        (record { outcome = refl; records = e₄; owned = e₅; rules = refl }))))
+        by ! (exits 𝓤 H A κs qs a W act (printed a) zs (ipsec a .now) (policy a .now) ws is refl lₒ
+        (record { outcome = refl; records = e₅; owned = refl; rules = refl }))))
 
   walk : ent 𝓤 (onEntry 𝓤 H A signature κs qs a (vals κs a))
       (WpFn 𝓤 H C Λ code.function (flat (typesAt (signature .params) κs) (vals κs a)) (Post 𝓤 H A κs qs a act))
@@ -152,8 +158,12 @@ module _ {M : Type 1} (𝓤 : URA M) (H : Heap 𝓤) (A : Atoms 𝓤) (W : Given
       takes-string ! (window a) fm at-mem run known-string (q a .body)
       (LL.owed D.the-type D′.the-laws (q a) _ q-is .1 .1 .1 .1 .1 .1 .0)
       (λ i j. and-then ! (value ! refl) (and-then ! (part ! refl (sub ! 6 refl (whole !))) (no-more !)))
-      (λ z e₃ z-room. lands-in ! refl (tt, (tt, (record { fits = z-room .0 }, tt))) $ move ! (1 ∷ []) $ drop ! $
-      answers l q-is x y z e₁ e₂ e₃)))))
+      (λ z e₃ z-room. lands-in ! refl (tt, (tt, (record { fits = z-room .0 }, tt))) $ move ! (1 ∷ 2 ∷ []) $
+      takes-string ! (window a) fm at-mem run known-string (q a .cookie)
+      (LL.owed D.the-type D′.the-laws (q a) _ q-is .1 .1 .1 .1 .1 .1 .1 .0)
+      (λ i j. and-then ! (value ! refl) (and-then ! (part ! refl (sub ! 7 refl (whole !))) (no-more !)))
+      (λ w e₄ w-room. lands-in ! refl (tt, (tt, (record { fits = w-room .0 }, tt))) $ move ! (1 ∷ []) $ drop ! $
+      answers l q-is x y z w e₁ e₂ e₃ e₄))))))
 
 pub request-entry-spec : {M : Type 1} → stated.statement M
 unfolding code.routine tablesOf
@@ -164,7 +174,7 @@ request-entry-spec 𝓤 H 𝓜 𝓖 𝓡 =
     acts 𝓤 H 𝓜 𝓖 𝓡 code.env key.name code.function (code.unfolded 𝓤 H 𝓜 𝓡) act
     (walk 𝓤 H A W (𝓜 .mem) (𝓡 .run) (Ts .C) (Ts .Λ) (fmOf 𝓤 H (W .laws) (tablesOf 𝓤 H 𝓜 Ts))
     (cited 𝓤 H (Told 𝓤 H A request.ended (request.clauses 𝓤 H A (𝓜 .mem) (𝓡 .run))) 𝓜 𝓡 code.env request-def.name
-    request-def.routine code.calls-given·calling·request-in (request-thm.met 𝓤 H 𝓜 𝓖 𝓡))
+    request-def.routine code.calls-calling·request-in (request-thm.met 𝓤 H 𝓜 𝓖 𝓡))
     (cited 𝓤 H (Told 𝓤 H A string.ended (string.clauses 𝓤 H A (𝓜 .mem) (𝓡 .run))) 𝓜 𝓡 code.env string-def.name
     string-def.routine code.calls-given·reading·string-at (string-thm.met 𝓤 H 𝓜 𝓖 𝓡))
     (cited 𝓤 H (Told 𝓤 H A handle.ended (handle.clauses 𝓤 H A (𝓜 .mem) (𝓡 .run))) 𝓜 𝓡 code.env handle-def.name

@@ -10,16 +10,16 @@ use Rattle.records.specs.Records.{noIpsec}
 use Rattle.records.specs.declared.ipsec.IpsecRecord.{IpsecRecord}
 use Rattle.records.proofs.ipsec.IpsecRecord as S
 use Rattle.records.proofs.ipsec.IpsecRecord.Laws as S′
-use Rattle.given.specs.Given.{spiIn}
+use Rattle.calling.specs.Calling.{spiIn}
 use Rattle.given.specs.Outcome.{shownOf}
 use Rattle.given.specs.declared.outcome.Outcome.{Outcome}
 use Rattle.given.proofs.outcome.Outcome as O
 use Rattle.given.proofs.outcome.Outcome.Laws as O′
 use Rattle.given.proofs.reading.Slots as E
 use Rattle.given.proofs.reading.Slots.Laws as E′
-use Rattle.given.proofs.calling.place_in as asked
-use Rattle.given.proofs.calling.place_in.Symbol as asked-def
-use Rattle.given.proofs.calling.place_in.Met as asked-thm
+use Rattle.calling.proofs.place_in as asked
+use Rattle.calling.proofs.place_in.Symbol as asked-def
+use Rattle.calling.proofs.place_in.Met as asked-thm
 use Rattle.given.proofs.outcome.shown_ipsec as shows
 use Rattle.given.proofs.outcome.shown_ipsec.Symbol as shows-def
 use Rattle.given.proofs.outcome.shown_ipsec.Met as shows-thm
@@ -102,7 +102,7 @@ show-ipsec-spec 𝓤 H 𝓜 𝓖 𝓡 =
     acts 𝓤 H 𝓜 𝓖 𝓡 code.env key.name code.function (code.unfolded 𝓤 H 𝓜 𝓡) act
     (walk 𝓤 H A W (𝓜 .mem) (𝓡 .run) (Ts .C) (Ts .Λ) (fmOf 𝓤 H (W .laws) (tablesOf 𝓤 H 𝓜 Ts))
     (cited 𝓤 H (Told 𝓤 H A asked.ended (asked.clauses 𝓤 H A (𝓜 .mem) (𝓡 .run))) 𝓜 𝓡 code.env asked-def.name
-    asked-def.routine code.calls-given·calling·place-in (asked-thm.met 𝓤 H 𝓜 𝓖 𝓡))
+    asked-def.routine code.calls-calling·place-in (asked-thm.met 𝓤 H 𝓜 𝓖 𝓡))
     (cited 𝓤 H (Told 𝓤 H A at.ended (at.clauses 𝓤 H A (𝓜 .mem) (𝓡 .run))) 𝓜 𝓡 code.env at-def.name
     at-def.routine code.calls-lent-ipsec·places·ipsec-at (at-thm.met 𝓤 H 𝓜 𝓖 𝓡))
     (cited 𝓤 H (Told 𝓤 H A shows.ended (shows.clauses 𝓤 H A (𝓜 .mem) (𝓡 .run))) 𝓜 𝓡 code.env shows-def.name

@@ -8,18 +8,18 @@ use Rattle.walks.proofs.Kit.{FmC, fmOf, owns, flat, u32, u64, uint-vals, uint-t
 use Rattle.walks.proofs.Kit.{typesAt, Triple, onEntry, cited, fullShare, fsplit}
 use denote.Struct.Laws as LL
 use Rattle.tables.specs.Calls.{IpsecAnswer, openIpsec}
-use Rattle.given.specs.Given.{childIn, ownerIn}
+use Rattle.calling.specs.Calling.{childIn, ownerIn}
 use Rattle.given.specs.Outcome.{numberedBy}
 use Rattle.given.proofs.outcome.Outcome as O
 use Rattle.given.proofs.outcome.Outcome.Laws as O′
 use Rattle.given.proofs.reading.Slots as E
 use Rattle.given.proofs.reading.Slots.Laws as E′
-use Rattle.given.proofs.calling.child_in as asked
-use Rattle.given.proofs.calling.child_in.Symbol as asked-def
-use Rattle.given.proofs.calling.child_in.Met as asked-thm
-use Rattle.given.proofs.calling.owner_in as of
-use Rattle.given.proofs.calling.owner_in.Symbol as of-def
-use Rattle.given.proofs.calling.owner_in.Met as of-thm
+use Rattle.calling.proofs.child_in as asked
+use Rattle.calling.proofs.child_in.Symbol as asked-def
+use Rattle.calling.proofs.child_in.Met as asked-thm
+use Rattle.calling.proofs.owner_in as of
+use Rattle.calling.proofs.owner_in.Symbol as of-def
+use Rattle.calling.proofs.owner_in.Met as of-thm
 use Rattle.given.proofs.outcome.numbered as number
 use Rattle.given.proofs.outcome.numbered.Symbol as number-def
 use Rattle.given.proofs.outcome.numbered.Met as number-thm
@@ -123,9 +123,9 @@ add-entry-spec 𝓤 H 𝓜 𝓖 𝓡 =
     acts 𝓤 H 𝓜 𝓖 𝓡 code.env key.name code.function (code.unfolded 𝓤 H 𝓜 𝓡) act
     (walk 𝓤 H A W (𝓜 .mem) (𝓡 .run) (Ts .C) (Ts .Λ) (fmOf 𝓤 H (W .laws) (tablesOf 𝓤 H 𝓜 Ts))
     (cited 𝓤 H (Told 𝓤 H A asked.ended (asked.clauses 𝓤 H A (𝓜 .mem) (𝓡 .run))) 𝓜 𝓡 code.env asked-def.name
-    asked-def.routine code.calls-given·calling·child-in (asked-thm.met 𝓤 H 𝓜 𝓖 𝓡))
+    asked-def.routine code.calls-calling·child-in (asked-thm.met 𝓤 H 𝓜 𝓖 𝓡))
     (cited 𝓤 H (Told 𝓤 H A of.ended (of.clauses 𝓤 H A (𝓜 .mem) (𝓡 .run))) 𝓜 𝓡 code.env of-def.name
-    of-def.routine code.calls-given·calling·owner-in (of-thm.met 𝓤 H 𝓜 𝓖 𝓡))
+    of-def.routine code.calls-calling·owner-in (of-thm.met 𝓤 H 𝓜 𝓖 𝓡))
     (cited 𝓤 H (Told 𝓤 H A adds.ended (adds.clauses 𝓤 H A (𝓜 .mem) (𝓡 .run))) 𝓜 𝓡 code.env adds-def.name
     adds-def.routine code.calls-host·calls·unmavreth-open-ipsec (adds-thm.met 𝓤 H 𝓜 𝓖 𝓡))
     (cited 𝓤 H (Told 𝓤 H A number.ended (number.clauses 𝓤 H A (𝓜 .mem) (𝓡 .run))) 𝓜 𝓡 code.env number-def.name

@@ -8,15 +8,15 @@ use Rattle.walks.proofs.Kit.{owns, flat, u64, uint-vals, uint-tells, uint-makes
 use Rattle.walks.proofs.Kit.{onEntry, cited}
 use denote.Struct.Laws as LL
 use Rattle.tables.specs.Calls.{TablesAnswer, closeIke}
-use Rattle.given.specs.Given.{spiIn}
+use Rattle.calling.specs.Calling.{spiIn}
 use Rattle.given.specs.Outcome.{numberedBy}
 use Rattle.given.proofs.outcome.Outcome as O
 use Rattle.given.proofs.outcome.Outcome.Laws as O′
 use Rattle.given.proofs.reading.Slots as E
 use Rattle.given.proofs.reading.Slots.Laws as E′
-use Rattle.given.proofs.calling.spi_in as asked
-use Rattle.given.proofs.calling.spi_in.Symbol as asked-def
-use Rattle.given.proofs.calling.spi_in.Met as asked-thm
+use Rattle.calling.proofs.spi_in as asked
+use Rattle.calling.proofs.spi_in.Symbol as asked-def
+use Rattle.calling.proofs.spi_in.Met as asked-thm
 use Rattle.given.proofs.outcome.numbered as number
 use Rattle.given.proofs.outcome.numbered.Symbol as number-def
 use Rattle.given.proofs.outcome.numbered.Met as number-thm
@@ -103,7 +103,7 @@ close-entry-spec 𝓤 H 𝓜 𝓖 𝓡 =
     acts 𝓤 H 𝓜 𝓖 𝓡 code.env key.name code.function (code.unfolded 𝓤 H 𝓜 𝓡) act
     (walk 𝓤 H A W (𝓜 .mem) (𝓡 .run) (Ts .C) (Ts .Λ) (fmOf 𝓤 H (W .laws) (tablesOf 𝓤 H 𝓜 Ts))
     (cited 𝓤 H (Told 𝓤 H A asked.ended (asked.clauses 𝓤 H A (𝓜 .mem) (𝓡 .run))) 𝓜 𝓡 code.env asked-def.name
-    asked-def.routine code.calls-given·calling·spi-in (asked-thm.met 𝓤 H 𝓜 𝓖 𝓡))
+    asked-def.routine code.calls-calling·spi-in (asked-thm.met 𝓤 H 𝓜 𝓖 𝓡))
     (cited 𝓤 H (Told 𝓤 H A shut.ended (shut.clauses 𝓤 H A (𝓜 .mem) (𝓡 .run))) 𝓜 𝓡 code.env shut-def.name
     shut-def.routine code.calls-host·calls·unmavreth-close-ike (shut-thm.met 𝓤 H 𝓜 𝓖 𝓡))
     (cited 𝓤 H (Told 𝓤 H A number.ended (number.clauses 𝓤 H A (𝓜 .mem) (𝓡 .run))) 𝓜 𝓡 code.env number-def.name

@@ -11,15 +11,15 @@ use Rattle.tables.specs.Calls.{TablesAnswer, openBoth}
 use Rattle.tables.specs.declared.calls.Opening.{Opening}
 use Rattle.tables.proofs.calls.Opening as D
 use Rattle.tables.proofs.calls.Opening.Laws as D′
-use Rattle.given.specs.Given.{openingIn}
+use Rattle.calling.specs.Calling.{openingIn}
 use Rattle.given.specs.Outcome.{numberedBy}
 use Rattle.given.proofs.outcome.Outcome as O
 use Rattle.given.proofs.outcome.Outcome.Laws as O′
 use Rattle.given.proofs.reading.Slots as E
 use Rattle.given.proofs.reading.Slots.Laws as E′
-use Rattle.given.proofs.calling.opening_in as opening
-use Rattle.given.proofs.calling.opening_in.Symbol as opening-def
-use Rattle.given.proofs.calling.opening_in.Met as opening-thm
+use Rattle.calling.proofs.opening_in as opening
+use Rattle.calling.proofs.opening_in.Symbol as opening-def
+use Rattle.calling.proofs.opening_in.Met as opening-thm
 use Rattle.given.proofs.outcome.numbered as number
 use Rattle.given.proofs.outcome.numbered.Symbol as number-def
 use Rattle.given.proofs.outcome.numbered.Met as number-thm
@@ -125,7 +125,7 @@ open-entry-spec 𝓤 H 𝓜 𝓖 𝓡 =
     acts 𝓤 H 𝓜 𝓖 𝓡 code.env key.name code.function (code.unfolded 𝓤 H 𝓜 𝓡) act
     (walk 𝓤 H A W (𝓜 .mem) (𝓡 .run) (Ts .C) (Ts .Λ) (fmOf 𝓤 H (W .laws) (tablesOf 𝓤 H 𝓜 Ts))
     (cited 𝓤 H (Told 𝓤 H A opening.ended (opening.clauses 𝓤 H A (𝓜 .mem) (𝓡 .run))) 𝓜 𝓡 code.env opening-def.name
-    opening-def.routine code.calls-given·calling·opening-in (opening-thm.met 𝓤 H 𝓜 𝓖 𝓡))
+    opening-def.routine code.calls-calling·opening-in (opening-thm.met 𝓤 H 𝓜 𝓖 𝓡))
     (cited 𝓤 H (Told 𝓤 H A opens.ended (opens.clauses 𝓤 H A (𝓜 .mem) (𝓡 .run))) 𝓜 𝓡 code.env opens-def.name
     opens-def.routine code.calls-host·calls·unmavreth-open (opens-thm.met 𝓤 H 𝓜 𝓖 𝓡))
     (cited 𝓤 H (Told 𝓤 H A number.ended (number.clauses 𝓤 H A (𝓜 .mem) (𝓡 .run))) 𝓜 𝓡 code.env number-def.name

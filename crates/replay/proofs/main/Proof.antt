@@ -140,7 +140,7 @@ module _ {M : Type 1} (𝓤 : URA M) (H : Heap 𝓤) (A : Atoms 𝓤) (W : Given
   ipsec-list = array-of W ipsec-record 128
 
   abbrev sight : Lendable 𝓤 H A
-  sight = array-of W octet 16384
+  sight = array-of W octet 20480
 
   abbrev response : Lendable 𝓤 H A
   response = array-of W octet 128
@@ -155,7 +155,7 @@ module _ {M : Type 1} (𝓤 : URA M) (H : Heap 𝓤) (A : Atoms 𝓤) (W : Given
   policy-lawful = LL.lawful Y.the-type Y′.the-laws 𝓤 H A W
 
   sight-lawful : Lawful 𝓤 H A (sight .R)
-  sight-lawful = array-lawful 𝓤 H A W u8 (uint-lawful 𝓤 H A W w8) 16384
+  sight-lawful = array-lawful 𝓤 H A W u8 (uint-lawful 𝓤 H A W w8) 20480
 
   response-lawful : Lawful 𝓤 H A (response .R)
   response-lawful = array-lawful 𝓤 H A W u8 (uint-lawful 𝓤 H A W w8) 128
@@ -166,7 +166,7 @@ module _ {M : Type 1} (𝓤 : URA M) (H : Heap 𝓤) (A : Atoms 𝓤) (W : Given
   list-room : Room C.the-row 128
   list-room = (lit< tt, lit< tt)
 
-  sight-room : Room u8 16384
+  sight-room : Room u8 20480
   sight-room = (lit< tt, lit< tt)
 
   response-room : Room u8 128
@@ -199,7 +199,7 @@ module _ {M : Type 1} (𝓤 : URA M) (H : Heap 𝓤) (A : Atoms 𝓤) (W : Given
     s : State
     s-is : Is S.the-row s (s-vals s)
     stands : Standing s
-    within : s .len ≤ 16384
+    within : s .len ≤ 20480
 
   record Between : Type 0 where
     lent : Lent
@@ -282,7 +282,7 @@ module _ {M : Type 1} (𝓤 : URA M) (H : Heap 𝓤) (A : Atoms 𝓤) (W : Given
                   s = z;
                   s-is = z-is;
                   stands = left .0;
-                  within = subst (λ (m : ℕ). m ≤ 16384)
+                  within = subst (λ (m : ℕ). m ≤ 20480)
                       (sym (left .1)) (x .looked .within);
                 };
                 turns = x .turns - 1;
@@ -299,7 +299,7 @@ module _ {M : Type 1} (𝓤 : URA M) (H : Heap 𝓤) (A : Atoms 𝓤) (W : Given
           abbrev pointers : List (Option Val)
           pointers = none ∷ none ∷ none ∷ none ∷ none ∷ none ∷ none ∷ none ∷ none ∷ none ∷ just (vptr (l .1 .0) 0)
               ∷ just (vptr (l .1 .1 .0) 0) ∷ just (sliceVal (l .1 .1 .0, 0) 128) ∷ just (vptr (l .1 .1 .1 .0) 0)
-              ∷ just (vptr (l .1 .1 .1 .1 .0) 0) ∷ just (sliceVal (l .1 .1 .1 .1 .0, 0) 16384)
+              ∷ just (vptr (l .1 .1 .1 .1 .0) 0) ∷ just (sliceVal (l .1 .1 .1 .1 .0, 0) 20480)
               ∷ just (vptr (l .1 .1 .1 .1 .1 .0) 0) ∷ just (sliceVal (l .1 .1 .1 .1 .1 .0, 0) 128) ∷ []
 
           performs : (x : Between) → x .turns ≡ x₀ .turns → Sq W (held x pointers) (Goes-on 13)
@@ -309,7 +309,7 @@ module _ {M : Type 1} (𝓤 : URA M) (H : Heap 𝓤) (A : Atoms 𝓤) (W : Given
               adds-plain ! E.the-row (LL.makes E.the-type E′.the-plain 𝓤 H A) (x .looked .s .entry)
               (e-vals (x .looked .s .entry)) (LL.owed S.the-type S′.the-laws (x .looked .s) _ (x .looked .s-is) .1 .1 .1
               .1 .1 .1 .1 .0) $
-              lifts ! 4 $ adds-shared ! tt octet 16384 sight-room (x .looked .window) (x .looked .window-is) (λ ν₄ δ₄.
+              lifts ! 4 $ adds-shared ! tt octet 20480 sight-room (x .looked .window) (x .looked .window-is) (λ ν₄ δ₄.
               lifts ! 3 $ adds-ref ! tt policy-kept (x .lent .policy) (x .lent .policy-is) (λ ν₃ δ₃.
               lifts ! 2 $ adds-list ! tt ipsec-record 128 list-room (x .lent .ipsec) (x .lent .ipsec-is) (λ ν₂ δ₂.
               lifts ! 1 $ adds-ref ! tt ike-table (x .lent .ike) (x .lent .ike-is) (λ ν₁ δ₁.
@@ -323,7 +323,7 @@ module _ {M : Type 1} (𝓤 : URA M) (H : Heap 𝓤) (A : Atoms 𝓤) (W : Given
                       .looked .s
                       .entry & lentAt (l .1 .1 .1 .1 .1 .0) δ₅ (x .lent .out) & tt),
                   ((vptr (l .1 .0) 0 ∷ []) & (sliceVal (l .1 .1 .0, 0) 128 ∷ []) & (vptr (l .1 .1 .1 .0) 0 ∷ []) &
-                      (sliceVal (l .1 .1 .1 .1 .0, 0) 16384 ∷ []) & e-vals (x .looked .s .entry) &
+                      (sliceVal (l .1 .1 .1 .1 .0, 0) 20480 ∷ []) & e-vals (x .looked .s .entry) &
                       (sliceVal (l .1 .1 .1 .1 .1 .0, 0) 128 ∷ []) & tt),
                 ),
                 tt,
@@ -335,7 +335,7 @@ module _ {M : Type 1} (𝓤 : URA M) (H : Heap 𝓤) (A : Atoms 𝓤) (W : Given
               (λ o us _ o-is.
               ref-back ! tt ike-table (us .0) (λ ike-is. lowers ! 1 $ list-back ! tt ipsec-record 128 (us .1 .0)
               (λ ipsec-is. lowers ! 2 $ ref-back ! tt policy-kept (us .1 .1 .0) (λ policy-is. lowers ! 3 $
-              shared-back ! tt octet 16384 (x .looked .window) (x .looked .window-is) $ lowers ! 4 $ plain-back ! $
+              shared-back ! tt octet 20480 (x .looked .window) (x .looked .window-is) $ lowers ! 4 $ plain-back ! $
               list-back ! tt octet 128 (us .1 .1 .1 .1 .1 .0) (λ out-is. lowers ! 5 $ all-back ! $
               lands-in ! refl (LL.lawful O.the-type O′.the-laws 𝓤 H A W .typed o _ o-is .0) $ rests ! En 9 refl $
               reports (record {
@@ -373,7 +373,7 @@ module _ {M : Type 1} (𝓤 : URA M) (H : Heap 𝓤) (A : Atoms 𝓤) (W : Given
               sets ! (agg ! (and-then ! (value ! refl) (and-then ! (big-lit ! (record { fits = lit< tt }))
               (no-more !)))) refl (tt, (tt, (record { fits = lit< tt }, tt))) $
               no-arguments ! $ adds-plain ! S.the-row (LL.makes S.the-type S′.the-plain 𝓤 H A) (x₀ .looked .s)
-              (s-vals (x₀ .looked .s)) (x₀ .looked .s-is) $ lifts ! 4 $ adds-list ! tt octet 16384 sight-room
+              (s-vals (x₀ .looked .s)) (x₀ .looked .s-is) $ lifts ! 4 $ adds-list ! tt octet 20480 sight-room
               (x₀ .looked .window) (x₀ .looked .window-is) (λ ν δ.
               calls-all ! fm advance.ended (advance.clauses 𝓤 H A at-mem run) known-advance (
                 (
@@ -384,7 +384,7 @@ module _ {M : Type 1} (𝓤 : URA M) (H : Heap 𝓤) (A : Atoms 𝓤) (W : Given
                     lentAt (l .1 .1 .1 .1 .0) δ (x₀ .looked .window),
                     (x₀ .looked .s, tt),
                   ),
-                  (sliceVal (l .1 .1 .1 .1 .0, 0) 16384 ∷ [], (s-vals (x₀ .looked .s), tt)),
+                  (sliceVal (l .1 .1 .1 .1 .0, 0) 20480 ∷ [], (s-vals (x₀ .looked .s), tt)),
                 ),
                 tt,
               )
@@ -394,7 +394,7 @@ module _ {M : Type 1} (𝓤 : URA M) (H : Heap 𝓤) (A : Atoms 𝓤) (W : Given
               (LL.tells S.the-type S′.the-laws) (λ r ws. Standing r × (r .len ≤ length (x₀ .looked .window)))
               (λ r ws. last-two 𝓤 (Standing r) (r .len ≤ length (x₀ .looked .window))
               (fact 𝓤 (Advances (x₀ .looked .window) (x₀ .looked .s) (ws .0) r))) (λ s ws left s-is.
-              list-back ! tt octet 16384 (ws .0) (λ window-is. lowers ! 4 $ plain-back ! $ all-back ! $
+              list-back ! tt octet 20480 (ws .0) (λ window-is. lowers ! 4 $ plain-back ! $ all-back ! $
               lands-over ! refl (state-lawful .typed s _ s-is .0) $ rests ! En 8 refl $
               points (record {
                 lent = x₀ .lent;
@@ -411,7 +411,7 @@ module _ {M : Type 1} (𝓤 : URA M) (H : Heap 𝓤) (A : Atoms 𝓤) (W : Given
                 turns-fit = x₀ .turns-fit;
               }) refl)))
             where
-              long : length (x₀ .looked .window) ≡ 16384
+              long : length (x₀ .looked .window) ≡ 20480
               long = x₀ .looked .window-is .1 .0 .1
 
       -- the loop is left
@@ -487,7 +487,7 @@ module _ {M : Type 1} (𝓤 : URA M) (H : Heap 𝓤) (A : Atoms 𝓤) (W : Given
             s = s;
             s-is = s-is;
             stands = begun .1;
-            within = subst (λ (r : State). r .len ≤ 16384)
+            within = subst (λ (r : State). r .len ≤ 20480)
                 (sym (begun .0)) zero-le;
           };
           turns = 2 ^ 64 - 1;

@@ -37,6 +37,10 @@ put-fields-spec =
           (c .before .before .before .before .before .before .before .before .pre),
     ))
     (λ c. search needs)
+    (λ c. search needs)
+    (λ c κs. rw (c .before .before .enum-told7 .given .1) at
+    (c .before .before .before .before .before .before .before .pre))
+    (λ c. search needs)
     (λ c. rw (c .before .before .before .before .before .enum-told .given .1) (c .before .before .put-table .ensures))
     (λ c. search needs)
     (λ c. rw (c .before .before .before .before .before .enum-told2 .given .1) (c .before .before .put-table2 .ensures))
@@ -48,4 +52,7 @@ put-fields-spec =
     (λ c. rw (c .before .before .before .before .before .enum-told5 .given .1) (c .before .before .put-table5 .ensures))
     (λ c. search needs)
     (λ c. rw (c .before .before .before .before .before .before .enum-told6 .given .1)
-    (c .before .before .put-listed .ensures)))
+    (c .before .before .put-listed .ensures))
+    (λ c. search needs)
+    (λ c. rw (c .before .before .before .before .before .enum-told7 .given .1)
+    (c .before .before .put-table6 .ensures)))

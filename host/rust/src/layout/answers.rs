@@ -28,7 +28,7 @@ pub struct Written {
     pub(crate) length: u16,
 }
 
-/// What [`assess`](crate::assess) gives.
+/// What [`assess`](crate::assess) and [`check`](crate::check) give.
 #[repr(C)]
 #[must_use = "its number may be a refusal"]
 #[derive(Debug, Clone, Copy, PartialEq, Eq)]

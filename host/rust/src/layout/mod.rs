@@ -29,4 +29,4 @@ pub use chain::{Ask, Offsets, Reading, Seen, Tally};
 pub(crate) use entries::{EntryRead, EntryWritten};
 pub use flag::Flag;
 pub use rules::{Policy, Rule};
-pub use tables::{Agreed, IkeRecord, IpsecRecord, Opening};
+pub use tables::{Agreed, IkeRecord, IpsecRecord, Opening, PendingCheck};

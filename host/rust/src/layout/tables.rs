@@ -1,6 +1,6 @@
 //! The records that are lent to the library and changed in place, and what they are opened with.
 use super::{Address, Flag, Pair};
-use crate::limits::ADDRESSES_MOST;
+use crate::limits::{ADDRESSES_MOST, COOKIE_LEAST, COOKIE_MOST};
 
 /// What is agreed when an IKE record is opened; it stays until the record is closed.
 #[repr(C)]
@@ -8,6 +8,19 @@ use crate::limits::ADDRESSES_MOST;
 pub struct Agreed {
     /// Whether MOBIKE was agreed.
     pub mobike: Flag,
+}
+
+/// The return routability check (RFC 4555, 3.7) that is under way for an IKE record. A length outside 8 to
+/// 64, which no call stores but 0, reads as none.
+#[repr(C)]
+#[derive(Debug, Clone, Copy, PartialEq, Eq)]
+pub struct PendingCheck {
+    /// How many octets the cookie of our request has; 0 where there is no check.
+    pub length: u8,
+    /// The cookie, zeros behind it.
+    pub octets: [u8; COOKIE_MOST],
+    /// The message ID of our request.
+    pub id: u32,
 }
 
 /// An IKE record. The table has [`IKE_PLACES`](crate::limits::IKE_PLACES), and a place is free while its SPI is 0.
@@ -31,6 +44,8 @@ pub struct IkeRecord {
     /// How many unknown payloads and notifications came; it stays at
     /// [`TALLY_MOST`](crate::limits::TALLY_MOST).
     pub unknown: u32,
+    /// The check of the update that was last applied, until a response ends it.
+    pub check: PendingCheck,
 }
 
 /// An IPsec record. A place is free while its SPI is 0.
@@ -41,7 +56,7 @@ pub struct IpsecRecord {
     pub spi: u32,
     /// The SPI of the IKE record that it belongs to.
     pub owner: u64,
-    /// Where the peer is; it moves with its owner.
+    /// Where the peer is; it moves to where its owner is when a check there is accepted.
     pub pair: Pair,
 }
 
@@ -60,8 +75,10 @@ pub struct Opening {
 }
 
 laid_out!(Agreed, size 1, align 1, { mobike: 0 });
-laid_out!(IkeRecord, size 344, align 8, {
+laid_out!(PendingCheck, size 72, align 4, { length: 0, octets: 1, id: 68 });
+laid_out!(IkeRecord, size 416, align 8, {
     spi: 0, agreed: 8, pair: 10, update_mark: 48, list_mark: 56, count: 64, addresses: 66, unknown: 340,
+    check: 344,
 });
 laid_out!(IpsecRecord, size 56, align 8, { spi: 0, owner: 8, pair: 16 });
 laid_out!(Opening, size 56, align 8, { spi: 0, agreed: 8, pair: 10, child: 48 });
@@ -69,6 +86,30 @@ laid_out!(Opening, size 56, align 8, { spi: 0, agreed: 8, pair: 10, child: 48 })
 impl Agreed {
     /// Nothing is agreed, as in a place that is free.
     pub const NONE: Agreed = Agreed { mobike: Flag::NO };
+}
+
+impl PendingCheck {
+    /// No check, as in a place that is free.
+    pub const NONE: PendingCheck = PendingCheck { length: 0, octets: [0; COOKIE_MOST], id: 0 };
+
+    /// The cookie that our request has; empty where no check is under way.
+    pub fn cookie(&self) -> &[u8] {
+        match usize::from(self.length) {
+            length @ COOKIE_LEAST..=COOKIE_MOST => &self.octets[..length],
+            _ => &[],
+        }
+    }
+
+    /// Whether a check is under way.
+    pub fn is_pending(&self) -> bool {
+        !self.cookie().is_empty()
+    }
+}
+
+impl Default for PendingCheck {
+    fn default() -> Self {
+        PendingCheck::NONE
+    }
 }
 
 impl IkeRecord {
@@ -82,6 +123,7 @@ impl IkeRecord {
         count: 0,
         addresses: [Address::NONE; ADDRESSES_MOST],
         unknown: 0,
+        check: PendingCheck::NONE,
     };
 }
 

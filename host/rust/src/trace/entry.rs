@@ -3,7 +3,7 @@ use super::from_slots::from_slots;
 use super::into_slots::into_slots;
 use super::{read_slots, write_slots};
 use crate::layout::{Opening, Policy};
-use crate::{Number, Request};
+use crate::{CheckResponse, Number, Request};
 
 /// An entry of a trace: a call on a gateway's tables or its policy, with what it is given.
 #[derive(Debug, Clone, Copy, PartialEq, Eq)]
@@ -33,10 +33,12 @@ pub enum Entry<'a> {
     Request(Request<'a>),
     /// As [`set_policy`](crate::set_policy), with the first so many of these rules.
     Policy(Policy),
+    /// As [`check`](crate::check).
+    CheckResponse(CheckResponse<'a>),
 }
 
 /// Reads the entry that begins at the offset `at`, and tells the offset of the first octet behind it. The
-/// strings of a request are parts of the trace; rules past a policy's count are none.
+/// strings of a request and of a response are parts of the trace; rules past a policy's count are none.
 ///
 /// Numbers, the first that is met as the octets are read: [`Cut`](Number::Cut), at the end of the trace and
 /// past it too; [`UnknownKind`](Number::UnknownKind); [`TooLarge`](Number::TooLarge).

@@ -2,7 +2,7 @@
 use super::{Entry, Kind, Slots};
 use crate::layout::{Agreed, Opening, Pair, Policy, Rule};
 use crate::limits::ADDRESS_OCTETS;
-use crate::Request;
+use crate::{CheckResponse, Request};
 
 /// The entry that was read with these slots from this trace. Each number fits its field there, so that none
 /// is cut here.
@@ -15,6 +15,7 @@ pub(super) fn from_slots<'a>(kind: Kind, slots: &Slots, trace: &'a [u8]) -> Opti
         Kind::CloseIpsec => Entry::CloseIpsec { spi: said.number() as u32 },
         Kind::Request => Entry::Request(said.request()),
         Kind::Policy => Entry::Policy(said.policy()),
+        Kind::CheckResponse => Entry::CheckResponse(said.check_response()),
         Kind::Other(_) => return None,
     })
 }
@@ -72,6 +73,17 @@ impl<'a> Said<'a, '_> {
             pair: self.pair(),
             nat_source: self.string(),
             nat_destination: self.string(),
+            first: self.number() as u8,
+            body: self.string(),
+            cookie: self.string(),
+            check_id: self.number() as u32,
+        }
+    }
+
+    fn check_response(&mut self) -> CheckResponse<'a> {
+        CheckResponse {
+            spi: self.number(),
+            id: self.number() as u32,
             first: self.number() as u8,
             body: self.string(),
         }

@@ -2,7 +2,7 @@
 use super::{Entry, Kind, Slots};
 use crate::layout::{Opening, Pair, Policy, Rule};
 use crate::limits::{ADDRESS_OCTETS, ENTRY_SLOTS};
-use crate::Request;
+use crate::{CheckResponse, Request};
 
 /// The kind, the slots and the source of an entry.
 pub(super) fn into_slots(entry: &Entry<'_>) -> (Kind, Slots, Vec<u8>) {
@@ -24,6 +24,7 @@ pub(super) fn into_slots(entry: &Entry<'_>) -> (Kind, Slots, Vec<u8>) {
         }
         Entry::Request(request) => told.request(request),
         Entry::Policy(policy) => told.policy(policy),
+        Entry::CheckResponse(response) => told.check_response(response),
     };
     (kind, told.slots, told.source)
 }
@@ -78,7 +79,17 @@ impl Told {
         self.string(request.nat_destination);
         self.number(request.first);
         self.string(request.body);
+        self.string(request.cookie);
+        self.number(request.check_id);
         Kind::Request
+    }
+
+    fn check_response(&mut self, response: &CheckResponse<'_>) -> Kind {
+        self.number(response.spi);
+        self.number(response.id);
+        self.number(response.first);
+        self.string(response.body);
+        Kind::CheckResponse
     }
 
     fn rule(&mut self, rule: &Rule) {

@@ -22,6 +22,8 @@ pub enum Kind {
     Request,
     /// 5: as [`set_policy`](crate::set_policy).
     Policy,
+    /// 6: as [`check`](crate::check).
+    CheckResponse,
     /// A number that no kind has.
     Other(u8),
 }
@@ -35,6 +37,7 @@ impl From<u8> for Kind {
             3 => Kind::CloseIpsec,
             4 => Kind::Request,
             5 => Kind::Policy,
+            6 => Kind::CheckResponse,
             other => Kind::Other(other),
         }
     }
@@ -49,6 +52,7 @@ impl From<Kind> for u8 {
             Kind::CloseIpsec => 3,
             Kind::Request => 4,
             Kind::Policy => 5,
+            Kind::CheckResponse => 6,
             Kind::Other(other) => other,
         }
     }

@@ -1,6 +1,6 @@
 //! Payload chains, addresses and tables that the tests share.
 #![allow(dead_code)]
-use unmavreth::{Agreed, Flag, Gateway, Number, Opening, Pair, Request, Rule};
+use unmavreth::{Agreed, CheckResponse, Flag, Gateway, Number, Opening, Pair, Request, Rule};
 
 pub const NAT_SOURCE: u16 = 16388;
 pub const NAT_DESTINATION: u16 = 16389;
@@ -19,6 +19,10 @@ pub const AGREED: Agreed = Agreed { mobike: Flag::YES };
 
 /// An opening with nothing wrong in it, beside the records of `gateway`.
 pub const OPENING: Opening = Opening { spi: 9, agreed: AGREED, pair: NEW, child: 90 };
+
+/// What is lent for a check: its cookie, and the message ID of the gateway's next request.
+pub const CHECK: [u8; 16] = [0xc0; 16];
+pub const CHECK_ID: u32 = 0x0506_0708;
 
 /// The lent NAT detection values.
 pub const VALUES: [[u8; 20]; 2] = [[0x51; 20], [0x52; 20]];
@@ -61,5 +65,20 @@ pub fn gateway() -> Gateway {
 /// A request to the first record, with ID 0 and the new pair.
 pub fn request<'a>((first, body): &'a (u8, Vec<u8>)) -> Request<'a> {
     let [nat_source, nat_destination] = &VALUES;
-    Request { spi: 7, id: 0, pair: NEW, nat_source, nat_destination, first: *first, body }
+    Request {
+        spi: 7,
+        id: 0,
+        pair: NEW,
+        nat_source,
+        nat_destination,
+        first: *first,
+        body,
+        cookie: &CHECK,
+        check_id: CHECK_ID,
+    }
+}
+
+/// The response to the check of the first record.
+pub fn response<'a>((first, body): &'a (u8, Vec<u8>)) -> CheckResponse<'a> {
+    CheckResponse { spi: 7, id: CHECK_ID, first: *first, body }
 }

@@ -1,6 +1,6 @@
 // The assess's cases: the cookie that was sent, and a response.
 mod listed;
-mod responses;
+pub(super) mod responses;
 
 use super::reader;
 use crate::cases::seeded::{Kinded, Seeded};

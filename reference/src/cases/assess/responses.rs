@@ -12,6 +12,11 @@ const STATUSES: [u16; 5] = [16384, 16385, 16403, 40960, 65535];
 
 pub fn random(rng: &mut Rng) -> Case {
     let sent = cookie_sent(rng);
+    to(rng, sent)
+}
+
+/// To a request with this cookie, or another one that is in the response.
+pub fn to(rng: &mut Rng, sent: Vec<u8>) -> Case {
     match rng.below(16) {
         0 => any_chain(rng, sent),
         1 => {
@@ -50,7 +55,7 @@ fn any_chain(rng: &mut Rng, sent: Vec<u8>) -> Case {
 }
 
 /// A chain without a flaw: errors or none, a cookie or none, and more around them.
-fn answering(rng: &mut Rng, sent: &[u8]) -> ChainDraft {
+pub fn answering(rng: &mut Rng, sent: &[u8]) -> ChainDraft {
     let mut payloads = Vec::new();
     payloads.extend(cookie(rng, sent));
     for _ in 0..rng.pick(&[0, 0, 0, 1, 1, 2, 3]) {

@@ -20,7 +20,11 @@ pub fn numbers(entry: &mut Entry) -> Vec<(Field, &mut u64)> {
             let mut numbers = vec![(Field::IkeSpi, &mut request.spi), (Field::Id, &mut request.id)];
             numbers.extend(of_pair(&mut request.pair));
             numbers.push((Field::FirstType, &mut request.first));
+            numbers.push((Field::Id, &mut request.check_id));
             numbers
+        }
+        Entry::CheckResponse { spi, id, first, .. } => {
+            vec![(Field::IkeSpi, spi), (Field::Id, id), (Field::FirstType, first)]
         }
         Entry::Policy { count, rules } => {
             let mut numbers = vec![(Field::Count, count)];
@@ -46,15 +50,25 @@ fn of_rule(rule: &mut Rule) -> [(Field, &mut u64); 3] {
     ]
 }
 
+fn strings(entry: &mut Entry) -> Vec<&mut Vec<u8>> {
+    match entry {
+        Entry::Request(request) => vec![
+            &mut request.nat_source,
+            &mut request.nat_destination,
+            &mut request.body,
+            &mut request.cookie,
+        ],
+        Entry::CheckResponse { body, .. } => vec![body],
+        _ => vec![],
+    }
+}
+
 /// Makes one number, count or length larger than its field has room for, if there is any such.
 pub fn enlarge(rng: &mut Rng, entry: &mut Entry) {
-    if let Entry::Request(request) = entry {
-        let strings = [&mut request.nat_source, &mut request.nat_destination, &mut request.body];
-        let string = rng.below(9);
-        if let Some(octets) = strings.into_iter().nth(string) {
-            octets.resize(MOST_OCTETS + rng.between(1, 2), 7);
-            return;
-        }
+    let string = rng.below(9);
+    if let Some(octets) = strings(entry).into_iter().nth(string) {
+        octets.resize(MOST_OCTETS + rng.between(1, 2), 7);
+        return;
     }
     let numbers = numbers(entry);
     let chosen = rng.below(numbers.len());

@@ -69,9 +69,11 @@ fn entries() -> Vec<Entry> {
         let requests = [
             Request { nat_source: octets.clone(), ..request() },
             Request { nat_destination: octets.clone(), ..request() },
-            Request { body: octets, ..request() },
+            Request { body: octets.clone(), ..request() },
+            Request { cookie: octets.clone(), ..request() },
         ];
         entries.extend(requests.map(Entry::Request));
+        entries.push(Entry::CheckResponse { spi: 7, id: 1, first: 41, body: octets });
     }
     entries
 }
@@ -95,7 +97,13 @@ fn about_length(lent: &Lent) -> Vec<Writing> {
 /// Each offset and each length of each sample about the end of the source, of sources that end with the
 /// last octet needed and of others, with enough output and with none.
 fn misplaced() -> Vec<Writing> {
-    let empty = Request { nat_source: vec![], nat_destination: vec![], body: vec![], ..request() };
+    let empty = Request {
+        nat_source: vec![],
+        nat_destination: vec![],
+        body: vec![],
+        cookie: vec![],
+        ..request()
+    };
     let mut all = Vec::new();
     for entry in samples().into_iter().chain([Entry::Request(empty)]) {
         let sorts = sorts(&entry);

@@ -34,14 +34,14 @@ impl Kinded for Case {
         }
         let mut lent = lending::drawn(rng, &entry);
         match rng.below(16) {
-            0 => lent.kind = rng.between(6, 255) as u8,
-            1 => lent.kind = rng.below(6) as u8,
+            0 => lent.kind = rng.between(7, 255) as u8,
+            1 => lent.kind = rng.below(7) as u8,
             2 => lent = lending::any(rng),
             3..=5 => lending::misplace(rng, &entry, &mut lent),
             _ => {}
         }
         let length = lent.length();
-        let about = [0, length.saturating_sub(1), length, length, length + 1, length + 20, 13_000];
+        let about = [0, length.saturating_sub(1), length, length, length + 1, length + 20, 17_000];
         let length = rng.pick(&about);
         let output = rng.octets(length);
         let buffer = buffers::drawn(rng, &entry);

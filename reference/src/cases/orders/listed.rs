@@ -1,10 +1,14 @@
-// The lists every run begins with: late and repeated updates, lists and keepalives, in every order
+// The lists every run begins with: late and repeated updates, lists, keepalives and check responses, in every order
 // of three.
+use super::super::reader::draft::{ChainDraft, Draft};
 use super::super::requests::listed::responses::nat_detection;
 use super::super::requests::listed::setting::{self, cookie, list, packet, request, update};
 use super::super::tables::spis;
 use super::Case;
 use crate::address::AddressPair;
+use crate::asked::Asked;
+use crate::check::CheckResponse;
+use crate::notify::NotifyType;
 use crate::orders::Order;
 use crate::request::Request;
 use crate::tables::Tables;
@@ -14,12 +18,13 @@ const ORDERS_OF_3: [[usize; 3]; 6] =
 
 pub fn all() -> Vec<Case> {
     let mut cases = Vec::new();
-    for requests in lists() {
+    let of_requests = lists().into_iter().map(|list| list.map(Asked::Request));
+    for list in of_requests.chain(with_responses()) {
         for tables in tables() {
             for chance in ORDERS_OF_3 {
-                let requests = requests.to_vec();
+                let list = list.to_vec();
                 let chance: Order = chance.to_vec();
-                cases.push(Case { tables: tables.clone(), requests, chance });
+                cases.push(Case { tables: tables.clone(), list, chance });
             }
         }
     }
@@ -35,6 +40,51 @@ fn tables() -> Vec<Tables> {
     twin.ike_mut()[20].spi = setting::spi();
     let others = [0, 127, 129].map(|length| setting::tables().with_ipsec_length(length));
     [vec![setting::tables(), setting::closed_tables(), ipv6_only, twin], others.to_vec()].concat()
+}
+
+/// Updates, each with a check of its own, and responses that are right, wrong, an error, late, or refused.
+fn with_responses() -> Vec<[Asked; 3]> {
+    let updating = |id: u32, check: u32| {
+        let pair = AddressPair { source_port: 1000 + id as u16, ..packet(6) };
+        let of = request(&[update()]);
+        Asked::Request(Request { id, pair, cookie: vec![check as u8; 8], check_id: check, ..of })
+    };
+    let answered = |check: u32, payloads: &[Draft]| {
+        let chain = ChainDraft::of(payloads.to_vec()).assemble();
+        let (first, body) = (chain.first, chain.body);
+        Asked::Check(CheckResponse { spi: setting::spi(), id: check, first, body })
+    };
+    let cookie = |octet: u8| Draft::notify(NotifyType::COOKIE2, &[octet; 8]);
+    let right = |check: u32| answered(check, &[cookie(check as u8)]);
+    let wrong = |check: u32| answered(check, &[cookie(99)]);
+    let error = |check: u32| answered(check, &[Draft::notify(NotifyType(7), &[])]);
+    let flawed = |check: u32| answered(check, &[cookie(1), cookie(1)]);
+    let elsewhere = |asked: Asked| match asked {
+        Asked::Request(request) => Asked::Request(Request { spi: spis::ike(2), ..request }),
+        Asked::Check(response) => Asked::Check(CheckResponse { spi: spis::ike(2), ..response }),
+    };
+    // The check that the other record has at first.
+    let standing = setting::tables().ike.records[2].check;
+    let own = || {
+        let sent = standing.cookie().unwrap_or_default();
+        elsewhere(answered(standing.id, &[Draft::notify(NotifyType::COOKIE2, sent)]))
+    };
+    vec![
+        [updating(6, 1), right(1), own()],
+        [own(), updating(6, 1), wrong(1)],
+        [updating(6, 1), right(1), updating(7, 2)],
+        [updating(6, 1), updating(7, 2), right(2)],
+        [updating(6, 1), updating(7, 2), right(1)],
+        [updating(6, 1), wrong(1), updating(7, 2)],
+        [updating(6, 1), error(1), right(1)],
+        [updating(6, 1), flawed(1), right(1)],
+        [updating(6, 1), right(1), right(1)],
+        [wrong(1), updating(6, 1), elsewhere(updating(7, 1))],
+        [updating(6, 1), elsewhere(right(1)), wrong(1)],
+        [updating(6, 1), updating(7, 1), wrong(1)],
+        [updating(6, 1), updating(3, 2), right(1)],
+        [updating(6, 1), updating(7, 2), answered(5, &[])],
+    ]
 }
 
 fn lists() -> Vec<[Request; 3]> {

@@ -1,19 +1,19 @@
-// The cases of demand 3: tables, a list of requests made on them, and an order left to chance.
+// The cases of demand 3: tables, a list of requests and check responses made on them, and an order left to chance.
 mod listed;
 mod sequences;
 
 use super::requests::starts;
 use super::tables::lengths;
+use crate::asked::Asked;
 use crate::cases::seeded::{Kinded, Seeded};
 use crate::orders::Order;
-use crate::request::Request;
 use crate::rng::Rng;
 use crate::tables::Tables;
 
 #[derive(Debug, Clone)]
 pub struct Case {
     pub tables: Tables,
-    pub requests: Vec<Request>,
+    pub list: Vec<Asked>,
     /// Of which the orders to compare are made.
     pub chance: Order,
 }
@@ -40,18 +40,18 @@ fn random(rng: &mut Rng) -> Case {
     if rng.pick_weighted(&OPEN) {
         starts::open(&mut tables.policy);
     }
-    let requests = sequences::requests(rng, &mut tables);
+    let list = sequences::list(rng, &mut tables);
     lengths::vary(rng, &mut tables);
-    let mut chance: Order = (0..requests.len()).collect();
+    let mut chance: Order = (0..list.len()).collect();
     rng.shuffle(&mut chance);
-    Case { tables, requests, chance }
+    Case { tables, list, chance }
 }
 
 #[cfg(test)]
 mod tests {
     use super::*;
+    use crate::asked::Given;
     use crate::faults::Fault;
-    use crate::handler::handle;
     use crate::orders::{self, Orders};
     use crate::rules::{Plain, Rules};
 
@@ -62,10 +62,10 @@ mod tests {
         listed.chain((0..CASES).map(|number| random(&mut Rng::from_words(&[number]))))
     }
 
-    /// What of demand 3 isn't so of a handler with this fault.
-    fn broken(Case { tables, requests, chance }: Case, of_handler: &impl Rules) -> Vec<String> {
-        orders::broken(&tables, &requests, &chance, &Plain, |request, tables| {
-            handle(request, tables, of_handler)
+    /// What of demand 3 isn't so of a program with this fault.
+    fn broken(Case { tables, list, chance }: Case, of_program: &impl Rules) -> Vec<String> {
+        orders::broken(&tables, &list, &chance, &Plain, |asked, tables| {
+            asked.make(tables, of_program)
         })
     }
 
@@ -77,32 +77,48 @@ mod tests {
     }
 
     #[test]
-    fn demand_3_does_not_hold_of_faulty_handlers() {
+    fn demand_3_does_not_hold_of_faulty_programs() {
         let told = |name, start: &str| {
             let program = Fault::named(name).expect("a fault of the table").program;
             let mut broken = cases().flat_map(|case| broken(case, &program));
             broken.any(|broken| broken.starts_with(start))
         };
-        assert!(told("rest-cleared", "kept order: request"));
-        assert!(told("moved-by-pair", "kept order: the tables"));
+        assert!(told("rest-cleared", "kept order: call"));
+        assert!(told("others-moved", "kept order: the tables"));
         assert!(told("list-appended", "freed order: the tables"));
         assert!(told("none-is-id-0", "freed order: SA"));
         assert!(told("keepalive-moves", "freed order: SA"));
     }
 
     #[test]
+    fn check_responses_of_random_lists_move_records_and_close_them() {
+        let (mut accepted, mut closed, mut refused) = (0, 0, 0);
+        for number in 0..CASES {
+            let Case { mut tables, list, .. } = random(&mut Rng::from_words(&[number]));
+            for asked in &list {
+                if let Given::Assessed(assessed) = asked.make(&mut tables, &Plain) {
+                    accepted += usize::from(assessed.outcome == 5);
+                    closed += usize::from(assessed.outcome == 1);
+                    refused += usize::from(assessed.number != 0);
+                }
+            }
+        }
+        assert!(accepted > 100 && closed > 100 && refused > 100, "{accepted} {closed} {refused}");
+    }
+
+    #[test]
     fn orders_really_differ_and_sas_are_really_freed() {
         let (mut kept_differ, mut freed_differ, mut moved_when_freed) = (0, 0, 0);
-        for Case { tables, requests, chance } in cases() {
-            let orders = Orders::new(&tables, &requests, &chance, &Plain);
-            let sequence: Order = (0..requests.len()).collect();
+        for Case { tables, list, chance } in cases() {
+            let orders = Orders::new(&tables, &list, &chance, &Plain);
+            let sequence: Order = (0..list.len()).collect();
             kept_differ += u64::from(orders.kept != sequence);
             let differ = orders.freed != orders.kept;
             freed_differ += u64::from(differ);
             let mut ended = tables.clone();
-            let applies = |it| handle(it, &mut ended, &Plain).reply.update == 1;
+            let applies = |it: &Asked| it.make(&mut ended, &Plain).is_applied();
             let applied =
-                requests.iter().filter(|it| orders.freed_spis.contains(&it.spi)).map(applies);
+                list.iter().filter(|it| orders.freed_spis.contains(&it.spi())).map(applies);
             moved_when_freed += u64::from(differ && applied.filter(|&it| it).count() >= 2);
         }
         assert!(kept_differ > CASES / 2, "{kept_differ}");

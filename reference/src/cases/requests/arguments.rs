@@ -1,5 +1,5 @@
 // Random requests, drawn to suit the tables and the record that their SPI means.
-use super::super::tables::{pairs, rules, scripts};
+use super::super::tables::{pairs, pending, rules, scripts};
 use super::chains;
 use crate::address::{octet_count, AddressPair};
 use crate::request::{Request, LEAST_OUTPUT, NAT_VALUE_LENGTH};
@@ -23,6 +23,8 @@ pub fn request(rng: &mut Rng, tables: &Tables, spi: u64) -> Request {
         pair,
         nat_source: lent_value(rng),
         nat_destination: lent_value(rng),
+        cookie: lent_cookie(rng),
+        check_id: pending::id(rng),
         first: chain.first,
         body: chain.body,
         output: output(rng),
@@ -35,6 +37,7 @@ pub fn plain_request(rng: &mut Rng, tables: &Tables, spi: u64) -> Request {
     request.pair = sound(request.pair);
     request.nat_source = rng.octets(NAT_VALUE_LENGTH);
     request.nat_destination = rng.octets(NAT_VALUE_LENGTH);
+    request.cookie = pending::cookie(rng);
     request.output = rng.octets(LEAST_OUTPUT);
     let chain = chains::asking(rng, &request.pair, &request.pair).assemble();
     (request.first, request.body) = (chain.first, chain.body);
@@ -74,6 +77,16 @@ fn sound(mut pair: AddressPair) -> AddressPair {
 fn lent_value(rng: &mut Rng) -> Vec<u8> {
     let length = rng.pick_weighted(&[(60, NAT_VALUE_LENGTH), (1, 0), (1, 19), (1, 21)]);
     rng.octets(length)
+}
+
+/// Mostly of an allowed length.
+fn lent_cookie(rng: &mut Rng) -> Vec<u8> {
+    let length =
+        rng.pick_weighted(&[(60, None), (1, Some(0)), (1, Some(7)), (1, Some(65)), (1, Some(264))]);
+    match length {
+        None => pending::cookie(rng),
+        Some(length) => rng.octets(length),
+    }
 }
 
 fn output(rng: &mut Rng) -> Vec<u8> {

@@ -20,7 +20,7 @@ pub fn vary(rng: &mut Rng, tables: &mut Tables) {
 #[cfg(test)]
 mod tests {
     use crate::cases::seeded::{met, Kinded};
-    use crate::cases::{orders, requests, tables};
+    use crate::cases::{checks, orders, requests, tables};
     use crate::tables::{Tables, IPSEC_PLACES};
 
     /// Asserts that about one in eight random cases has another length.
@@ -33,6 +33,7 @@ mod tests {
     fn one_in_eight_random_cases_has_another_length() {
         assert_one_in_eight(|case: tables::Case| case.tables);
         assert_one_in_eight(|case: requests::Case| case.tables);
+        assert_one_in_eight(|case: checks::Case| case.tables);
         assert_one_in_eight(|case: orders::Case| case.tables);
     }
 }

@@ -3,6 +3,7 @@ pub(super) mod agreements;
 pub(super) mod lengths;
 pub(super) mod listed;
 pub(super) mod pairs;
+pub(super) mod pending;
 pub(super) mod rules;
 pub(super) mod scripts;
 pub(super) mod shapes;
@@ -55,7 +56,8 @@ fn random(rng: &mut Rng) -> Case {
 mod tests {
     use super::*;
     use crate::opening_both::{failing, Check};
-    use crate::rules::{Plain, TableRules};
+    use crate::pending::PendingCheck;
+    use crate::rules::{CheckRules, Plain, TableRules};
     use crate::tables::{find, IkeRecord, IpsecRecord, Record};
     use std::collections::BTreeSet;
 
@@ -127,12 +129,15 @@ mod tests {
         }
     }
 
-    /// No SPI twice, nothing left in free places, no orphan.
+    /// No SPI twice, nothing left in free places, no orphan, and checks as a request leaves them.
     fn assert_reached(tables: &Tables) {
         let (ike, ipsec) = (&tables.ike.records, &tables.ipsec.records);
         for (place, record) in ike.iter().enumerate() {
             if record.is_in_use() {
                 assert_eq!(find(ike, record.spi, &Plain), Some(place));
+                let sent = Plain.kept(&record.check);
+                let left = sent.map(|sent| PendingCheck::of(&sent, record.check.id));
+                assert_eq!(record.check, left.unwrap_or(PendingCheck::NONE));
             } else {
                 assert_eq!(*record, IkeRecord::FREE);
             }
@@ -140,8 +145,7 @@ mod tests {
         for (place, record) in ipsec.iter().enumerate() {
             if record.is_in_use() {
                 assert_eq!(find(ipsec, record.spi(), &Plain), Some(place));
-                let owner = find(ike, record.owner, &Plain).expect("no orphan");
-                assert_eq!(ike[owner].pair, record.pair);
+                assert!(find(ike, record.owner, &Plain).is_some(), "no orphan");
             } else {
                 assert_eq!(*record, IpsecRecord::FREE);
             }

@@ -1,5 +1,5 @@
 // The tables that random cases start from: empty, reached from empty ones, full, dense and hostile.
-use super::{agreements, pairs, rules, spis};
+use super::{agreements, pairs, pending, rules, spis};
 use crate::rng::Rng;
 use crate::summary::MAX_KEPT;
 use crate::tables::{IkeRecord, IpsecRecord, Record, Tables, IKE_PLACES, IPSEC_PLACES};
@@ -57,6 +57,8 @@ fn reached(rng: &mut Rng, in_use: [usize; 2]) -> Tables {
     let owners = &ike_places[..rng.between(1, ike_places.len())];
     for (number, place) in some_places(rng, IPSEC_PLACES, in_use[1]).into_iter().enumerate() {
         let IkeRecord { spi: owner, pair, .. } = tables.ike.records[rng.pick(owners)];
+        // Where a check is pending, or came to an error, the pair is one that the IKE record had.
+        let pair = if rng.one_in(3) { pairs::pair(rng) } else { pair };
         tables.ipsec_mut()[place] = IpsecRecord { spi: spis::ipsec(number), owner, pair };
     }
     tables
@@ -84,6 +86,9 @@ fn reached_record(rng: &mut Rng, spi: u64) -> IkeRecord {
     record.count = count as u16;
     record.addresses[..count].fill_with(|| pairs::address(rng));
     record.unknown = rng.pick(&TALLIES);
+    if rng.one_in(2) {
+        record.check = pending::kept(rng);
+    }
     record
 }
 
@@ -117,5 +122,6 @@ fn any_ike_record(rng: &mut Rng) -> IkeRecord {
     record.count = rng.pick(&COUNTS);
     record.addresses.fill_with(|| pairs::any_address(rng));
     record.unknown = rng.pick(&TALLIES);
+    record.check = pending::any(rng);
     record
 }

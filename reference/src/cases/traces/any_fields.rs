@@ -5,11 +5,12 @@ use crate::rules::{Plain, TraceRules};
 use crate::trace::entry::{Entry, Pair, Request, Rule};
 use crate::trace::fields::{Field, MOST_OCTETS, MOST_RULES};
 
-/// Lengths about those of NAT values, those that take another octet, and the greatest.
-const LENGTHS: [usize; 10] = [0, 1, 19, 20, 21, 127, 128, 129, MOST_OCTETS - 1, MOST_OCTETS];
+/// Lengths about those of NAT values and cookies, those that take another octet, and the greatest.
+const LENGTHS: [usize; 14] =
+    [0, 1, 7, 8, 19, 20, 21, 64, 65, 127, 128, 129, MOST_OCTETS - 1, MOST_OCTETS];
 
 pub fn entry(rng: &mut Rng) -> Entry {
-    match rng.below(6) {
+    match rng.below(7) {
         0 => Entry::OpenBoth {
             spi: number(rng, Field::IkeSpi),
             agreed: number(rng, Field::Agreed),
@@ -29,7 +30,15 @@ pub fn entry(rng: &mut Rng) -> Entry {
             nat_destination: string(rng, 20),
             first: number(rng, Field::FirstType),
             body: string(rng, 8),
+            cookie: string(rng, 8),
+            check_id: number(rng, Field::Id),
         }),
+        5 => Entry::CheckResponse {
+            spi: number(rng, Field::IkeSpi),
+            id: number(rng, Field::Id),
+            first: number(rng, Field::FirstType),
+            body: string(rng, 8),
+        },
         _ => {
             let count = rng.pick_weighted(&[(4, 1), (2, 2), (1, 0), (1, 15), (1, MOST_RULES)]);
             let rules: Vec<Rule> = (0..count).map(|_| rule(rng)).collect();

@@ -6,8 +6,7 @@ use crate::trace::fields::Field;
 use crate::trace::writing::{pieces, Piece};
 
 /// Kinds that aren't known, next to those that are and about powers of two.
-pub const UNKNOWN_KINDS: [u64; 14] = [
-    6,
+pub const UNKNOWN_KINDS: [u64; 13] = [
     7,
     8,
     9,

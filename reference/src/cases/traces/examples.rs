@@ -13,6 +13,9 @@ const PRINTED: &str =
 const OTHER_PRINTED: &str =
     "4 cb007107000000000000000000000000 c6336401000000000000000000000000 1024 4500";
 
+/// Lent with every request, and our request has ID 3.
+const COOKIE: &str = "0102030405060708";
+
 const UPDATE: &str = "0000000800004010";
 
 pub struct Example {
@@ -36,7 +39,15 @@ pub fn request(id: u8, first: u8, body: &[u8]) -> Vec<u8> {
     let mut octets = from_hex(&format!("04 07 {id:02x} {OTHER_PAIR} {values} {first:02x}"));
     octets.push(u8::try_from(body.len()).expect("a short body"));
     octets.extend_from_slice(body);
+    octets.extend(from_hex(&format!("08 {COOKIE} 03")));
     octets
+}
+
+/// A response to the check of the request above, with this chain.
+pub fn response(first: u8, body: &str) -> Vec<u8> {
+    let body = from_hex(body);
+    let length = u8::try_from(body.len()).expect("a short body");
+    [vec![6, 7, 3, first, length], body].concat()
 }
 
 /// A trace with an entry of every kind, none of which is refused.
@@ -52,6 +63,7 @@ pub fn all_kinds() -> Vec<u8> {
         closing,
         request(6, 41, &list),
         request(0, 0, &[]),
+        response(41, &format!("00000010 00004011 {COOKIE}")),
         from_hex("02 07"),
         opening(),
     ];
@@ -61,7 +73,12 @@ pub fn all_kinds() -> Vec<u8> {
 pub fn all() -> Vec<Example> {
     let update = request(5, 41, &from_hex(UPDATE));
     let moved = [opening(), any_ipv4(), update].concat();
-    let at_43 = [opening(), from_hex("02 07 06")].concat();
+    let at_43 = [opening(), from_hex("02 07 07")].concat();
+    let answered = |chain: Vec<u8>| [&moved[..], &chain].concat();
+    let right = answered(response(41, &format!("00000010 00004011 {COOKIE}")));
+    let wrong = answered(response(41, &format!("00000010 00004011 {COOKIE}").replace("08", "09")));
+    let error = answered(response(41, "0000000800000007"));
+    let twice = [right.clone(), response(0, "")].concat();
     let (ike, ipsec) = (format!("ike 7 {PRINTED}"), format!("ipsec 9 {PRINTED}"));
     let (moved_ike, moved_ipsec) =
         (format!("ike 7 {OTHER_PRINTED}"), format!("ipsec 9 {OTHER_PRINTED}"));
@@ -69,12 +86,18 @@ pub fn all() -> Vec<Example> {
     let none = ["1 61 none none", "2 62 none none", "3 63 none none", "4 64 none none"];
     let none = [&none[..], &["5 65 none none", "6 7 none none"]].concat();
     let refused_lines = [&done[..1], &none, &[&ike, &ipsec]].concat();
-    let examples: [(Vec<u8>, &[&str]); 18] = [
+    let (applied, decided) = ("2 0 applied none", "3 0 none none");
+    let examples: [(Vec<u8>, &[&str]); 22] = [
         (from_hex("02 07"), &["0 4 none none"]),
         (vec![], &[]),
         (opening(), &[done[0], &ike, &ipsec]),
         (at_43, &[done[0], done[1], "21 at 43"]),
-        (moved, &[done[0], done[1], "2 0 applied none", &moved_ike, &moved_ipsec]),
+        (moved.clone(), &[done[0], done[1], applied, &moved_ike, &ipsec]),
+        // The check of that update: right, wrong, an error, and answered twice.
+        (right, &[done[0], done[1], applied, decided, &moved_ike, &moved_ipsec]),
+        (wrong, &[done[0], done[1], applied, decided]),
+        (error, &[done[0], done[1], applied, decided, &moved_ike, &ipsec]),
+        (twice, &[done[0], done[1], applied, decided, "4 14 none none", &moved_ike, &moved_ipsec]),
         (from_hex("03 80 80 80 80 10"), &["22 at 0"]),
         (from_hex("02 80 80 80 80 10"), &["0 4 none none"]),
         (from_hex("05 11"), &["22 at 0"]),

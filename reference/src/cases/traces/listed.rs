@@ -30,6 +30,12 @@ const IPV6: Pair = Pair { family: 6, source: [1; 16], destination: [2; 16], ..PA
 /// An update, with an unknown payload behind it.
 const BODY: [u8; 12] = [200, 0, 0, 8, 0, 0, 64, 16, 0, 0, 0, 4];
 
+/// Lent for the check of an update that is applied.
+const COOKIE: [u8; 8] = [1, 2, 3, 4, 5, 6, 7, 8];
+
+/// That cookie as it comes back.
+const ANSWER: [u8; 16] = [0, 0, 0, 16, 0, 0, 64, 17, 1, 2, 3, 4, 5, 6, 7, 8];
+
 pub(in crate::cases) fn request() -> Request {
     Request {
         spi: 7,
@@ -39,6 +45,8 @@ pub(in crate::cases) fn request() -> Request {
         nat_destination: vec![2; 20],
         first: 41,
         body: BODY.to_vec(),
+        cookie: COOKIE.to_vec(),
+        check_id: 70_000,
     }
 }
 
@@ -59,6 +67,8 @@ pub(crate) fn samples() -> Vec<Entry> {
         Entry::Request(Request { first: 200, body: vec![0, 0x80, 0, 4], ..request() }),
         Entry::policy(&[narrow, whole]),
         Entry::policy(&[long]),
+        Entry::CheckResponse { spi: 7, id: 70_000, first: 41, body: ANSWER.to_vec() },
+        Entry::CheckResponse { spi: 1 << 40, id: 300, first: 0, body: vec![] },
     ]
 }
 
@@ -118,17 +128,20 @@ fn counts() -> Vec<Vec<u8>> {
     traces
 }
 
-/// Each string of a request with every length that matters, whole and cut.
+/// Each string of a request and of a check response with every length that matters, whole and cut.
 fn lengths() -> Vec<Vec<u8>> {
     let mut traces = Vec::new();
     let most = MOST_OCTETS;
-    for length in [0, 1, 18, 19, 20, 21, 127, 128, 129, most - 1, most, most + 1, most + 2] {
+    for length in
+        [0, 1, 7, 8, 18, 19, 20, 21, 64, 65, 127, 128, 129, most - 1, most, most + 1, most + 2]
+    {
         let octets = vec![0; length];
         let requests = [
             Request { nat_source: octets.clone(), ..request() },
             Request { nat_destination: octets.clone(), ..request() },
             Request { body: octets.clone(), ..request() },
-            Request { first: 0, body: octets, ..request() },
+            Request { first: 0, body: octets.clone(), ..request() },
+            Request { cookie: octets.clone(), ..request() },
         ];
         for request in requests {
             let whole = [start(), entry_octets(&Entry::Request(request))].concat();
@@ -137,6 +150,10 @@ fn lengths() -> Vec<Vec<u8>> {
             traces.push([&whole[..], &[2, 7]].concat());
             traces.push(whole);
         }
+        let response = Entry::CheckResponse { spi: 7, id: 1, first: 0, body: octets };
+        let whole = [start(), entry_octets(&response)].concat();
+        traces.push(whole[..whole.len() - 1].to_vec());
+        traces.push([&whole[..], &[2, 7]].concat());
     }
     traces
 }
@@ -160,6 +177,6 @@ fn long() -> Vec<Vec<u8>> {
     let closings = [2, 7].repeat(33_000);
     let nights = [night(30, 30_000), night(31, 90_000), night(32, 3_000_000)];
     let refused = nights.clone().map(|night| [night, vec![4, 7]].concat());
-    let all_refused = [&closings[..], &[6]].concat();
+    let all_refused = [&closings[..], &[7]].concat();
     nights.into_iter().chain(refused).chain([closings, all_refused]).collect()
 }

@@ -1,6 +1,8 @@
 // Traces as a gateway might leave them: calls on the records that are there, and requests to them.
+use super::super::checks::responses;
 use super::super::requests::{arguments, starts};
 use super::super::tables::{pairs, rules, scripts, spis};
+use crate::check::CheckResponse;
 use crate::policy::Policy;
 use crate::request;
 use crate::rng::Rng;
@@ -18,10 +20,12 @@ enum Making {
     CloseIpsec,
     PlainRequest,
     AnyRequest,
+    PlainResponse,
+    AnyResponse,
     Policy,
 }
 
-type Weights = [(usize, Making); 7];
+type Weights = [(usize, Making); 9];
 
 const MOSTLY_REQUESTS: Weights = [
     (6, Making::OpenBoth),
@@ -30,6 +34,8 @@ const MOSTLY_REQUESTS: Weights = [
     (3, Making::CloseIpsec),
     (28, Making::PlainRequest),
     (14, Making::AnyRequest),
+    (8, Making::PlainResponse),
+    (6, Making::AnyResponse),
     (2, Making::Policy),
 ];
 
@@ -41,6 +47,8 @@ const MOSTLY_OPENINGS: Weights = [
     (2, Making::CloseIpsec),
     (6, Making::PlainRequest),
     (3, Making::AnyRequest),
+    (2, Making::PlainResponse),
+    (1, Making::AnyResponse),
     (1, Making::Policy),
 ];
 
@@ -88,6 +96,14 @@ fn entry(rng: &mut Rng, tables: &Tables, weights: &Weights) -> Entry {
             let spi = arguments::spi(rng, tables);
             of_request(arguments::request(rng, tables, spi))
         }
+        Making::PlainResponse => {
+            let spi = spi_of_check(rng, tables);
+            of_response(responses::plain_response(rng, tables, spi))
+        }
+        Making::AnyResponse => {
+            let spi = arguments::spi(rng, tables);
+            of_response(responses::response(rng, tables, spi))
+        }
         Making::Policy => policy(rng),
     }
 }
@@ -129,5 +145,28 @@ fn of_request(request: request::Request) -> Entry {
         nat_destination: request.nat_destination,
         first: u64::from(request.first),
         body,
+        cookie: request.cookie,
+        check_id: u64::from(request.check_id),
     })
+}
+
+/// That of a record that has a check pending, if there is any.
+fn spi_of_check(rng: &mut Rng, tables: &Tables) -> u64 {
+    let pending = tables.ike.records.iter().filter(|record| record.check.length != 0);
+    let spis: Vec<u64> = pending.map(|record| record.spi).collect();
+    if spis.is_empty() {
+        return arguments::spi(rng, tables);
+    }
+    rng.pick(&spis)
+}
+
+fn of_response(response: CheckResponse) -> Entry {
+    let mut body = response.body;
+    body.truncate(MOST_OCTETS);
+    Entry::CheckResponse {
+        spi: response.spi,
+        id: u64::from(response.id),
+        first: u64::from(response.first),
+        body,
+    }
 }

@@ -2,6 +2,7 @@
 use super::{examples, listed, windows, Case};
 use crate::rng::Rng;
 use crate::trace::pieces::Pieces;
+use crate::trace::writing::LONGEST;
 
 /// So many pieces at most has a trace past the listed ones: each is waited for.
 const MOST_PIECES: usize = 300;
@@ -27,9 +28,9 @@ pub fn all() -> Vec<Case> {
     for trace in windows::about_longest() {
         add(&trace, &[&[4_095], &[4_096], &[4_000, 96, 1]]);
     }
-    for before in [0, 3, 4_000, 12_351] {
+    for before in [0, 3, 4_000, LONGEST - 1] {
         let trace = windows::longest_in_a_row(before, 3);
-        add(&trace, &[&[4_095], &[4_096], &[4_096, 4_096, 4_096, 64], &[1_000, 3_001, 1]]);
+        add(&trace, &[&[4_095], &[4_096], &[4_096, 4_096, 4_096, 4_096, 71], &[1_000, 3_001, 1]]);
     }
     add(&windows::longest_in_a_row(3, 2), &[&[7], &[61]]);
     add(&windows::longest_in_a_row(0, 1), &[&[1]]);

@@ -6,7 +6,7 @@ use crate::trace::fields::MOST_OCTETS;
 use crate::trace::writing::{entry_octets, LONGEST};
 
 /// The longest entry, powers of two that buffers may have, and twice the longest.
-const ENDS: [usize; 6] = [4_096, 8_192, 12_352, 16_384, 24_704, 65_536];
+const ENDS: [usize; 6] = [4_096, 8_192, 16_384, LONGEST, 2 * LONGEST, 65_536];
 
 pub fn all() -> Vec<Vec<u8>> {
     let mut traces = Vec::new();
@@ -18,12 +18,12 @@ pub fn all() -> Vec<Vec<u8>> {
             }
         }
     }
-    for before in (0..=12).chain([100, 12_351, 12_352, 12_353]) {
+    for before in (0..=12).chain([100, LONGEST - 1, LONGEST, LONGEST + 1]) {
         let whole = [filled(before), longest(), vec![2, 7]].concat();
         traces.push(whole[..whole.len() - 3].to_vec());
         traces.push(whole);
     }
-    for before in [0, 2, 3, 5, 4_000, 8_000, 12_350, 12_351, 12_353] {
+    for before in [0, 2, 3, 5, 4_000, 8_000, LONGEST - 2, LONGEST - 1, LONGEST + 1] {
         for count in 2..=5 {
             traces.push(longest_in_a_row(before, count));
         }
@@ -33,7 +33,7 @@ pub fn all() -> Vec<Vec<u8>> {
 
 /// The longest entry several times behind so many octets, then a short entry and an unknown kind.
 pub fn longest_in_a_row(before: usize, count: usize) -> Vec<u8> {
-    [filled(before), longest().repeat(count), vec![2, 7, 6]].concat()
+    [filled(before), longest().repeat(count), vec![2, 7, 7]].concat()
 }
 
 /// Entries up to a few octets before the end of a window as long as the longest entry, and one more.
@@ -66,6 +66,8 @@ fn longest() -> Vec<u8> {
         nat_destination: vec![0x82; MOST_OCTETS],
         first: 255,
         body: vec![0x83; MOST_OCTETS],
+        cookie: vec![0x84; MOST_OCTETS],
+        check_id: u64::from(u32::MAX),
     }))
 }
 

@@ -5,7 +5,7 @@ use reference::outcome::Place;
 use std::mem::{offset_of, size_of};
 
 #[repr(C)]
-struct CAssessed {
+pub struct CAssessed {
     number: u8,
     outcome: u8,
     payloads: u16,
@@ -35,10 +35,13 @@ extern "C" {
 /// Assesses a response by the library.
 pub fn assess<'a>(sent: &[u8], first: u8, body: &'a [u8]) -> Assessed<'a> {
     // SAFETY: each start and length are those of a slice that outlives the call.
-    let assessed =
+    let told =
         unsafe { unmavreth_assess(sent.as_ptr(), sent.len(), first, body.as_ptr(), body.len()) };
-    let CAssessed { number, outcome, payloads, offset, ordinal, tally, cookie, cookie_len } =
-        assessed;
+    assessed(told, body)
+}
+
+pub fn assessed(told: CAssessed, body: &[u8]) -> Assessed<'_> {
+    let CAssessed { number, outcome, payloads, offset, ordinal, tally, cookie, cookie_len } = told;
     let handed_out = hand_out(body, cookie, cookie_len);
     let cookie = Place::in_body(body, usize::from(cookie), usize::from(cookie_len));
     Assessed { number, outcome, payloads, offset, ordinal, tally, cookie, handed_out }

@@ -1,6 +1,7 @@
 // The verified library: its C interface, and its answers in the form in which they are compared. And the
 // verified program that replays a trace.
 pub mod assess;
+pub mod checks;
 pub mod cookie;
 pub mod entries;
 mod pipe;

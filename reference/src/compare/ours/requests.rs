@@ -31,7 +31,7 @@ const _: () = assert!(offset_of!(CReply, ordinal) == 10 && offset_of!(CReply, co
 extern "C" {
     fn unmavreth_handle(
         ike: *mut IkeRecord,
-        ipsec: *mut IpsecRecord,
+        ipsec: *const IpsecRecord,
         ipsec_len: usize,
         policy: *const Policy,
         spi: u64,
@@ -41,6 +41,9 @@ extern "C" {
         nat_source_len: usize,
         nat_destination: *const u8,
         nat_destination_len: usize,
+        cookie: *const u8,
+        cookie_len: usize,
+        check_id: u32,
         first: u8,
         body: *const u8,
         body_len: usize,
@@ -52,7 +55,18 @@ extern "C" {
 /// Handles the request by the library, which changes the tables; also whether what is around the
 /// lent ones and the policy is kept.
 pub fn handle<'a>(request: &'a Request, tables: &mut Tables) -> (Handled<'a>, bool) {
-    let Request { spi, id, pair, nat_source, nat_destination, first, body, output } = request;
+    let Request {
+        spi,
+        id,
+        pair,
+        nat_source,
+        nat_destination,
+        cookie,
+        check_id,
+        first,
+        body,
+        output,
+    } = request;
     let mut output = output.clone();
     let mut lent = LentTables::new(tables, *spi, NO_SPI_GIVEN);
     let ipsec_length = lent.ipsec().len();
@@ -62,7 +76,7 @@ pub fn handle<'a>(request: &'a Request, tables: &mut Tables) -> (Handled<'a>, bo
     let told = unsafe {
         unmavreth_handle(
             lent.ike().as_mut_ptr(),
-            lent.ipsec().as_mut_ptr(),
+            lent.ipsec().as_ptr(),
             ipsec_length,
             lent.policy(),
             *spi,
@@ -72,6 +86,9 @@ pub fn handle<'a>(request: &'a Request, tables: &mut Tables) -> (Handled<'a>, bo
             nat_source.len(),
             nat_destination.as_ptr(),
             nat_destination.len(),
+            cookie.as_ptr(),
+            cookie.len(),
+            *check_id,
             *first,
             body.as_ptr(),
             body.len(),

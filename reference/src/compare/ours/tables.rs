@@ -5,11 +5,15 @@ use reference::calls::Call;
 use reference::lent::{LentTables, NO_SPI_GIVEN};
 use reference::lent_rules::BetweenRules;
 use reference::opening_both::Opening;
+use reference::pending::PendingCheck;
 use reference::policy::{Policy, Rule, RuleList};
 use reference::tables::{IkeRecord, IpsecRecord, Tables};
 use std::mem::{offset_of, size_of};
 
-const _: () = assert!(size_of::<IkeRecord>() == 344 && size_of::<IpsecRecord>() == 56);
+const _: () = assert!(size_of::<IkeRecord>() == 416 && size_of::<IpsecRecord>() == 56);
+const _: () = assert!(offset_of!(IkeRecord, unknown) == 340 && offset_of!(IkeRecord, check) == 344);
+const _: () = assert!(size_of::<PendingCheck>() == 72 && offset_of!(PendingCheck, length) == 0);
+const _: () = assert!(offset_of!(PendingCheck, octets) == 1 && offset_of!(PendingCheck, id) == 68);
 const _: () = assert!(offset_of!(IkeRecord, agreed) == 8 && offset_of!(IkeRecord, pair) == 10);
 const _: () = assert!(size_of::<Agreed>() == 1 && offset_of!(IkeRecord, addresses) == 66);
 const _: () = assert!(offset_of!(IpsecRecord, owner) == 8 && offset_of!(IpsecRecord, pair) == 16);

@@ -5,7 +5,7 @@ use mathlib.Core.Bool.{Bool, true, false, _&&_, not}
 use lib.Dec.{eqb}
 use Rattle.octets.specs.Limits.{ipsecPlaces}
 use borrow.Author.Needs.{needs}
-use borrow.Author.Tests.{eq-eqb, ne-eqb}
+use borrow.Author.Tests.{eq-eqb, ne-eqb, not-true, not-false}
 use Rattle.checking.proofs.check.arguments_fit.Statement.{statement}
 use Rattle.checking.proofs.check.arguments_fit.Tie as tie
 
@@ -40,11 +40,24 @@ arguments-fit-spec =
       eq-eqb _ _ (c .before .before .before .before .if1 .left),
       eq-eqb _ _ (c .before .before .before .if2 .left),
       eq-eqb _ _ (c .before .before .if3 .left),
-      sym (c .before .pair-fits .ensures) ∙ c .if4 .taken,
-    ) (decides (not (eqb (c .before .before .before .before .before .before .before .args .spi) 0))))
-    (λ c. rw (
-      eq-eqb _ _ (c .before .before .before .before .if1 .left),
-      eq-eqb _ _ (c .before .before .before .if2 .left),
-      eq-eqb _ _ (c .before .before .if3 .left),
-      sym (c .before .pair-fits .ensures) ∙ c .if4 .left,
-    ) (fails (not (eqb (c .before .before .before .before .before .before .before .args .spi) 0)))))
+      sym (c .before .is-pending .ensures) ∙ not-true _ (c .if4 .taken),
+    ) (fails (not (eqb (c .before .before .before .before .before .before .before .args .spi) 0))))
+    (λ c κs. search needs)
+    (λ c.
+    let p = c .before .before .before in
+    rw (
+      eq-eqb _ _ (p .before .before .before .if1 .left),
+      eq-eqb _ _ (p .before .before .if2 .left),
+      eq-eqb _ _ (p .before .if3 .left),
+      sym (p .is-pending .ensures) ∙ not-false _ (c .before .before .if4 .left),
+      sym (c .before .pair-fits .ensures) ∙ c .if5 .taken,
+    ) (decides (not (eqb (p .before .before .before .before .before .before .args .spi) 0))))
+    (λ c.
+    let p = c .before .before .before in
+    rw (
+      eq-eqb _ _ (p .before .before .before .if1 .left),
+      eq-eqb _ _ (p .before .before .if2 .left),
+      eq-eqb _ _ (p .before .if3 .left),
+      sym (p .is-pending .ensures) ∙ not-false _ (c .before .before .if4 .left),
+      sym (c .before .pair-fits .ensures) ∙ c .if5 .left,
+    ) (fails (not (eqb (p .before .before .before .before .before .before .args .spi) 0)))))

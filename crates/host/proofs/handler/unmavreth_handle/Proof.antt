@@ -1,16 +1,16 @@
--- `host::handler::unmavreth_handle` meets its contract: a walk of its MIR, by hand. Each table is lent as `&` for each
+-- `host::handler::unmavreth_handle` meets its contract: a walk of its MIR, by hand. The IKE table is lent as `&` for each
 -- look-up, and the output for `received_at`, and comes back; `accepts_if` asks the policy where it is lent. The output
--- goes to `handle_at` for good, the IKE table to `ike_change`, and the IPsec list to `follow_if`.
+-- goes to `handle_at` for good, and the IKE table to `ike_change`; the IPsec list is only counted.
 -- Assumes nothing.
-use Rattle.walks.proofs.Kit.{_≡_, refl, ap, ℕ, _<_, _^_, cond, [], _∷_, List, map, length, set, URA, w8, w32, w64, Val}
+use Rattle.walks.proofs.Kit.{_≡_, refl, ap, ℕ, _<_, _^_, [], _∷_, List, length, set, URA, w8, w32, w64, Val}
 use Rattle.walks.proofs.Kit.{SProp, ent, emp, via, id⊢, fst∗, flft, fres, Memory, Routine, Heap, Calls, Loops, WpFn}
 use Rattle.walks.proofs.Kit.{Atoms, Lfts, Shares, Fun, givenOf, tables, tablesOf, Given, Item, ‵, ⋆, _$_, _∵_, !, qed}
 use Rattle.walks.proofs.Kit.{by, move, drop, split, join, fsplit, fjoin, suffices, frame, done, stop, of-opd, addr}
 use Rattle.walks.proofs.Kit.{and-then, no-more, enter, params1, pass0, whole, sub, agg, FmC, fmOf, owns, flat, Is}
-use Rattle.walks.proofs.Kit.{valss, uint-makes, uint-vals, bool-makes, bool-vals, bool-tells, nothing-tells, u8, u32}
-use Rattle.walks.proofs.Kit.{u64, says, usize, bool, RefT, ptr-vals, slice-vals, Room, finally, typesAt, owned}
+use Rattle.walks.proofs.Kit.{valss, uint-makes, uint-vals, u8, u32}
+use Rattle.walks.proofs.Kit.{u64, says, usize, RefT, ptr-vals, slice-vals, Room, finally, typesAt, owned}
 use Rattle.walks.proofs.Kit.{nothing, Args, Vals, onEntry, walkOf, ends-at, vint, only, erased, Fml, Env, Sq, runs}
-use Rattle.walks.proofs.Kit.{atRet, MutRef, MutSlice, ShrRef, ShrSlice, vbool}
+use Rattle.walks.proofs.Kit.{atRet, MutRef, ShrRef, ShrSlice, vbool}
 use mathlib.Core.Bool.{_&&_}
 use mathlib.Core.Option.{Option, none, some}
 use mathlib.Core.List.{_++_}
@@ -22,7 +22,12 @@ use Rattle.address.specs.declared.pair.Pair.{Pair}
 use Rattle.address.proofs.pair.Pair as P
 use Rattle.address.proofs.pair.Pair.Laws as P′
 use Rattle.policy.specs.declared.rules.Policy.{Policy}
-use Rattle.records.specs.Records.{ikeSpi, follows}
+use Rattle.records.specs.Pending.{checkOf}
+use Rattle.records.specs.Records.{ikeSpi}
+use Rattle.records.specs.declared.check.PendingCheck.{PendingCheck}
+use Rattle.records.proofs.check.PendingCheck as N
+use Rattle.records.proofs.check.PendingCheck.Laws as N′
+use Rattle.records.proofs.check.check_of as keeps
 use Rattle.records.specs.declared.ike.IkeRecord.{IkeRecord}
 use Rattle.records.proofs.ike.IkeRecord as S
 use Rattle.records.proofs.ike.IkeRecord.Laws as S′
@@ -33,16 +38,15 @@ use Rattle.answering.proofs.packet.Packet as G
 use Rattle.answering.proofs.packet.Packet.Laws as G′
 use Rattle.answering.proofs.packet.packet_of as packs
 use Rattle.replying.specs.Change.{changedBy}
-use Rattle.replying.specs.Reply.{moved}
 use Rattle.replying.specs.declared.reply.CoreAnswer.{CoreAnswer}
 use Rattle.replying.specs.declared.reply.Reply.{Reply}
 use Rattle.replying.proofs.reply.CoreAnswer as D
 use Rattle.replying.proofs.reply.CoreAnswer.Laws as D′
 use Rattle.replying.proofs.reply.Reply as Z
 use Rattle.replying.proofs.reply.Reply.Laws as Z′
-use Rattle.replying.proofs.reply.moves as moves
+use Rattle.tables.specs.Tables.{meant}
 use Rattle.checking.specs.Checks.{Request}
-use Rattle.responder.specs.Handle.{HandledAs, meant, accepts}
+use Rattle.responder.specs.Handle.{HandledAs, accepts}
 use Rattle.checking.specs.Lookup.{requestBy, lookedUp}
 use Rattle.responder.specs.Looked.{receivedAt, handledAt, responseAt}
 use Rattle.checking.specs.declared.lookup.Looked.{Looked}
@@ -57,13 +61,12 @@ use Rattle.responder.proofs.receive.Received as Rc
 use Rattle.responder.proofs.receive.Received.Laws as Rc′
 use Rattle.walks.proofs.Walk.{closes}
 use Rattle.walks.proofs.Locals.{Lie, env, holding, allocates, passed, given-first, value, part, behind, behind-part}
-use Rattle.walks.proofs.Locals.{sets, lands-in, lands-over, hands, rests, ends}
-use Rattle.walks.proofs.Calls.{_&_, tokens, plainly, gives, list-last, calls-for, calls-to}
+use Rattle.walks.proofs.Locals.{sets, lands-in, hands, rests, ends}
+use Rattle.walks.proofs.Calls.{_&_, tokens, no-token, plainly, gives, calls-for}
 use Rattle.lent_ike.proofs.IkeTable.{R, Q, rec-vals}
 use Rattle.lent_ipsec.proofs.IpsecTable.{R as Rᵢ}
 use Rattle.lent_policy.proofs.PolicyTypes.{R as Rₚ}
-use Rattle.lent.proofs.Asked.{counts, finds-ike, reads-ike, changes-ike, asks-policy}
-use Rattle.lent_owned.proofs.owned.follow_if as follow
+use Rattle.lent.proofs.Asked.{counts-read, finds-ike, reads-ike, changes-ike, asks-policy}
 use Rattle.host.proofs.handler.unmavreth_handle.Proof.Callees.{Known, known}
 use Rattle.host.proofs.handler.unmavreth_handle.Proof.Parameters.{stayed, goes, pair-vals, spelled, told}
 use Rattle.host.proofs.handler.unmavreth_handle.Proof.Handling.{Strings, looked-vals, packet-vals}
@@ -77,19 +80,24 @@ mod Callees
 mod Parameters
 mod Handling
 
+abbrev check-vals : PendingCheck → List Val
+check-vals = LL.vals N.the-type N′.the-laws
+
 abbrev reply-vals : Reply → List Val
 reply-vals = LL.vals Z.the-type Z′.the-laws
 
 module _ {M : Type 1} (𝓤 : URA M) (H : Heap 𝓤) (A : Atoms 𝓤) (W : Given 𝓤 H A) (at-mem : Memory → SProp 𝓤)
     (run : Routine → Fun 𝓤)
-    (κs : Lfts 7) (qs : Shares 7) (ike : RefT (List IkeRecord)) (ipsec : RefT (List IpsecRecord)) (policy : RefT Policy)
-    (spi id : ℕ) (pair : Pair) (nat-source nat-destination : RefT (List ℕ)) (first : ℕ) (body out : RefT (List ℕ))
-    (ipsec-room : Room Rᵢ (length (ipsec .now))) (spi-fits : spi < 2 ^ 64) (id-fits : id < 2 ^ 32)
-    (pair-is : Is P.the-row pair (pair-vals pair)) (source-room : Room u8 (length (nat-source .now)))
-    (destination-room : Room u8 (length (nat-destination .now))) (first-fits : first < 2 ^ 8)
+    (κs : Lfts 8) (qs : Shares 8) (ike : RefT (List IkeRecord)) (ipsec : RefT (List IpsecRecord)) (policy : RefT Policy)
+    (spi id : ℕ) (pair : Pair) (nat-source nat-destination cookie : RefT (List ℕ)) (check-id first : ℕ)
+    (body out : RefT (List ℕ)) (ipsec-room : Room Rᵢ (length (ipsec .now))) (spi-fits : spi < 2 ^ 64)
+    (id-fits : id < 2 ^ 32) (pair-is : Is P.the-row pair (pair-vals pair))
+    (source-room : Room u8 (length (nat-source .now))) (destination-room : Room u8 (length (nat-destination .now)))
+    (cookie-room : Room u8 (length (cookie .now))) (check-id-fits : check-id < 2 ^ 32) (first-fits : first < 2 ^ 8)
     (body-room : Room u8 (length (body .now))) (out-room : Room u8 (length (out .now))) where
   abbrev a : Args f.signature κs
-  a = ike & ipsec & policy & spi & id & pair & nat-source & nat-destination & first & body & out & tt
+  a =
+      ike & ipsec & policy & spi & id & pair & nat-source & nat-destination & cookie & check-id & first & body & out & tt
 
   abbrev vals : Vals f.signature κs
   vals = valss (typesAt (f.signature .params) κs) (spelled κs) a
@@ -97,9 +105,19 @@ module _ {M : Type 1} (𝓤 : URA M) (H : Heap 𝓤) (A : Atoms 𝓤) (W : Given
   abbrev Post : Val → SProp 𝓤
   Post = walkOf 𝓤 H A f.ended stayed (f.clauses 𝓤 H A at-mem run) .post ((κs, qs, tt, a, vals), tt)
 
+  -- the lifetimes of the two NAT values, the body and the output, and their shares
+  abbrev κₛ : Lfts 4
+  κₛ = κs .1 .1 .1 .0 & κs .1 .1 .1 .1 .0 & κs .1 .1 .1 .1 .1 .1
+
+  abbrev qₛ : Shares 4
+  qₛ = qs .1 .1 .1 .0 & qs .1 .1 .1 .1 .0 & qs .1 .1 .1 .1 .1 .1
+
   -- the request; what is looked up for it, and what it comes to by that
+  abbrev check : PendingCheck
+  check = checkOf (cookie .now) check-id
+
   abbrev packet : Packet
-  packet = packetOf spi id pair first
+  packet = packetOf spi id pair first check
 
   abbrev q : Request
   q = requestBy packet (nat-source .now) (nat-destination .now) (body .now) (length (out .now))
@@ -123,46 +141,43 @@ module _ {M : Type 1} (𝓤 : URA M) (H : Heap 𝓤) (A : Atoms 𝓤) (W : Given
   c = handledAt (accepts (policy .now) q) looked q
 
   abbrev new : IkeRecord
-  new = changedBy c pair (body .now) old
-
-  abbrev children : List IpsecRecord
-  children = cond (moved c) (map (follows spi pair) (ipsec .now)) (ipsec .now)
+  new = changedBy c pair check (body .now) old
 
   abbrev response : List ℕ
   response = placed (out .now) 0 (responseAt (accepts (policy .now) q) looked q)
 
-  -- what is answered, stored and moved is what the contract says
-  abbrev Said : List IkeRecord → List IpsecRecord → List ℕ → Type 0
+  -- what is answered and stored is what the contract says
+  abbrev Said : List IkeRecord → List ℕ → Type 0
   Said = HandledAs (policy .now) (ike .now) (ipsec .now) q (out .now) (c .reply)
 
-  all-said : length (ike .now) ≡ ikePlaces → (zs : List IkeRecord) (us : List IpsecRecord) (ws : List ℕ)
-      → zs ≡ set (ike .now) place new → us ≡ children → ws ≡ response → Said zs us ws
-  all-said long zs us ws e₁ e₂ e₃ =
+  all-said : length (ike .now) ≡ ikePlaces → (zs : List IkeRecord) (ws : List ℕ) → zs ≡ set (ike .now) place new
+      → ws ≡ response → Said zs ws
+  all-said long zs ws e₁ e₂ =
       let h = handled-so (policy .now) (ike .now) (ipsec .now) q long in
       record {
         reply = h .reply;
         records = rw e₁ (h .ike-after);
-        owned = rw e₂ (h .ipsec-after);
-        output = rw e₃ (ap (placed (out .now) 0) (h .octets));
+        output = rw e₂ (ap (placed (out .now) 0) (h .octets));
         counts = rw (h .reply) (payloads-counted (policy .now) (ike .now) (ipsec .now) q);
       }
 
-  abbrev End : List IkeRecord → List IpsecRecord → List ℕ → List (Item 𝓤)
-  End zs us ws =
-      ‵ (finally Rᵢ (ipsec .name) us) ∷ ‵ (flft (κs .1 .0) (qs .1 .0)) ∷ ‵ (fres (ike .name) (Q .coded .code zs))
-      ∷ ‵ (flft (κs .0) (qs .0)) ∷ tokens 𝓤 5 (κs .1 .1) (qs .1 .1) ∷ ‵ (finally u8 (out .name) ws) ∷ []
+  abbrev End : List IkeRecord → List ℕ → List (Item 𝓤)
+  End zs ws =
+      ‵ (fres (ike .name) (Q .coded .code zs)) ∷ ‵ (flft (κs .0) (qs .0)) ∷ tokens 𝓤 7 (κs .1) (qs .1)
+      ∷ ‵ (finally u8 (out .name) ws) ∷ []
 
-  exits : (zs : List IkeRecord) (us : List IpsecRecord) (ws : List ℕ) → Is Z.the-row (c .reply) (reply-vals (c .reply))
-      → length us ≡ length (ipsec .now) → length ws ≡ length (out .now) → Said zs us ws
-      → ent 𝓤 (⋆ 𝓤 H A (End zs us ws)) (Post (LL.val Z.the-type Z′.the-laws (c .reply)))
-  exits zs us ws is l₁ l₂ e =
-      qed W (End zs us ws) ∵
+  exits : (zs : List IkeRecord) (ws : List ℕ) → Is Z.the-row (c .reply) (reply-vals (c .reply))
+      → length ws ≡ length (out .now) → Said zs ws
+      → ent 𝓤 (⋆ 𝓤 H A (End zs ws)) (Post (LL.val Z.the-type Z′.the-laws (c .reply)))
+  exits zs ws is l e =
+      qed W (End zs ws) ∵
       suffices ! _ (ends-at 𝓤 H A f.ended stayed (f.clauses 𝓤 H A at-mem run) W ((κs, qs, tt, a, vals), tt)
-      (LL.val Z.the-type Z′.the-laws (c .reply)) (c .reply) (zs & us & tt & tt & tt & tt & tt & tt & tt & tt & ws & tt)
-      (tt & l₁ & tt & tt & tt & tt & tt & tt & tt & tt & l₂ & tt)) $ says ! e $ move ! (1 ∷ 4 ∷ []) $ join ! $
-      move ! (3 ∷ 0 ∷ []) $ join ! $ frame ! $ nothing ! $ move ! (3 ∷ 0 ∷ []) $ fjoin ! $ nothing ! $ fjoin ! $
-      nothing ! $ fjoin ! $ nothing ! $ fjoin ! $ nothing ! $ fjoin ! $ nothing ! $ fjoin ! $ nothing ! $ fjoin ! $
-      nothing ! $ fjoin ! $ nothing ! $ fjoin ! $ move ! (1 ∷ 0 ∷ []) $ fjoin ! $ move ! (1 ∷ 0 ∷ []) $ fjoin ! $
+      (LL.val Z.the-type Z′.the-laws (c .reply)) (c .reply)
+      (zs & tt & tt & tt & tt & tt & tt & tt & tt & tt & tt & tt & ws & tt)
+      (tt & tt & tt & tt & tt & tt & tt & tt & tt & tt & tt & tt & l & tt)) $ says ! e $ move ! (1 ∷ 2 ∷ []) $ join ! $
+      frame ! $ nothing ! $ move ! (2 ∷ 0 ∷ []) $ fjoin ! $ nothing ! $ fjoin ! $ nothing ! $ fjoin ! $ nothing ! $
+      fjoin ! $ nothing ! $ fjoin ! $ nothing ! $ fjoin ! $ nothing ! $ fjoin ! $ nothing ! $ fjoin ! $ nothing ! $
+      fjoin ! $ nothing ! $ fjoin ! $ nothing ! $ fjoin ! $ nothing ! $ fjoin ! $ move ! (1 ∷ 0 ∷ []) $ fjoin ! $
       frame ! $ owned ! Z.the-row (Is Z.the-row) (LL.makes Z.the-type Z′.the-plain 𝓤 H A) (c .reply) _ is $ done !
 
   module _ (C : Calls 𝓤 H) (Λ : Loops 𝓤 H) (fm : FmC 𝓤 H (W .laws) C)
@@ -171,14 +186,15 @@ module _ {M : Type 1} (𝓤 : URA M) (H : Heap 𝓤) (A : Atoms 𝓤) (W : Given
       abbrev En : Env 𝓤 H
       En = env 𝓤 H (code.function .locals) l
 
-      -- what the locals hold: the parameters, and what was looked up
+      -- what the locals hold: the parameters, what was looked up, and the check
       abbrev given : List (Option Val)
       given =
           none ∷ some (only (ptr-vals ike)) ∷ some (only (slice-vals ipsec)) ∷ some (only (ptr-vals policy))
           ∷ some (vint w64 spi) ∷ some (vint w32 id) ∷ some (only (pair-vals pair))
-          ∷ some (only (slice-vals nat-source)) ∷ some (only (slice-vals nat-destination)) ∷ some (vint w8 first)
+          ∷ some (only (slice-vals nat-source)) ∷ some (only (slice-vals nat-destination))
+          ∷ some (only (slice-vals cookie)) ∷ some (vint w32 check-id) ∷ some (vint w8 first)
           ∷ some (only (slice-vals body)) ∷ some (only (slice-vals out)) ∷ some (vint w64 size) ∷ some (vint w64 place)
-          ∷ some (only (rec-vals old)) ∷ some (only (looked-vals looked)) ∷ []
+          ∷ some (only (rec-vals old)) ∷ some (only (looked-vals looked)) ∷ some (only (check-vals check)) ∷ []
 
       -- the packet, what was received, whether the policy accepts the pair, and what the request comes to
       abbrev decided : List (Option Val)
@@ -186,100 +202,76 @@ module _ {M : Type 1} (𝓤 : URA M) (H : Heap 𝓤) (A : Atoms 𝓤) (W : Given
           given ++ (some (only (packet-vals packet)) ∷ some (only (received-vals received))
           ∷ some (vbool (received .asks && accepts (policy .now) q)) ∷ some (only (answer-vals c)) ∷ [])
 
-      -- The table, the list and the body, with their tokens.
+      -- The table, the policy and the body.
       abbrev its-table : Item 𝓤
       its-table = ‵ (MutRef erased (κs .0) Q .own ike (ptr-vals ike))
-
-      abbrev its-list : Item 𝓤
-      its-list = ‵ (MutSlice erased (κs .1 .0) Rᵢ .own ipsec (slice-vals ipsec))
 
       abbrev its-policy : Item 𝓤
       its-policy = ‵ (ShrRef erased (κs .1 .1 .0) Rₚ .own policy (ptr-vals policy))
 
       abbrev its-body : Fml
-      its-body = ShrSlice erased (κs .1 .1 .1 .1 .1 .0) u8 .own body (slice-vals body)
+      its-body = ShrSlice erased (κs .1 .1 .1 .1 .1 .1 .0) u8 .own body (slice-vals body)
 
-      -- The record is changed, and what it owns follows.
-      leaves : length (ike .now) ≡ ikePlaces → place < 2 ^ 64 → Is D.the-row c (answer-vals c) → (ws : List ℕ)
-          → ws ≡ response
-          → length ws ≡ length (out .now)
-          → Sq W (‵ (finally u8 (out .name) ws) ∷ tokens 𝓤 4 (κs .1 .1 .1) (qs .1 .1 .1) ∷ ‵ its-body
-          ∷ ‵ (flft (κs .1 .1 .0) (qs .1 .1 .0)) ∷ its-table ∷ ‵ (flft (κs .0) (qs .0)) ∷ its-list
-          ∷ ‵ (flft (κs .1 .0) (qs .1 .0)) ∷ holding 𝓤 H decided En []) (runs C Λ En mir′.t-17 (atRet En Post))
-      leaves long place-fits is ws e₃ lₒ =
+      -- the tokens of the policy, the list and the cookie, and the table with its own, in front of the locals
+      abbrev kept : List (Option Val) → List (Item 𝓤)
+      kept held =
+          ‵ (flft (κs .1 .1 .0) (qs .1 .1 .0)) ∷ ‵ (flft (κs .1 .0) (qs .1 .0))
+          ∷ ‵ (flft (κs .1 .1 .1 .1 .1 .0) (qs .1 .1 .1 .1 .1 .0)) ∷ its-table ∷ ‵ (flft (κs .0) (qs .0))
+          ∷ holding 𝓤 H held En []
+
+      -- The record is changed.
+      leaves : length (ike .now) ≡ ikePlaces → place < 2 ^ 64 → Is N.the-row check (check-vals check)
+          → Is D.the-row c (answer-vals c) → (ws : List ℕ) → ws ≡ response → length ws ≡ length (out .now)
+          → Sq W (‵ (finally u8 (out .name) ws) ∷ tokens 𝓤 4 κₛ qₛ ∷ ‵ its-body ∷ kept decided)
+          (runs C Λ En mir′.t-16 (atRet En Post))
+      leaves long place-fits check-is is ws e₂ l =
           move ! (1 ∷ []) $ split ! $ move ! (1 ∷ []) $ split ! $ move ! (1 ∷ []) $ split ! $
-          move ! (7 ∷ 8 ∷ 5 ∷ 0 ∷ []) $
+          move ! (9 ∷ 10 ∷ 5 ∷ 0 ∷ []) $
           -- [the table; its token; the body; its token; the output's; the destination's; the source's; what says the
-          -- output's last list; the policy's token; the list; its token; the locals]
+          -- output's last list; the tokens of the policy, the list and the cookie; the locals]
           sets ! (addr ! (behind ! refl (stop !))) refl (tt, tt) $
-          changes-ike ! fm at-mem run ike (known .changes) place c pair body (refl, place-fits) is pair-is
-          (λ j. and-then ! (value ! refl) (and-then ! (value ! refl)
-          (and-then ! (value ! refl) (and-then ! (value ! refl) (and-then ! (value ! refl) (no-more !))))))
-          (λ zs e₁. lands-in ! refl (tt, tt) $ move ! (2 ∷ 3 ∷ []) $ join ! $ move ! (3 ∷ 0 ∷ []) $ join ! $
-          move ! (3 ∷ 0 ∷ []) $ join ! $ move ! (4 ∷ 0 ∷ []) $ join ! $ move ! (1 ∷ 2 ∷ []) $
-          -- [what says the table's last value; its token; the other tokens; what says the output's last list; the list;
-          -- its token; the locals]
-          sets ! (addr ! (behind-part ! refl (sub ! 0 refl (whole !)) (stop !))) refl (tt, tt) $
-          sets ! (agg ! (and-then ! (value ! refl) (and-then ! (part ! refl (sub ! 1 refl (whole !))) (no-more !))))
-          refl (tt, (tt, (record { fits = ipsec-room .0 }, tt))) $
-          plainly ! (D.the-row ∷ []) (LL.makes D.the-type D′.the-plain 𝓤 H A, tt) (c, tt) (answer-vals c, tt) (is, tt) $
-          calls-for ! fm moves.ended (moves.clauses 𝓤 H A at-mem run) (known .moves)
-          ((tt, tt, tt, (c, tt), (answer-vals c, tt)), tt) (id⊢ 𝓤 _) (and-then ! (value ! refl) (no-more !)) bool-vals
-          bool-tells (moved c) (λ r ws. id⊢ 𝓤 _) (λ moved-is. drop ! $ lands-in ! refl (tt, tt) $ move ! (4 ∷ 5 ∷ []) $
-          gives ! (bool ∷ u64 ∷ P.the-row ∷ []) (bool-makes 𝓤 H A W & uint-makes 𝓤 H A W w64
-          & LL.makes P.the-type P′.the-plain 𝓤 H A & tt) (moved c, (spi, (pair, tt)))
-          (bool-vals (moved c), (uint-vals w64 spi, (pair-vals pair, tt))) (refl, ((refl, spi-fits), (pair-is, tt))) $
-          calls-to ! fm follow.ended (follow.clauses 𝓤 H A at-mem run) (known .follows) (
-            (
-              (κs .1 .0, tt),
-              (qs .1 .0, tt),
-              tt,
-              (ipsec & moved c & spi & pair & tt),
-              (slice-vals ipsec & bool-vals (moved c) & uint-vals w64 spi & pair-vals pair & tt),
-            ),
-            tt,
-          ) (id⊢ 𝓤 _)
-          (and-then ! (value ! refl) (and-then ! (value ! refl)
-          (and-then ! (value ! refl) (and-then ! (value ! refl) (no-more !))))) nothing-tells (λ us. us .0 ≡ children)
-          (λ r ws. id⊢ 𝓤 _) (λ us e₂. list-last ! (λ lᵢ.
-          -- [what says the list's last list; its token; what says the table's last value; its token; the other tokens;
-          -- what says the output's last list; the locals]
-          lands-over ! refl (tt, tt) $
+          changes-ike ! fm at-mem run ike (known .changes) place c pair check body (refl, place-fits) is pair-is check-is
+          (λ j. and-then ! (value ! refl) (and-then ! (value ! refl) (and-then ! (value ! refl)
+          (and-then ! (value ! refl) (and-then ! (value ! refl) (and-then ! (value ! refl) (no-more !)))))))
+          (λ zs e₁. lands-in ! refl (tt, tt) $ move ! (2 ∷ 3 ∷ []) $ join ! $ move ! (8 ∷ 0 ∷ []) $ join ! $
+          move ! (3 ∷ 0 ∷ []) $ join ! $ move ! (3 ∷ 0 ∷ []) $ join ! $ move ! (4 ∷ 0 ∷ []) $ join ! $
+          move ! (4 ∷ 0 ∷ []) $ join ! $ move ! (1 ∷ 2 ∷ []) $
+          -- [what says the table's last value; its token; the other tokens; what says the output's last list; the
+          -- locals]
           sets ! (of-opd ! (part ! refl (sub ! 0 refl (whole !)))) refl
           (LL.lawful Z.the-type Z′.the-laws 𝓤 H A W .typed (c .reply) _ (LL.owed D.the-type D′.the-laws c _ is .0) .0) $
-          hands ! refl $ ends ! refl refl $ by ! (exits zs (us .0) ws (LL.owed D.the-type D′.the-laws c _ is .0) lᵢ lₒ
-          (all-said long zs (us .0) ws e₁ e₂ e₃))))))
+          hands ! refl $ ends ! refl refl $ by ! (exits zs ws (LL.owed D.the-type D′.the-laws c _ is .0) l
+          (all-said long zs ws e₁ e₂)))
 
       -- The packet is made, and the request received and handled; in between the policy is asked.
       answers : length (ike .now) ≡ ikePlaces → place < 2 ^ 64 → Is L.the-row looked (looked-vals looked)
-          → Sq W (Strings (κs .1 .1 .1) (qs .1 .1 .1) nat-source nat-destination body out (its-policy
-          ∷ ‵ (flft (κs .1 .1 .0) (qs .1 .1 .0)) ∷ its-table ∷ ‵ (flft (κs .0) (qs .0)) ∷ its-list
-          ∷ ‵ (flft (κs .1 .0) (qs .1 .0)) ∷ holding 𝓤 H given En []))
-          (runs C Λ En mir′.t-9 (atRet En Post))
-      answers long place-fits looked-is =
-          plainly ! (u64 ∷ u32 ∷ P.the-row ∷ u8 ∷ [])
+          → Is N.the-row check (check-vals check)
+          → Sq W (Strings κₛ qₛ nat-source nat-destination body out (its-policy ∷ kept given))
+          (runs C Λ En mir′.t-8 (atRet En Post))
+      answers long place-fits looked-is check-is =
+          plainly ! (u64 ∷ u32 ∷ P.the-row ∷ u8 ∷ N.the-row ∷ [])
           (uint-makes 𝓤 H A W w64 & uint-makes 𝓤 H A W w32 & LL.makes P.the-type P′.the-plain 𝓤 H A
-          & uint-makes 𝓤 H A W w8 & tt) (spi, (id, (pair, (first, tt))))
-          (uint-vals w64 spi, (uint-vals w32 id, (pair-vals pair, (uint-vals w8 first, tt))))
-          ((refl, spi-fits), ((refl, id-fits), (pair-is, ((refl, first-fits), tt)))) $
+          & uint-makes 𝓤 H A W w8 & LL.makes N.the-type N′.the-plain 𝓤 H A & tt) (spi & id & pair & first & check & tt)
+          (uint-vals w64 spi & uint-vals w32 id & pair-vals pair & uint-vals w8 first & check-vals check & tt)
+          ((refl, spi-fits) & (refl, id-fits) & pair-is & (refl, first-fits) & check-is & tt) $
           calls-for ! fm packs.ended (packs.clauses 𝓤 H A at-mem run) (known .packs) (
             (
               tt,
               tt,
               tt,
-              (spi & id & pair & first & tt),
-              (uint-vals w64 spi & uint-vals w32 id & pair-vals pair & uint-vals w8 first & tt),
+              (spi & id & pair & first & check & tt),
+              (uint-vals w64 spi & uint-vals w32 id & pair-vals pair & uint-vals w8 first & check-vals check & tt),
             ),
             tt,
           ) (id⊢ 𝓤 _)
-          (and-then ! (value ! refl) (and-then ! (value ! refl)
-          (and-then ! (value ! refl) (and-then ! (value ! refl) (no-more !))))) packet-vals
+          (and-then ! (value ! refl) (and-then ! (value ! refl) (and-then ! (value ! refl)
+          (and-then ! (value ! refl) (and-then ! (value ! refl) (no-more !)))))) packet-vals
           (LL.tells G.the-type G′.the-laws) packet (λ r ws. id⊢ 𝓤 _)
           (λ packet-is. drop ! $ lands-in ! refl (LL.lawful G.the-type G′.the-laws 𝓤 H A W .typed packet _ packet-is
           .0) $ sets ! (addr ! (behind-part ! refl (sub ! 0 refl (whole !)) (stop !))) refl (tt, tt) $
           sets ! (agg ! (and-then ! (value ! refl) (and-then ! (part ! refl (sub ! 1 refl (whole !))) (no-more !))))
           refl (tt, (tt, (record { fits = out-room .0 }, tt))) $
-          receives ! fm at-mem run (κs .1 .1 .1) (qs .1 .1 .1) nat-source nat-destination body out looked looked-is
+          receives ! fm at-mem run κₛ qₛ nat-source nat-destination body out looked looked-is
           packet packet-is received refl (known .receives) out-room
           (λ h i j k l. and-then ! (value ! refl) (and-then ! (value ! refl) (and-then ! (value ! refl)
           (and-then ! (value ! refl) (and-then ! (value ! refl) (and-then ! (value ! refl) (no-more !)))))))
@@ -289,24 +281,25 @@ module _ {M : Type 1} (𝓤 : URA M) (H : Heap 𝓤) (A : Atoms 𝓤) (W : Given
           (λ i j. and-then ! (value ! refl) (and-then ! (part ! refl (sub ! 1 refl (whole !)))
           (and-then ! (value ! refl) (no-more !)))) $ lands-in ! refl (tt, tt) $ drop ! $
           move ! (1 ∷ 2 ∷ 3 ∷ 4 ∷ 5 ∷ []) $
-          -- [the strings and their tokens; the policy's token; the table; its token; the list; its token; the locals]
+          -- [the strings and their tokens; the tokens of the policy, the list and the cookie; the table; its token; the
+          -- locals]
           sets ! (addr ! (behind-part ! refl (sub ! 0 refl (whole !)) (stop !))) refl (tt, tt) $
           sets ! (agg ! (and-then ! (value ! refl) (and-then ! (part ! refl (sub ! 1 refl (whole !))) (no-more !))))
           refl (tt, (tt, (record { fits = out-room .0 }, tt))) $
-          handles ! fm at-mem run (κs .1 .1 .1) (qs .1 .1 .1) nat-source nat-destination body out looked looked-is
+          handles ! fm at-mem run κₛ qₛ nat-source nat-destination body out looked looked-is
           packet packet-is received refl (known .handles) (received .asks && accepts (policy .now) q) received-is c
           (asked-alike looked q (accepts (policy .now) q) .0) (responseAt (accepts (policy .now) q) looked q)
           (asked-alike looked q (accepts (policy .now) q) .1)
           (λ i j. and-then ! (value ! refl) (and-then ! (value ! refl) (and-then ! (value ! refl)
           (and-then ! (value ! refl) (and-then ! (value ! refl) (and-then ! (value ! refl) (and-then ! (value ! refl)
           (and-then ! (value ! refl) (no-more !)))))))))
-          (λ is ws e₃ lₒ. lands-in ! refl (LL.lawful D.the-type D′.the-laws 𝓤 H A W .typed c _ is .0) $
-          rests ! En 20 refl $ leaves long place-fits is ws e₃ lₒ)))
+          (λ is ws e₂ l. lands-in ! refl (LL.lawful D.the-type D′.the-laws 𝓤 H A W .typed c _ is .0) $
+          rests ! En 23 refl $ leaves long place-fits check-is is ws e₂ l)))
 
     walk : ent 𝓤 (onEntry 𝓤 H A f.signature κs qs a vals)
         (WpFn 𝓤 H C Λ code.function (flat (typesAt (f.signature .params) κs) vals) Post)
     walk =
-        qed W (tokens 𝓤 7 κs qs ∷ ‵ (owns (typesAt (f.signature .params) κs) a vals) ∷ []) ∵
+        qed W (tokens 𝓤 8 κs qs ∷ ‵ (owns (typesAt (f.signature .params) κs) a vals) ∷ []) ∵
         enter ! C Λ code.function (flat (typesAt (f.signature .params) κs) vals) _ $
         allocates ! (λ l. params1 ! $ passed ! refl (tt, tt) $
         passed ! refl (tt, (tt, (record { fits = ipsec-room .0 }, tt))) $ passed ! refl (tt, tt) $
@@ -314,18 +307,17 @@ module _ {M : Type 1} (𝓤 : URA M) (H : Heap 𝓤) (A : Atoms 𝓤) (W : Given
         passed ! refl (LL.lawful P.the-type P′.the-laws 𝓤 H A W .typed pair _ pair-is .0) $
         passed ! refl (tt, (tt, (record { fits = source-room .0 }, tt))) $
         passed ! refl (tt, (tt, (record { fits = destination-room .0 }, tt))) $
-        passed ! refl (tt, record { fits = first-fits }) $ passed ! refl
-        (tt, (tt, (record { fits = body-room .0 }, tt))) $ passed ! refl
+        passed ! refl (tt, (tt, (record { fits = cookie-room .0 }, tt))) $
+        passed ! refl (tt, record { fits = check-id-fits }) $ passed ! refl (tt, record { fits = first-fits }) $
+        passed ! refl (tt, (tt, (record { fits = body-room .0 }, tt))) $ passed ! refl
         (tt, (tt, (record { fits = out-room .0 }, tt))) $ pass0 ! $ given-first ! $ move ! (1 ∷ []) $ fsplit ! $
         move ! (1 ∷ []) $ fsplit ! $ move ! (1 ∷ []) $ fsplit ! $ move ! (4 ∷ []) $ split ! $ move ! (1 ∷ []) $
         split ! $ move ! (1 ∷ []) $ split ! $ move ! (6 ∷ 2 ∷ 7 ∷ 3 ∷ 4 ∷ 0 ∷ 1 ∷ 5 ∷ []) $
         -- [the list; its token; the table; its token; the policy; its token; the other tokens; what the other
         -- parameters own; the locals]
-        sets ! (addr ! (behind-part ! refl (sub ! 0 refl (whole !)) (stop !))) refl (tt, tt) $
-        sets ! (agg ! (and-then ! (value ! refl) (and-then ! (part ! refl (sub ! 1 refl (whole !))) (no-more !)))) refl
-        (tt, (tt, (record { fits = ipsec-room .0 }, tt))) $ counts ! fm at-mem run ipsec (known .counts) ipsec-room
-        (λ i j. and-then ! (value ! refl) (no-more !)) $ lands-in ! refl (tt, record { fits = ipsec-room .0 }) $
-        move ! (2 ∷ 3 ∷ []) $ sets ! (addr ! (behind ! refl (stop !))) refl (tt, tt) $
+        counts-read ! fm at-mem run ipsec (known .counts) (λ i. and-then ! (value ! refl) (no-more !)) $
+        lands-in ! refl (tt, record { fits = ipsec-room .0 }) $ move ! (1 ∷ 2 ∷ []) $
+        sets ! (addr ! (behind ! refl (stop !))) refl (tt, tt) $
         finds-ike ! fm at-mem run ike (known .finds) spi spi-fits
         (λ i j. and-then ! (value ! refl) (and-then ! (value ! refl) (no-more !)))
         (λ long place-fits. lands-in ! refl (tt, record { fits = place-fits }) $
@@ -342,11 +334,32 @@ module _ {M : Type 1} (𝓤 : URA M) (H : Heap 𝓤) (A : Atoms 𝓤) (W : Given
         (id⊢ 𝓤 _) (and-then ! (value ! refl) (and-then ! (value ! refl) (and-then ! (value ! refl) (no-more !))))
         looked-vals (LL.tells L.the-type L′.the-laws) looked (λ r ws. id⊢ 𝓤 _)
         (λ looked-is. drop ! $ lands-in ! refl (LL.lawful L.the-type L′.the-laws 𝓤 H A W .typed looked _ looked-is .0) $
-        -- of the other parameters the two NAT values, the body and the output are handed on
-        move ! (7 ∷ []) $ fsplit ! $ drop ! $ fsplit ! $ drop ! $ fsplit ! $ drop ! $ fsplit ! $ move ! (1 ∷ []) $
-        fsplit ! $ move ! (1 ∷ []) $ fsplit ! $ drop ! $ fsplit ! $ move ! (1 ∷ []) $ fsplit ! $ move ! (1 ∷ []) $
-        drop ! $ move ! (3 ∷ 2 ∷ 1 ∷ 0 ∷ 10 ∷ 8 ∷ 9 ∷ []) $ rests ! (En l) 16 refl $
-        answers l long place-fits looked-is))))
+        -- of the other parameters the two NAT values, the cookie, the body and the output are handed on
+        move ! (6 ∷ []) $ fsplit ! $ drop ! $ fsplit ! $ drop ! $ fsplit ! $ drop ! $ fsplit ! $ move ! (1 ∷ []) $
+        fsplit ! $ move ! (1 ∷ []) $ fsplit ! $ move ! (1 ∷ []) $ fsplit ! $ drop ! $ fsplit ! $ drop ! $ fsplit ! $
+        move ! (1 ∷ []) $ fsplit ! $ move ! (1 ∷ []) $ drop ! $
+        -- [the output; the body; the cookie; the two values; the table; its token; the list's; the policy; its token;
+        -- the other tokens; the locals]
+        move ! (10 ∷ []) $ split ! $ move ! (1 ∷ []) $ split ! $ move ! (1 ∷ []) $ split ! $ move ! (2 ∷ 1 ∷ []) $
+        join ! $ move ! (2 ∷ 0 ∷ []) $ join ! $ move ! (4 ∷ 1 ∷ []) $
+        -- [the cookie; its token; the tokens of the strings; the output; the body; the two values; the table; ..]
+        gives ! (u32 ∷ []) (uint-makes 𝓤 H A W w32 & tt) (check-id & tt) (uint-vals w32 check-id & tt)
+        ((refl, check-id-fits) & tt) $
+        calls-for ! fm keeps.ended (keeps.clauses 𝓤 H A at-mem run) (known .keeps) (
+          (
+            (κs .1 .1 .1 .1 .1 .0, tt),
+            (qs .1 .1 .1 .1 .1 .0, tt),
+            tt,
+            (cookie & check-id & tt),
+            (slice-vals cookie & uint-vals w32 check-id & tt),
+          ),
+          tt,
+        ) (id⊢ 𝓤 _) (and-then ! (value ! refl) (and-then ! (value ! refl) (no-more !))) check-vals
+        (LL.tells N.the-type N′.the-laws) check (λ r ws. id⊢ 𝓤 _)
+        (λ check-is. no-token ! $
+        lands-in ! refl (LL.lawful N.the-type N′.the-laws 𝓤 H A W .typed check _ check-is .0) $
+        move ! (5 ∷ 4 ∷ 3 ∷ 2 ∷ 1 ∷ 9 ∷ 10 ∷ 8 ∷ 0 ∷ []) $ rests ! (En l) 19 refl $
+        answers l long place-fits looked-is check-is)))))
 
 pub unmavreth-handle-spec : {M : Type 1} → stated.statement M
 unfolding code.routine tablesOf
@@ -359,8 +372,10 @@ unmavreth-handle-spec 𝓤 H 𝓜 𝓖 𝓡 =
     (λ κs qs bounds a g are. via 𝓤 _ (fst∗ 𝓤 _ (emp 𝓤)) (walk 𝓤 H A W (𝓜 .mem) (𝓡 .run) κs qs (a .0) (a .1 .0)
     (a .1 .1 .0) (a .1 .1 .1 .0) (a .1 .1 .1 .1 .0) (a .1 .1 .1 .1 .1 .0) (a .1 .1 .1 .1 .1 .1 .0)
     (a .1 .1 .1 .1 .1 .1 .1 .0) (a .1 .1 .1 .1 .1 .1 .1 .1 .0) (a .1 .1 .1 .1 .1 .1 .1 .1 .1 .0)
-    (a .1 .1 .1 .1 .1 .1 .1 .1 .1 .1 .0) (are .1 .0 .0 .1) (are .1 .1 .1 .0 .1) (are .1 .1 .1 .1 .0 .1)
+    (a .1 .1 .1 .1 .1 .1 .1 .1 .1 .1 .0) (a .1 .1 .1 .1 .1 .1 .1 .1 .1 .1 .1 .0)
+    (a .1 .1 .1 .1 .1 .1 .1 .1 .1 .1 .1 .1 .0) (are .1 .0 .0 .1) (are .1 .1 .1 .0 .1) (are .1 .1 .1 .1 .0 .1)
     (are .1 .1 .1 .1 .1 .0) (are .1 .1 .1 .1 .1 .1 .0 .0 .1) (are .1 .1 .1 .1 .1 .1 .1 .0 .0 .1)
-    (are .1 .1 .1 .1 .1 .1 .1 .1 .0 .1) (are .1 .1 .1 .1 .1 .1 .1 .1 .1 .0 .0 .1)
-    (are .1 .1 .1 .1 .1 .1 .1 .1 .1 .1 .0 .0 .1) (Ts .C) (Ts .Λ) (fmOf 𝓤 H (W .laws) (tablesOf 𝓤 H 𝓜 Ts))
+    (are .1 .1 .1 .1 .1 .1 .1 .1 .0 .0 .1) (are .1 .1 .1 .1 .1 .1 .1 .1 .1 .0 .1)
+    (are .1 .1 .1 .1 .1 .1 .1 .1 .1 .1 .0 .1) (are .1 .1 .1 .1 .1 .1 .1 .1 .1 .1 .1 .0 .0 .1)
+    (are .1 .1 .1 .1 .1 .1 .1 .1 .1 .1 .1 .1 .0 .0 .1) (Ts .C) (Ts .Λ) (fmOf 𝓤 H (W .laws) (tablesOf 𝓤 H 𝓜 Ts))
     (known 𝓤 H 𝓜 𝓖 𝓡)))

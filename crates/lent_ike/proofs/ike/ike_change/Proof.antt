@@ -22,6 +22,9 @@ use Rattle.address.proofs.pair.Pair as P
 use Rattle.address.proofs.pair.Pair.Laws as P′
 use Rattle.octets.specs.Limits.{ikePlaces}
 use Rattle.records.specs.Records.{noIke}
+use Rattle.records.specs.declared.check.PendingCheck.{PendingCheck}
+use Rattle.records.proofs.check.PendingCheck as K
+use Rattle.records.proofs.check.PendingCheck.Laws as K′
 use Rattle.records.specs.declared.ike.IkeRecord.{IkeRecord}
 use Rattle.records.proofs.ike.IkeRecord as S
 use Rattle.records.proofs.ike.IkeRecord.Laws as S′
@@ -55,7 +58,9 @@ abbrev off : (s : Slot 2) → Stay s yes
 off s = stay-dropped s yes
 
 abbrev stayed : Stays (f.ended .signature .params) (f.ended .kept)
-stayed = stay-ref (0 ∷ []) tt table-slot & off (val usize) & off (val D.the-row) & off (val P.the-row) & off octets & tt
+stayed =
+    stay-ref (0 ∷ []) tt table-slot & off (val usize) & off (val D.the-row) & off (val P.the-row) & off (val K.the-row)
+    & off octets & tt
 
 abbrev answer-vals : CoreAnswer → List Val
 answer-vals = LL.vals D.the-type D′.the-laws
@@ -63,13 +68,16 @@ answer-vals = LL.vals D.the-type D′.the-laws
 abbrev pair-vals : Pair → List Val
 pair-vals = LL.vals P.the-type P′.the-laws
 
-abbrev spelled : (κs : Lfts 2) → Spells (typesAt (f.signature .params) κs)
-spelled κs = (ptr-vals, (uint-vals w64, (answer-vals, (pair-vals, (slice-vals, tt)))))
+abbrev check-vals : PendingCheck → List Val
+check-vals = LL.vals K.the-type K′.the-laws
 
-module _ {M : Type 1} (𝓤 : URA M) (H : Heap 𝓤) (A : Atoms 𝓤) (W : Given 𝓤 H A) (at-mem : Memory → SProp 𝓤) (run : Routine → Fun 𝓤) (κs : Lfts 2) (qs : Shares 2) (x : RefT (List IkeRecord)) (i : ℕ) (c : CoreAnswer) (pair : Pair) (body : RefT (List ℕ))
-    (i-fits : i < 2 ^ 64) (c-is : Is D.the-row c (answer-vals c)) (pair-is : Is P.the-row pair (pair-vals pair)) (room : Room u8 (length (body .now))) where
+abbrev spelled : (κs : Lfts 2) → Spells (typesAt (f.signature .params) κs)
+spelled κs = (ptr-vals, (uint-vals w64, (answer-vals, (pair-vals, (check-vals, (slice-vals, tt))))))
+
+module _ {M : Type 1} (𝓤 : URA M) (H : Heap 𝓤) (A : Atoms 𝓤) (W : Given 𝓤 H A) (at-mem : Memory → SProp 𝓤) (run : Routine → Fun 𝓤) (κs : Lfts 2) (qs : Shares 2) (x : RefT (List IkeRecord)) (i : ℕ) (c : CoreAnswer) (pair : Pair) (check : PendingCheck) (body : RefT (List ℕ))
+    (i-fits : i < 2 ^ 64) (c-is : Is D.the-row c (answer-vals c)) (pair-is : Is P.the-row pair (pair-vals pair)) (check-is : Is K.the-row check (check-vals check)) (room : Room u8 (length (body .now))) where
   abbrev a : Args f.signature κs
-  a = (x, (i, (c, (pair, (body, tt)))))
+  a = (x, (i, (c, (pair, (check, (body, tt))))))
 
   abbrev vals : Vals f.signature κs
   vals = valss (typesAt (f.signature .params) κs) (spelled κs) a
@@ -88,7 +96,7 @@ module _ {M : Type 1} (𝓤 : URA M) (H : Heap 𝓤) (A : Atoms 𝓤) (W : Given
   old = getD (x .now) i noIke
 
   abbrev new : IkeRecord
-  new = changedBy c pair (body .now) old
+  new = changedBy c pair check (body .now) old
 
   -- what is had at exit
   abbrev End : List IkeRecord → List (Item 𝓤)
@@ -96,8 +104,8 @@ module _ {M : Type 1} (𝓤 : URA M) (H : Heap 𝓤) (A : Atoms 𝓤) (W : Given
 
   exits : (zs : List IkeRecord) → zs ≡ set (x .now) i new → ent 𝓤 (⋆ 𝓤 H A (End zs)) (Post vunit)
   exits zs e =
-      qed W (End zs) ∵ suffices ! _ (ends-at 𝓤 H A f.ended stayed (f.clauses 𝓤 H A at-mem run) W ((κs, qs, tt, a, vals), tt) vunit tt (zs, (tt, (tt, (tt, (tt, tt))))) (tt, (tt, (tt, (tt, (tt, tt)))))) $ says ! e $ move ! (2 ∷ 3 ∷ []) $ join ! $
-      frame ! $ feqI ! (List Val) (ptr-vals x) (ptr-vals x) refl $ fjoin3 ! $ nothing ! $ nothing ! $ fjoin ! $ nothing ! $ fjoin ! $ nothing ! $ fjoin ! $ nothing ! $ fjoin ! $ move ! (1 ∷ 0 ∷ []) $ fjoin ! $
+      qed W (End zs) ∵ suffices ! _ (ends-at 𝓤 H A f.ended stayed (f.clauses 𝓤 H A at-mem run) W ((κs, qs, tt, a, vals), tt) vunit tt (zs, (tt, (tt, (tt, (tt, (tt, tt)))))) (tt, (tt, (tt, (tt, (tt, (tt, tt))))))) $ says ! e $ move ! (2 ∷ 3 ∷ []) $ join ! $
+      frame ! $ feqI ! (List Val) (ptr-vals x) (ptr-vals x) refl $ fjoin3 ! $ nothing ! $ nothing ! $ fjoin ! $ nothing ! $ fjoin ! $ nothing ! $ fjoin ! $ nothing ! $ fjoin ! $ nothing ! $ fjoin ! $ move ! (1 ∷ 0 ∷ []) $ fjoin ! $
       feqI ! (List Val) (vunit ∷ []) (vunit ∷ []) refl $ move ! (1 ∷ 0 ∷ []) $ done !
 
   module _ (C : Calls 𝓤 H) (Λ : Loops 𝓤 H) (fm : FmC 𝓤 H (W .laws) C)
@@ -125,11 +133,12 @@ module _ {M : Type 1} (𝓤 : URA M) (H : Heap 𝓤) (A : Atoms 𝓤) (W : Given
         passed ! refl (tt, tt) $ passed ! refl (tt, record { fits = i-fits }) $
         passed ! refl (LL.lawful D.the-type D′.the-laws 𝓤 H A W .typed c _ c-is .0) $
         passed ! refl (LL.lawful P.the-type P′.the-laws 𝓤 H A W .typed pair _ pair-is .0) $
+        passed ! refl (LL.lawful K.the-type K′.the-laws 𝓤 H A W .typed check _ check-is .0) $
         passed ! refl (tt, (tt, (record { fits = room .0 }, tt))) $ pass0 ! $
         given-first ! $ sets ! (bin ! (value ! refl) (lit ! tt) tt) refl (tt, tt) $
         -- the borrow is opened: [obs; the borrow; its token; the body's token; what the body owns; the locals]
         split ! $ move ! (2 ∷ []) $ fsplit ! $ fsplit3 ! $ drop ! $ move ! (2 ∷ []) $ fsplit ! $ drop ! $ fsplit ! $
-        drop ! $ fsplit ! $
+        drop ! $ fsplit ! $ drop ! $ fsplit ! $
         drop ! $ move ! (1 ∷ 2 ∷ 3 ∷ 4 ∷ 0 ∷ []) $ opens-array ! tt R tt ikePlaces (x .now) b o (λ long. first ! $
         branches ! (value ! refl)
         (λ less. record-out ! fullShare (x .now) i b o (within i (x .now) long less) (λ was. move ! (1 ∷ []) $ drop ! $
@@ -140,7 +149,8 @@ module _ {M : Type 1} (𝓤 : URA M) (H : Heap 𝓤) (A : Atoms 𝓤) (W : Given
         sets ! (so ! (lies-at R b o i) (bin ! (value ! refl) (value ! refl) tt)) refl (tt, tt) $
         sets ! (of-opd ! (load ! (behind ! refl (stop !)) (look-raw ! 0 refl))) refl (typed W old was) $
         sets ! (of-opd ! (value ! refl)) refl (typed W old was) $
-        move ! (6 ∷ []) $ owned ! P.the-row (Is P.the-row) (LL.makes P.the-type P′.the-plain 𝓤 H A) pair _ pair-is $
+        move ! (6 ∷ []) $ owned ! K.the-row (Is K.the-row) (LL.makes K.the-type K′.the-plain 𝓤 H A) check _ check-is $
+        fjoin ! $ owned ! P.the-row (Is P.the-row) (LL.makes P.the-type P′.the-plain 𝓤 H A) pair _ pair-is $
         fjoin ! $
         owned ! D.the-row (Is D.the-row) (LL.makes D.the-type D′.the-plain 𝓤 H A) c _ c-is $ fjoin ! $
         owned ! R (Is R) (LL.makes S.the-type S′.the-plain 𝓤 H A) old _ was $ fjoin ! $ move ! (6 ∷ []) $
@@ -149,13 +159,13 @@ module _ {M : Type 1} (𝓤 : URA M) (H : Heap 𝓤) (A : Atoms 𝓤) (W : Given
             κs .1,
             qs .1,
             tt,
-            (old, (c, (pair, (body, tt)))),
-            (rec-vals old, (answer-vals c, (pair-vals pair, (slice-vals body, tt)))),
+            (old, (c, (pair, (check, (body, tt))))),
+            (rec-vals old, (answer-vals c, (pair-vals pair, (check-vals check, (slice-vals body, tt))))),
           ),
           tt,
         ) (id⊢ 𝓤 _)
         (and-then ! (value ! refl) (and-then ! (value ! refl) (and-then ! (value ! refl) (and-then ! (value ! refl)
-        (no-more !)))))
+        (and-then ! (value ! refl) (no-more !))))))
         rec-vals (LL.tells S.the-type S′.the-laws) new (λ r ws. id⊢ 𝓤 _) (λ new-is.
         -- [the body's token; records[i]; the others; the open borrow; obs; auth; the locals]
         lands-over ! refl (typed W new new-is) $
@@ -181,8 +191,8 @@ ike-change-spec 𝓤 H 𝓜 𝓖 𝓡 =
     let 𝓣 = tablesOf 𝓤 H 𝓜 (tables 𝓤 H 𝓜 𝓡 code.env) in
     let no = goes-dropped 𝓤 H A W 2 in
     closes 𝓤 H 𝓜 𝓖 𝓡 code.env key.name code.function (code.unfolded 𝓤 H 𝓜 𝓡) f.ended stayed (f.clauses 𝓤 H A (𝓜 .mem) (𝓡 .run))
-    (goes-ref 𝓤 H A W 2 0 tt table-slot & no (val usize) yes (λ κs x f. refl) & no (val D.the-row) yes (λ κs x f. refl) & no (val P.the-row) yes (λ κs x f. refl) & no octets yes (λ κs x f. refl) & tt) spelled
-    (λ κs. mut-tells (named 0) (κs .0) Q & uint-tells w64 & LL.tells D.the-type D′.the-laws & LL.tells P.the-type P′.the-laws & shr-slice-tells (named 1) (κs .1 .0) u8 & tt)
+    (goes-ref 𝓤 H A W 2 0 tt table-slot & no (val usize) yes (λ κs x f. refl) & no (val D.the-row) yes (λ κs x f. refl) & no (val P.the-row) yes (λ κs x f. refl) & no (val K.the-row) yes (λ κs x f. refl) & no octets yes (λ κs x f. refl) & tt) spelled
+    (λ κs. mut-tells (named 0) (κs .0) Q & uint-tells w64 & LL.tells D.the-type D′.the-laws & LL.tells P.the-type P′.the-laws & LL.tells K.the-type K′.the-laws & shr-slice-tells (named 1) (κs .1 .0) u8 & tt)
     (λ κs qs bounds a g are. via 𝓤 _ (fst∗ 𝓤 _ (emp 𝓤))
-    (walk 𝓤 H A W (𝓜 .mem) (𝓡 .run) κs qs (a .0) (a .1 .0) (a .1 .1 .0) (a .1 .1 .1 .0) (a .1 .1 .1 .1 .0) (are .1 .0 .1) (are .1 .1 .0) (are .1 .1 .1 .0) (are .1 .1 .1 .1 .0 .0 .1) (𝓣 .C) (𝓣 .Λ) (fmOf 𝓤 H (W .laws) 𝓣)
+    (walk 𝓤 H A W (𝓜 .mem) (𝓡 .run) κs qs (a .0) (a .1 .0) (a .1 .1 .0) (a .1 .1 .1 .0) (a .1 .1 .1 .1 .0) (a .1 .1 .1 .1 .1 .0) (are .1 .0 .1) (are .1 .1 .0) (are .1 .1 .1 .0) (are .1 .1 .1 .1 .0) (are .1 .1 .1 .1 .1 .0 .0 .1) (𝓣 .C) (𝓣 .Λ) (fmOf 𝓤 H (W .laws) 𝓣)
     (cited 𝓤 H (Told 𝓤 H A change.ended (change.clauses 𝓤 H A (𝓜 .mem) (𝓡 .run))) 𝓜 𝓡 code.env change-def.name change-def.routine code.calls-replying·change·changed (change-thm.met 𝓤 H 𝓜 𝓖 𝓡))))

@@ -1,4 +1,5 @@
--- `lent_owned::owned::follow_if` meets its contract: a walk of its MIR, by hand. Where the owner moved the slice goes to `follow_all` for good, which is known by its contract alone; else it is given up at the list passed.
+-- `lent_owned::owned::follow_if` meets its contract: a walk of its MIR, by hand. Where the records follow, the slice goes
+-- to `follow_all` for good, which is known by its contract alone; else it is given up at the list passed.
 -- Assumes nothing.
 use Rattle.walks.proofs.Kit.{_≡_, refl, _∙_, ℕ, _<_, _^_, Bool, cond, [], _∷_, List, map, length, URA, named, w64, Val}
 use Rattle.walks.proofs.Kit.{vunit, vbool, vint, SProp, ent, emp, via, id⊢, fst∗, Lft, Share, flft, Memory, Routine}

@@ -28,7 +28,7 @@ const PAIR: Field = Each(&[Family, Address, Address, Number, Number]);
 const RULE: &[Field] = &[Family, Address, Address, Number, Number];
 
 /// The word, the kind and the fields of each call.
-pub const CALLS: [(&str, Kind, &[Field]); 6] = [
+pub const CALLS: [(&str, Kind, &[Field]); 7] = [
     // SPI, MOBIKE agreed, pair, IPsec SPI
     ("open", Kind::OpenBoth, &[Number, Number, PAIR, Number]),
     // SPI, owner's SPI
@@ -37,10 +37,16 @@ pub const CALLS: [(&str, Kind, &[Field]); 6] = [
     ("close", Kind::CloseIke, &[Number]),
     // SPI
     ("close-ipsec", Kind::CloseIpsec, &[Number]),
-    // SPI, message ID, pair, both NAT values, first type, body
-    ("request", Kind::Request, &[Number, Number, PAIR, String, String, Number, String]),
+    // SPI, message ID, pair, both NAT values, first type, body, cookie and message ID of a check
+    (
+        "request",
+        Kind::Request,
+        &[Number, Number, PAIR, String, String, Number, String, String, Number],
+    ),
     // rules
     ("policy", Kind::Policy, &[List(RULE)]),
+    // SPI, message ID, first type, body
+    ("check-response", Kind::CheckResponse, &[Number, Number, Number, String]),
 ];
 
 /// How many slots these fields have.

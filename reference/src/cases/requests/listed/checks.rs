@@ -12,7 +12,7 @@ use crate::tables::IKE_PLACES;
 use std::rc::Rc;
 
 pub fn all() -> Vec<Case> {
-    [together(), pairs(), lent_values(), outputs(), listed_chains()].concat()
+    [together(), pairs(), lent_values(), lent_cookies(), outputs(), listed_chains()].concat()
 }
 
 /// An argument that is passed or fails its checks.
@@ -42,6 +42,7 @@ fn choices() -> Vec<Vec<Choice>> {
         vec![on_request(|_| {}), on_request(|request| request.pair.family = 5)],
         vec![on_request(|_| {}), on_request(|request| request.nat_source.truncate(19))],
         vec![on_request(|_| {}), on_request(|request| request.nat_destination.push(0))],
+        vec![on_request(|_| {}), on_request(|request| request.cookie.truncate(7))],
         vec![on_request(|_| {}), on_request(|request| request.output.truncate(127))],
         vec![
             on_request(|_| {}),
@@ -96,6 +97,17 @@ fn lent_values() -> Vec<Case> {
             let destination = Request { nat_destination: value.clone(), ..request.clone() };
             let both = Request { nat_source: value.clone(), nat_destination: value, ..request };
             cases.extend([source, destination, both].map(case));
+        }
+    }
+    cases
+}
+
+/// Lent cookies of all lengths about those allowed, with every effect.
+fn lent_cookies() -> Vec<Case> {
+    let mut cases = Vec::new();
+    for length in (0..=70).chain([128, 255, 256, 264, 300, 320, 65_536 + 8, 65_536 + 64]) {
+        for request in setting::each_effect() {
+            cases.push(case(Request { cookie: setting::lent_cookie(length), ..request }));
         }
     }
     cases

@@ -6,6 +6,7 @@ mod lengths;
 mod lists;
 mod marks;
 mod no_nats;
+mod pending;
 mod records;
 pub(in crate::cases) mod responses;
 mod rows;
@@ -25,6 +26,7 @@ pub fn all() -> Vec<Case> {
         responses::all(),
         keepalives::all(),
         records::all(),
+        pending::all(),
         lengths::all(),
         agreements::all(),
     ]

@@ -16,6 +16,14 @@ pub const PLACE: usize = 1;
 pub const MARKED_ID: u32 = 5;
 pub const NEW_ID: u32 = 6;
 
+/// The ID of our request, other than the one that the record has kept.
+pub const CHECK_ID: u32 = 0x0102_0304;
+
+/// A cookie to keep, of so many octets.
+pub fn lent_cookie(length: usize) -> Vec<u8> {
+    (0..length).map(|place| 0xa0 ^ place as u8).collect()
+}
+
 pub fn spi() -> u64 {
     spis::ike(PLACE)
 }
@@ -70,6 +78,8 @@ pub fn request(payloads: &[Draft]) -> Request {
         pair: packet(6),
         nat_source: (0x20..0x34).collect(),
         nat_destination: (0x60..0x74).collect(),
+        cookie: lent_cookie(11),
+        check_id: CHECK_ID,
         first: chain.first,
         body: chain.body,
         output: (0..=255).chain(0..44).collect(),

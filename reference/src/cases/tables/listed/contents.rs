@@ -5,6 +5,7 @@ use crate::address::{Address, AddressPair};
 use crate::agreed::Agreed;
 use crate::calls::Call;
 use crate::opening_both::Opening;
+use crate::pending::PendingCheck;
 use crate::policy::{Policy, Rule};
 use crate::tables::{
     IkeRecord, IkeTable, IpsecRecord, IpsecTable, Tables, IKE_PLACES, IPSEC_PLACES,
@@ -55,7 +56,14 @@ pub fn ike_record(place: usize, spi: u64) -> IkeRecord {
         count: 1 + place as u16,
         addresses: array::from_fn(address),
         unknown: u32::MAX - place as u32,
+        check: pending(place),
     }
+}
+
+/// A check with a cookie of an allowed length, and octets other than 0 past it.
+fn pending(place: usize) -> PendingCheck {
+    let octet = |at: usize| (5 * place + at + 1) as u8 | 1;
+    PendingCheck { length: (8 + place) as u8, octets: array::from_fn(octet), id: 1 + place as u32 }
 }
 
 pub fn ipsec_record(place: usize, spi: u32, owner: u64) -> IpsecRecord {

@@ -1,0 +1,67 @@
+-- Responses to checks keep tables well-formed.
+use Prim.Native.Nat.{ℕ}
+use mathlib.Core.Path.{_≡_, refl, sym, _∙_}
+use mathlib.Core.Bool.{true}
+use lib.Dec.{eqb}
+use Rattle.octets.proofs.Small.{chosen}
+use Rattle.octets.proofs.Places.{place-has}
+use Rattle.address.specs.Address.{pairFits}
+use Rattle.address.specs.declared.pair.Pair.{Pair}
+use Rattle.records.specs.Records.{ikeSpi, noIke, newIpsec, follows, unchecked}
+use Rattle.records.specs.declared.ipsec.IpsecRecord.{IpsecRecord}
+use Rattle.tables.specs.Tables.{Tables, tables}
+use Rattle.routability.specs.Routability.{CheckResponse, afterResponse}
+use Rattle.routability.proofs.Laws.{place, entry, ended, Comes, Way, refused, closed, accepted, failed, way}
+use Rattle.reached.specs.WellFormed.{IkeBounds, IpsecBounds, WellFormed}
+use Rattle.reached.specs.Reached.{checks, afterCall}
+use Rattle.reached.proofs.Checks.{none-bounds}
+use Rattle.reached.proofs.Closes.{closed-well}
+use Rattle.reached.proofs.Stored.{Keeps, ike-changed, ipsec-changed}
+
+-- an IPsec record that follows keeps its SPI and its owner
+follows-keeps : {B : Type 0} (f : IpsecRecord → B) (o : ℕ) (p : Pair) (r : IpsecRecord)
+    → f (newIpsec (r .spi) (r .owner) p) ≡ f r → f (follows o p r) ≡ f r
+follows-keeps f o p r e =
+    chosen (λ (x : IpsecRecord). f x ≡ f r) (eqb (r .spi) 0) (λ z. refl)
+    (λ z. chosen (λ (x : IpsecRecord). f x ≡ f r) (eqb (r .owner) o) (λ g. e) (λ g. refl))
+
+follows-bounds : (o : ℕ) (p : Pair) (r : IpsecRecord) → pairFits p ≡ true → IpsecBounds r → IpsecBounds (follows o p r)
+follows-bounds o p r e b =
+    chosen IpsecBounds (eqb (r .spi) 0) (λ z. b)
+    (λ z. chosen IpsecBounds (eqb (r .owner) o) (λ g. record { pair = e }) (λ g. b))
+
+module _ (q : CheckResponse) (t : Tables) (w : WellFormed t) where
+  module _ {s : Tables} (c : Comes t q s) where
+    named : entry t q .spi ≡ 0 → ⊥
+    named z = c .named (sym (place-has ikeSpi (q .spi) (t .ike) noIke (c .there)) ∙ z)
+
+    held : IkeBounds (entry t q)
+    held = w .ikes .bounded (place t q) (c .there) named
+
+    check-ended : WellFormed (tables (ended t q) (t .ipsec))
+    check-ended =
+        ike-changed t w (place t q) (unchecked (entry t q)) (c .there) named refl
+        (record {
+          pair = held .pair;
+          update-mark = held .update-mark;
+          list-mark = held .list-mark;
+          count = held .count;
+          families = held .families;
+          tally = held .tally;
+          check = none-bounds;
+        })
+
+  kept : Way t q → WellFormed (afterResponse q t)
+  kept (refused e) = rw e w
+  kept (closed o c) = rw (c .is) (closed-well t w (q .spi) (c .there))
+  kept (accepted o c) =
+      let p = entry t q .pair in
+      rw (c .is) (ipsec-changed (tables (ended t q) (t .ipsec)) (check-ended c) (follows (q .spi) p)
+      (λ r. follows-keeps (λ (x : IpsecRecord). x .spi) (q .spi) p r refl)
+      (λ r. follows-keeps (λ (x : IpsecRecord). x .owner) (q .spi) p r refl) refl
+      (λ r. follows-bounds (q .spi) p r (held c .pair)))
+  kept (failed c) = rw (c .is) (check-ended c)
+
+pub checks-keeps : (q : CheckResponse) → Keeps (λ (t : Tables). afterCall t (checks q))
+unfolding afterCall
+checks-keeps q t w = kept q t w (way t q)

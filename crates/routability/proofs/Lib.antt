@@ -1,0 +1,4 @@
+-- Laws that belong to no one function.
+pub mod Passed
+pub mod Ended
+pub mod Laws

@@ -1,0 +1,61 @@
+-- `routability::response::early_response` meets its contract: where it returns, the checks before have passed and the
+-- one at hand has failed.
+-- Assumes nothing.
+use borrow.Author.Needs.{needs}
+use borrow.Author.Tests.{eq-eqb, ne-eqb, lt-ltb, le-ltb, not-true, not-false}
+use mathlib.Core.Path.{sym, _∙_}
+use Rattle.routability.specs.Routability.{earlyResponse}
+use Rattle.routability.proofs.response.early_response.Statement.{statement}
+use Rattle.routability.proofs.response.early_response.Tie as tie
+
+pub early-response-spec : {M : Type 1} → statement M
+unfolding earlyResponse
+early-response-spec =
+    tie.close
+    (tie.spec
+    (λ c. rw (ne-eqb _ _ (c .if1 .taken)))
+    (λ c. rw (eq-eqb _ _ (c .before .if1 .left), eq-eqb _ _ (c .if2 .taken)))
+    (λ c. rw (
+      eq-eqb _ _ (c .before .before .if1 .left),
+      ne-eqb _ _ (c .before .if2 .left),
+      lt-ltb _ _ (c .if3 .taken),
+    ))
+    (λ c. rw (
+      eq-eqb _ _ (c .before .before .before .if1 .left),
+      ne-eqb _ _ (c .before .before .if2 .left),
+      le-ltb _ _ (c .before .if3 .left),
+      le-ltb _ _ (c .if4 .taken),
+    ))
+    (λ c κs. search needs)
+    (λ c.
+    let here = c .before .before in
+    rw (
+      eq-eqb _ _ (here .before .before .before .if1 .left),
+      ne-eqb _ _ (here .before .before .if2 .left),
+      le-ltb _ _ (here .before .if3 .left),
+      lt-ltb _ _ (here .if4 .left),
+      sym (c .before .is-yes .ensures) ∙ not-true _ (c .if5 .taken),
+    ))
+    (λ c κs. search needs)
+    (λ c.
+    let agreed = c .before .before in
+    let here = agreed .before .before in
+    rw (
+      eq-eqb _ _ (here .before .before .before .if1 .left),
+      ne-eqb _ _ (here .before .before .if2 .left),
+      le-ltb _ _ (here .before .if3 .left),
+      lt-ltb _ _ (here .if4 .left),
+      sym (agreed .before .is-yes .ensures) ∙ not-false _ (agreed .if5 .left),
+      sym (c .before .is-pending-for .ensures) ∙ c .if6 .taken,
+    ))
+    (λ c.
+    let agreed = c .before .before in
+    let here = agreed .before .before in
+    rw (
+      eq-eqb _ _ (here .before .before .before .if1 .left),
+      ne-eqb _ _ (here .before .before .if2 .left),
+      le-ltb _ _ (here .before .if3 .left),
+      lt-ltb _ _ (here .if4 .left),
+      sym (agreed .before .is-yes .ensures) ∙ not-false _ (agreed .if5 .left),
+      sym (c .before .is-pending-for .ensures) ∙ c .if6 .left,
+    )))

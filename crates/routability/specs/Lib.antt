@@ -1,0 +1,2 @@
+pub mod Routability
+pub mod Ending

@@ -1,0 +1,2 @@
+// The response to a return routability check: what it comes to, and what it changes.
+pub mod response;
