@@ -1,5 +1,5 @@
 // Tests that the lean baseline tells the same as the library on far more inputs than the rows'.
-use crate::job::{draft, Asking, Checking, Handling, Job, OpeningBoth};
+use crate::job::{draft, Asking, Checking, Deciding, Handling, Job, OpeningBoth};
 use crate::rows;
 use crate::side::Side;
 use unmavreth::{Address, Draft, Pair, Rule};
@@ -196,6 +196,36 @@ fn of_drafts() {
             of.pair = if set(5) { Pair::ipv6(([5; 16], 1), ([6; 16], 2)) } else { of.pair };
             of.addresses[1] = addresses[place % 2];
             alike(&Job::Write(Box::new(of)));
+        }
+    }
+}
+
+/// Every exchange, data cut, run on and with each octet changed, nonces sent of other sizes, and records of any
+/// count with times before, now and later.
+#[test]
+fn of_redirects() {
+    for (exchange, since) in (0..=6).flat_map(|of| [0, 1, 299, 300, 301].map(|since| (of, since))) {
+        let of = || Deciding { exchange: u8::into(exchange), ..Deciding::after(since) };
+        for length in 0..=of().data.len() {
+            let data = of().data[..length].to_vec();
+            alike(&Job::Decide(Box::new(Deciding { data, ..of() })));
+        }
+        for (at, octet) in (0..of().data.len()).flat_map(|at| [0, 2, 3, 9, 16].map(|to| (at, to))) {
+            let mut changed = of();
+            changed.data[at] = octet;
+            alike(&Job::Decide(Box::new(changed)));
+        }
+        for size in [0, 15, 16, 31, 33, 256, 257] {
+            let (sent, data) = (vec![7; size], [&[1, 4, 1, 2, 3, 4], &vec![7; size][..]].concat());
+            alike(&Job::Decide(Box::new(Deciding { sent, data, ..of() })));
+        }
+        for (count, time) in (0..=7).flat_map(|of| [0, 998, 999, u64::MAX].map(|at| (of, at))) {
+            for length in [6, of().data.len()] {
+                let mut changed = Deciding { time, ..of() };
+                changed.record.count = count;
+                changed.data.truncate(length);
+                alike(&Job::Decide(Box::new(changed)));
+            }
         }
     }
 }

@@ -1,7 +1,7 @@
 // A row's call on the lean baseline: once uncounted, once counted on state of its own.
 use crate::chains::COOKIE;
 use crate::counted::*;
-use crate::job::{Checking, Handling, Job, OpeningBoth};
+use crate::job::{Checking, Deciding, Handling, Job, OpeningBoth};
 use crate::lean::{self, Assessment, Reading, Reply, Written};
 use crate::ours::{Lent, BEFORE};
 use crate::told::Told;
@@ -15,6 +15,7 @@ pub fn told(job: &Job) -> Told {
         Job::Handle(handling) => handled(handling, false),
         Job::Check(checking) => checked(checking, false),
         Job::Open(opening) => opened(opening, false),
+        Job::Decide(of) => decided(of, false),
         Job::Write(draft) => write(draft, false),
         Job::Assess { first, body } => assessed(body, &lean::assess(&COOKIE, *first, body)),
         Job::Acceptable(of) => Told::accepted(lean::acceptable(&of.policy, &of.pair)),
@@ -29,6 +30,7 @@ pub fn counted(job: &Job) -> Told {
         Job::Handle(handling) => handled(handling, true),
         Job::Check(checking) => checked(checking, true),
         Job::Open(opening) => opened(opening, true),
+        Job::Decide(of) => decided(of, true),
         Job::Write(draft) => write(draft, true),
         Job::Assess { first, body } => assessed(
             body,
@@ -62,6 +64,19 @@ fn handled(handling: &Handling, count: bool) -> Told {
     let cookie = part(&handling.body, reply.cookie, reply.cookie_len);
     let octets = vec![cookie, lent.out[..handling.room].to_vec()];
     Told { fields: replied(&reply), octets, tables: Some(lent.tables()) }
+}
+
+fn decided(of: &Deciding, count: bool) -> Told {
+    let mut record = of.record;
+    let call = if count { counted_lean_decide } else { lean::decide };
+    let told = black_box(call(
+        black_box(&mut record),
+        black_box(of.exchange.into()),
+        black_box(&of.sent),
+        black_box(of.time),
+        black_box(&of.data),
+    ));
+    Told::decided(told.number, told.identity_type, [told.identity, told.nonce], &record)
 }
 
 fn checked(checking: &Checking, count: bool) -> Told {

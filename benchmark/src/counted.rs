@@ -11,17 +11,20 @@ use reference::reply::Handled;
 use reference::rules::{Plain, PolicyRules};
 use reference::tables::Tables;
 use std::hint::black_box;
+use unmavreth::redirect::{Exchange, Redirect, Redirects};
 use unmavreth::{
     Assessment, CheckResponse, Draft, IkeRecord, IpsecRecord, Number, Opening, Pair, Policy,
     Reading, Reply, Request, Written,
 };
 
 /// The names that callgrind is told. With a wrong one nothing is counted, which is an error.
-pub const NAMES: [&str; 22] = [
+pub const NAMES: [&str; 24] = [
     "counted_ours_read",
     "counted_ours_handle",
     "counted_ours_check",
     "counted_ours_open",
+    "counted_ours_decide",
+    "counted_lean_decide",
     "counted_ours_write",
     "counted_ours_assess",
     "counted_ours_acceptable",
@@ -86,6 +89,34 @@ pub fn counted_ours_open(
     let number = unmavreth::open(ike, ipsec, opening);
     black_box(&number);
     number
+}
+
+#[inline(never)]
+#[no_mangle]
+pub fn counted_ours_decide<'a>(
+    record: &mut Redirects,
+    exchange: Exchange,
+    sent: &[u8],
+    time: u64,
+    data: &'a [u8],
+) -> Result<Redirect<'a>, Number> {
+    let decided = unmavreth::redirect::decide(record, exchange, sent, time, data);
+    black_box(&decided);
+    decided
+}
+
+#[inline(never)]
+#[no_mangle]
+pub fn counted_lean_decide<'a>(
+    record: &mut Redirects,
+    exchange: u8,
+    sent: &[u8],
+    time: u64,
+    data: &'a [u8],
+) -> lean::Decision<'a> {
+    let decided = lean::decide(record, exchange, sent, time, data);
+    black_box(&decided);
+    decided
 }
 
 #[inline(never)]

@@ -1,5 +1,6 @@
 // What a row's call is given, on either side.
 use crate::chains::{self, CHECK_COOKIE, COOKIE, NAT_DESTINATION, NAT_SOURCE, NOTIFY};
+use unmavreth::redirect::{Exchange, Redirects};
 use unmavreth::trace::Entry;
 use unmavreth::{
     Address, Agreed, Ask, CheckResponse, Draft, Effect, Flag, Gateway, Number, Opening, Pair,
@@ -11,6 +12,7 @@ pub enum Job {
     Handle(Box<Handling>),
     Check(Box<Checking>),
     Open(Box<OpeningBoth>),
+    Decide(Box<Deciding>),
     Write(Box<Draft<'static>>),
     Assess { first: u8, body: Vec<u8> },
     Acceptable(Box<Asking>),
@@ -20,6 +22,15 @@ pub enum Job {
 pub struct Asking {
     pub policy: Policy,
     pub pair: Pair,
+}
+
+/// A REDIRECT, with the client's record that is lent for it.
+pub struct Deciding {
+    pub record: Redirects,
+    pub exchange: Exchange,
+    pub sent: Vec<u8>,
+    pub time: u64,
+    pub data: Vec<u8>,
 }
 
 /// A request, with the tables and the output that are lent for it.
@@ -127,6 +138,18 @@ impl OpeningBoth {
     /// Of SPIs that no record has.
     pub fn on_full() -> Self {
         OpeningBoth { gateway: full(128), opening: opening(OTHER, 81) }
+    }
+}
+
+impl Deciding {
+    /// A REDIRECT to an IPv4 address with the nonce of 32 octets that was sent, in IKE_SA_INIT, a second
+    /// after the last of five accepted ones, the first of which was `since` seconds before.
+    pub fn after(since: u64) -> Self {
+        let sent: Vec<u8> = (1..=32).collect();
+        let data = [&[1, 4, 192, 0, 2, 2], &sent[..]].concat();
+        let time = 1000;
+        let record = Redirects { count: 5, times: [time - since, 998, 998, 999, 999] };
+        Deciding { record, exchange: Exchange::SaInit, sent, time, data }
     }
 }
 

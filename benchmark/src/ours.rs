@@ -2,10 +2,11 @@
 use crate::chains::COOKIE;
 use crate::convert;
 use crate::counted::*;
-use crate::job::{Checking, Handling, Job, OpeningBoth};
+use crate::job::{Checking, Deciding, Handling, Job, OpeningBoth};
 use crate::told::Told;
 use reference::tables::Tables;
 use std::hint::black_box;
+use unmavreth::redirect::Identity;
 use unmavreth::{
     Assessment, Draft, Gateway, IkeRecord, IpsecRecord, Policy, Reading, Reply, Written,
 };
@@ -20,6 +21,7 @@ pub fn told(job: &Job) -> Told {
         Job::Handle(handling) => handled(handling, false),
         Job::Check(checking) => checked(checking, false),
         Job::Open(opening) => opened(opening, false),
+        Job::Decide(of) => decided(of, false),
         Job::Write(draft) => {
             let mut out = vec![BEFORE; 564];
             let told = unmavreth::write(draft, &mut out);
@@ -40,6 +42,7 @@ pub fn counted(job: &Job) -> Told {
         Job::Handle(handling) => handled(handling, true),
         Job::Check(checking) => checked(checking, true),
         Job::Open(opening) => opened(opening, true),
+        Job::Decide(of) => decided(of, true),
         Job::Write(draft) => count_write(draft),
         Job::Assess { first, body } => assessed(
             body,
@@ -115,6 +118,25 @@ fn opened(opening: &OpeningBoth, count: bool) -> Told {
     ));
     let fields = vec![("number", u8::from(number).into())];
     Told { fields, octets: vec![], tables: Some(lent.tables()) }
+}
+
+fn decided(of: &Deciding, count: bool) -> Told {
+    let mut record = of.record;
+    let call = if count { counted_ours_decide } else { unmavreth::redirect::decide };
+    let told = black_box(call(
+        black_box(&mut record),
+        black_box(of.exchange),
+        black_box(&of.sent),
+        black_box(of.time),
+        black_box(&of.data),
+    ));
+    match told {
+        Ok(told) => {
+            let Identity { identity_type, octets } = told.identity;
+            Told::decided(0, identity_type, [octets, told.nonce], &record)
+        }
+        Err(number) => Told::decided(number.into(), 0, [&[], &[]], &record),
+    }
 }
 
 fn replied(reply: &Reply) -> Vec<(&'static str, u64)> {

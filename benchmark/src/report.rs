@@ -23,7 +23,8 @@ processor or C library may copy octets in other steps.
 
 pub fn tables(figures: &[Figure]) -> String {
     let growth = [by_octets(figures), by_records(figures)];
-    [calls(figures), policy(figures), peers(figures), growth.join("\n")].join("\n")
+    let parts = [calls(figures), redirects(figures), policy(figures), peers(figures)];
+    [parts.join("\n"), growth.join("\n")].join("\n")
 }
 
 fn calls(figures: &[Figure]) -> String {
@@ -32,6 +33,17 @@ fn calls(figures: &[Figure]) -> String {
     for of in figures.iter().filter(|of| of.row.kind == Kind::Call) {
         let [ours, lean, second] = [of.ours, of.lean, of.second].map(grouped);
         line(&mut text, &[of.row.title, &ours, &lean, &ratio(of.ours, of.lean), &second]);
+    }
+    text
+}
+
+fn redirects(figures: &[Figure]) -> String {
+    let mut text =
+        "One decision on a REDIRECT, which the second program does not make here:\n\n".to_string();
+    text += "| Decision | Ours | Lean | Ours / lean |\n|---|---:|---:|---:|\n";
+    for of in figures.iter().filter(|of| of.row.kind == Kind::Redirect) {
+        let [ours, lean] = [of.ours, of.lean].map(grouped);
+        line(&mut text, &[of.row.title, &ours, &lean, &ratio(of.ours, of.lean)]);
     }
     text
 }

@@ -1,6 +1,6 @@
 // The rows: which call each counts, on what, and what it must tell.
 use crate::chains::{self, NOTIFY, SKIPPED};
-use crate::job::{draft, Asking, Checking, Handling, Job, OpeningBoth, ELSEWHERE};
+use crate::job::{draft, Asking, Checking, Deciding, Handling, Job, OpeningBoth, ELSEWHERE};
 use unmavreth::Flag;
 
 /// In which table a row stands.
@@ -13,6 +13,8 @@ pub enum Kind {
     ByRecords(u64),
     /// A check of the policy, beside one bit by bit.
     Policy,
+    /// A decision on a REDIRECT, which the second program does not make.
+    Redirect,
 }
 
 /// Fields by name, with the values that they must have.
@@ -37,6 +39,7 @@ pub fn all() -> Vec<Row> {
     rows.extend(full_tables());
     rows.extend(refusals());
     rows.extend(openings());
+    rows.extend(redirects());
     rows.extend(initiator());
     rows.extend([256, 512, 1024, 2048, 4096].map(by_octets));
     rows.extend([0, 32, 64, 128].map(by_records));
@@ -159,6 +162,22 @@ fn openings() -> Vec<Row> {
         row("opened", opened, empty, &[("number", 0)]),
         row("opened-full", "the same, refused 10: full tables", full, &[("number", 10)]),
     ]
+}
+
+fn redirects() -> [Row; 2] {
+    let deciding = |since| move || Job::Decide(Box::new(Deciding::after(since)));
+    let accepted = "a REDIRECT with a nonce of 32 octets, the sixth after 300 seconds, accepted";
+    let refused = "the same, refused 34: the sixth within 300 seconds";
+    [
+        row(
+            "redirect",
+            accepted,
+            deciding(300),
+            &[("number", 0), ("identity_type", 1), ("count", 5)],
+        ),
+        row("redirect-34", refused, deciding(299), &[("number", 34), ("count", 5)]),
+    ]
+    .map(|row| Row { kind: Kind::Redirect, ..row })
 }
 
 fn initiator() -> Vec<Row> {

@@ -15,13 +15,14 @@ use reference::rules::{Plain, PolicyRules};
 use reference::writer::Written;
 use std::hint::black_box;
 
-/// The uncounted call alone.
-pub fn told(job: &Job) -> Told {
-    match job {
+/// The uncounted call alone; of a decision on a redirect it tells nothing.
+pub fn told(job: &Job) -> Option<Told> {
+    Some(match job {
         Job::Read { first, body } => reading(body, &reference::reader::read(*first, body, &Plain)),
         Job::Handle(handling) => handled(handling, false),
         Job::Check(checking) => checked(checking, false),
         Job::Open(opening) => opened(opening, false),
+        Job::Decide(_) => return None,
         Job::Write(draft) => written(reference::writer::write(&arguments(draft), &Plain)),
         Job::Assess { first, body } => {
             assessed(reference::assess::assess(&COOKIE, *first, body, &Plain))
@@ -30,13 +31,13 @@ pub fn told(job: &Job) -> Told {
             let (policy, pair) = (convert::policy(&of.policy), convert::pair(&of.pair));
             Told::accepted(Plain.accepts(&policy, &pair))
         }
-    }
+    })
 }
 
 /// A first call warms what is set up once; then comes the counted one.
-pub fn counted(job: &Job) -> Told {
-    black_box(told(job));
-    match job {
+pub fn counted(job: &Job) -> Option<Told> {
+    black_box(told(job)?);
+    Some(match job {
         Job::Read { first, body } => {
             let (first, body) = (black_box(*first), black_box(&body[..]));
             reading(body, &black_box(counted_second_read(first, body)))
@@ -44,6 +45,7 @@ pub fn counted(job: &Job) -> Told {
         Job::Handle(handling) => handled(handling, true),
         Job::Check(checking) => checked(checking, true),
         Job::Open(opening) => opened(opening, true),
+        Job::Decide(_) => return None,
         Job::Write(draft) => {
             let arguments = arguments(draft);
             written(black_box(counted_second_write(black_box(&arguments))))
@@ -60,7 +62,7 @@ pub fn counted(job: &Job) -> Told {
                 black_box(&pair),
             )))
         }
-    }
+    })
 }
 
 fn arguments(draft: &unmavreth::Draft) -> Arguments {

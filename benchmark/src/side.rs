@@ -32,7 +32,7 @@ impl Side {
     pub fn told(self, job: &Job) -> Option<Told> {
         match self {
             Side::Ours => Some(ours::told(job)),
-            Side::Second => Some(second::told(job)),
+            Side::Second => second::told(job),
             Side::Lean => Some(baseline::told(job)),
             Side::Bits => bit_by_bit::told(job),
         }
@@ -42,7 +42,7 @@ impl Side {
     pub fn counted(self, job: &Job) -> Option<Told> {
         match self {
             Side::Ours => Some(ours::counted(job)),
-            Side::Second => Some(second::counted(job)),
+            Side::Second => second::counted(job),
             Side::Lean => Some(baseline::counted(job)),
             Side::Bits => bit_by_bit::counted(job),
         }

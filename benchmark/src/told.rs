@@ -1,6 +1,7 @@
 // What a call told, in one form for every side.
 use crate::rows::Expected;
 use reference::tables::Tables;
+use unmavreth::redirect::Redirects;
 
 #[derive(PartialEq, Eq)]
 pub struct Told {
@@ -16,6 +17,17 @@ impl Told {
     /// Whether a pair was acceptable.
     pub fn accepted(accepted: bool) -> Self {
         Told { fields: vec![("acceptable", accepted.into())], octets: vec![], tables: None }
+    }
+
+    /// What became of a REDIRECT: identity and nonce, and the record after it.
+    pub fn decided(number: u8, identity_type: u8, parts: [&[u8]; 2], record: &Redirects) -> Self {
+        let mut fields = vec![
+            ("number", number.into()),
+            ("identity_type", identity_type.into()),
+            ("count", record.count.into()),
+        ];
+        fields.extend(record.times.map(|time| ("time", time)));
+        Told { fields, octets: parts.map(<[u8]>::to_vec).to_vec(), tables: None }
     }
 }
 

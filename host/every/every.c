@@ -18,6 +18,10 @@ static unmavreth_rule rules[UNMAVRETH_RULES_MOST];
 static unmavreth_rules lent_rules;
 static unmavreth_opening opening;
 static unmavreth_seen seen;
+static unmavreth_redirects record;
+static unmavreth_redirect_data data;
+static size_t data_octets;
+static uint8_t name[UNMAVRETH_FQDN_MOST], nonce[UNMAVRETH_NONCE_MOST];
 static uint64_t slots[UNMAVRETH_ENTRY_SLOTS];
 static uint8_t entry[UNMAVRETH_ENTRY_MOST], kind;
 static size_t entry_octets;
@@ -113,6 +117,49 @@ static void set_policy(void)
 static void acceptable(void)
 {
     number = !unmavreth_acceptable(&gateway.policy, request.pair);
+}
+
+static void write_redirect(void)
+{
+    const unmavreth_data_written written = unmavreth_write_redirect(UNMAVRETH_FQDN_IDENTITY, name, sizeof name, nonce,
+                                                                    sizeof nonce, data.octets, sizeof data.octets);
+    number = written.number;
+    data_octets = written.length;
+}
+
+static void write_redirected_from(void)
+{
+    const unmavreth_data_written written = unmavreth_write_redirected_from(
+        UNMAVRETH_IP6_IDENTITY, name, UNMAVRETH_IP6_OCTETS, data.octets, sizeof data.octets);
+    number = written.number;
+    data_octets = written.length;
+}
+
+static void write_redirect_supported(void)
+{
+    number = unmavreth_write_redirect_supported(data.octets, sizeof data.octets).number;
+}
+
+static void read_redirect(void)
+{
+    number = unmavreth_read_redirect(&out, &body, data.octets, data_octets).number;
+}
+
+static void read_redirected_from(void)
+{
+    number = unmavreth_read_redirected_from(&out, data.octets, data_octets).number;
+}
+
+static void read_redirect_supported(void)
+{
+    number = unmavreth_read_redirect_supported(data.octets, 0);
+}
+
+static void decide_redirect(void)
+{
+    number = unmavreth_decide_redirect(&record.count, record.times, &out, UNMAVRETH_SA_INIT, nonce, sizeof nonce, 400,
+                                       data.octets, data_octets)
+                 .number;
 }
 
 static void write_entry(void)
@@ -223,6 +270,20 @@ static void with_free_places(void)
     opening.child = 1;
 }
 
+// The longest data of a redirect, and a record of five times, the last four of them recent at 400 seconds.
+static void redirected(void)
+{
+    body = out = (unmavreth_part){name, 0};
+    record = (unmavreth_redirects){UNMAVRETH_REDIRECTS_MOST, {100, 200, 250, 300, 400}};
+    write_redirect();
+}
+
+static void came_from(void)
+{
+    redirected();
+    write_redirected_from();
+}
+
 // An entry, for writing and, once it is written, for reading.
 static void entry_of(uint8_t its_kind)
 {
@@ -276,6 +337,15 @@ const every_call every[] = {
     {"unmavreth_open", with_free_places, open_both, 0},
     {"unmavreth_set_policy", begin, set_policy, 0},
     {"unmavreth_acceptable", begin, acceptable, 0},
+    {"unmavreth_read_redirect", redirected, read_redirect, 0},
+    {"unmavreth_read_redirected_from", came_from, read_redirected_from, 0},
+    {"unmavreth_read_redirected_from", redirected, read_redirected_from, UNMAVRETH_BAD_REDIRECT},
+    {"unmavreth_read_redirect_supported", redirected, read_redirect_supported, 0},
+    {"unmavreth_write_redirect", redirected, write_redirect, 0},
+    {"unmavreth_write_redirected_from", redirected, write_redirected_from, 0},
+    {"unmavreth_write_redirect_supported", redirected, write_redirect_supported, 0},
+    {"unmavreth_decide_redirect", redirected, decide_redirect, 0},
+    {"unmavreth_decide_redirect", came_from, decide_redirect, UNMAVRETH_WRONG_NONCE},
     {"unmavreth_read_entry", entry_of_opening, read_entry, 0},
     {"unmavreth_read_entry", entry_of_request, read_entry, 0},
     {"unmavreth_read_entry", entry_of_policy, read_entry, 0},

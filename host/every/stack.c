@@ -55,7 +55,7 @@ int main(void)
             const size_t took = measure(&every[i]);
             most = took > most ? took : most;
         }
-        printf("%-24s %6zu\n", name, most);
+        printf("%-34s %6zu\n", name, most);
     }
     return 0;
 }

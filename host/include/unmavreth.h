@@ -10,8 +10,8 @@
 //   - hold any octets whatever: no argument and no struct that is lent or passed has a bool, so there is no wrong value;
 //   - not overlap anything else that is lent to the same call, if it is lent for writing (a pointer without const);
 //   - be left alone by everyone else: no other thread writes it, or reads it if it is lent for writing.
-// No call keeps a pointer to what it was lent; unmavreth_cookie and unmavreth_nat_value hand out a part of the body that
-// they were lent.
+// No call keeps a pointer to what it was lent; unmavreth_cookie, unmavreth_nat_value and the calls that read a redirect
+// or decide on one hand out a part of the octets that they were lent.
 //
 // The promises are about fields and octets, not about padding: compare records field by field, not with memcmp.
 //
@@ -51,7 +51,7 @@ extern "C" {
 // The number of the interface: the layout of the structs below and the calls. It is raised with every change of them.
 // Whatever includes this header refers to the library's symbol that ends in this number, so that a header and an
 // archive of different numbers do not link.
-#define UNMAVRETH_INTERFACE 2
+#define UNMAVRETH_INTERFACE 3
 
 #define UNMAVRETH_JOINED(name, number) name##number
 #define UNMAVRETH_NAMED(name, number) UNMAVRETH_JOINED(name, number)
@@ -103,7 +103,13 @@ enum unmavreth_number {
     UNMAVRETH_CHECK_NOT_PENDING = 14, // no return routability check is under way by a request of ours with this ID
     UNMAVRETH_CUT = 20,               // a trace ends within an entry, or has a number not shortest or past 64 bits
     UNMAVRETH_UNKNOWN_KIND = 21,      // of an entry of a trace
-    UNMAVRETH_TOO_LARGE = 22          // a number, a count or a length of a trace, for its field
+    UNMAVRETH_TOO_LARGE = 22,         // a number, a count or a length of a trace, for its field
+    // redirects: data cut or left over, an identity of a type or size that cannot be, or our nonce of such a size
+    UNMAVRETH_BAD_REDIRECT = 30,
+    UNMAVRETH_WRONG_EXCHANGE = 31,    // a REDIRECT in a middle IKE_AUTH response, or with a nonce outside IKE_SA_INIT
+    UNMAVRETH_WRONG_NONCE = 32,       // a REDIRECT in IKE_SA_INIT without the nonce that was sent
+    UNMAVRETH_TIME_BEFORE_LAST = 33,  // of a REDIRECT: before the last accepted one's
+    UNMAVRETH_TOO_MANY_REDIRECTS = 34 // five accepted ones less than 300 seconds before it
 };
 
 // What became of a request's update, and of its list of additional addresses.
@@ -824,6 +830,160 @@ UNMAVRETH_MUST_USE
 unmavreth_entry_written unmavreth_write_entry(uint8_t kind, const uint64_t slots[UNMAVRETH_ENTRY_SLOTS],
                                               const uint8_t *source, size_t source_size, uint8_t *out,
                                               size_t out_size);
+
+// --------------------------------------------------------------------------------------------------------- redirects
+
+// A gateway moves its clients to another one, as for maintenance, by three notifications (RFC 5685). The calls below
+// read and write their data, what stands behind the Notify header; the notification around it, and the chain, are the
+// host's. In a chain that unmavreth_read, unmavreth_handle and unmavreth_assess are given, each of the three is tallied
+// as unknown.
+enum unmavreth_redirect_notify {
+    UNMAVRETH_REDIRECT_SUPPORTED = 16406, // no data: the client can be redirected
+    UNMAVRETH_REDIRECT = 16407,           // the gateway to go to, and in IKE_SA_INIT the nonce that the client sent
+    UNMAVRETH_REDIRECTED_FROM = 16408     // the gateway that the client comes from
+};
+
+// By what a gateway is named.
+enum unmavreth_identity {
+    UNMAVRETH_IP4_IDENTITY = 1, // 4 octets
+    UNMAVRETH_IP6_IDENTITY = 2, // 16
+    UNMAVRETH_FQDN_IDENTITY = 3 // 1 to 255, whatever they are; in a REDIRECT only
+};
+
+// The message that a REDIRECT came in. A sole IKE_AUTH response is the first or the last, no matter which.
+enum unmavreth_exchange {
+    UNMAVRETH_SA_INIT = 0,     // the IKE_SA_INIT response
+    UNMAVRETH_FIRST_AUTH = 1,  // the first IKE_AUTH response
+    UNMAVRETH_MIDDLE_AUTH = 2, // one between
+    UNMAVRETH_LAST_AUTH = 3,   // the last IKE_AUTH response
+    UNMAVRETH_INFORMATIONAL = 4
+};
+
+// The limits, under the names that the definitions have (crates/redirect/specs/Wire.antt,
+// crates/redirecting/specs/Limits.antt).
+enum unmavreth_redirect_limit {
+    UNMAVRETH_IDENTITY_HEADER = 2, // what stands before an identity: its type and its size
+    UNMAVRETH_FQDN_LEAST = 1,
+    UNMAVRETH_FQDN_MOST = 255,
+    UNMAVRETH_NONCE_LEAST = 16,
+    UNMAVRETH_NONCE_MOST = 256,
+    UNMAVRETH_REDIRECT_ROOM = 513,  // the least output for the data of any of the three
+    UNMAVRETH_REDIRECTS_MOST = 5,   // how many are accepted within a period
+    UNMAVRETH_PERIOD_SECONDS = 300
+};
+UNMAVRETH_ASSERT(UNMAVRETH_REDIRECT_ROOM == UNMAVRETH_IDENTITY_HEADER + UNMAVRETH_FQDN_MOST + UNMAVRETH_NONCE_MOST,
+                 "REDIRECT_ROOM");
+
+typedef struct unmavreth_gateway_read {
+    uint8_t number;
+    uint8_t identity_type; // enum unmavreth_identity; 0 with every number but 0
+} unmavreth_gateway_read;
+UNMAVRETH_SIZE(unmavreth_gateway_read, 2);
+UNMAVRETH_AT(unmavreth_gateway_read, number, 0);
+UNMAVRETH_AT(unmavreth_gateway_read, identity_type, 1);
+
+// Reads the data of a REDIRECT, at the client: of an IKE_SA_INIT response, of the first or the last IKE_AUTH response,
+// or of an INFORMATIONAL request of the gateway. To `identity` and `nonce`, which hold some valid part before (such as
+// {data, 0}), it hands out the identity of the gateway to go to and the nonce, as parts of the data; `nonce` is empty
+// if there is none. Whether the client may go there is unmavreth_decide_redirect's to say. Numbers:
+//   30  the data ends before its identity does, or the identity has a type or a size that is not allowed
+//    0  read. What stands behind the identity is the nonce, of whatever size
+// With 30 both parts are empty.
+UNMAVRETH_MUST_USE
+unmavreth_gateway_read unmavreth_read_redirect(unmavreth_part *identity, unmavreth_part *nonce, const uint8_t *data,
+                                               size_t data_size);
+
+// Reads the data of a REDIRECTED_FROM, at the gateway that a client was moved to: of an IKE_SA_INIT request. To
+// `identity` it hands out, likewise, the identity of the gateway that the client comes from. Numbers:
+//   30  as above; or the identity is a name; or something stands behind it
+//    0  read
+// With 30 the part is empty.
+UNMAVRETH_MUST_USE
+unmavreth_gateway_read unmavreth_read_redirected_from(unmavreth_part *identity, const uint8_t *data, size_t data_size);
+
+// Reads the data of a REDIRECT_SUPPORTED, at the gateway: of a client's IKE_SA_INIT request. Numbers:
+//   30  it has data
+//    0  it has none
+UNMAVRETH_MUST_USE
+uint8_t unmavreth_read_redirect_supported(const uint8_t *data, size_t data_size);
+
+typedef struct unmavreth_data_written {
+    uint8_t number;
+    size_t length; // octets written
+} unmavreth_data_written;
+UNMAVRETH_SIZE(unmavreth_data_written, 16);
+UNMAVRETH_AT(unmavreth_data_written, number, 0);
+UNMAVRETH_AT(unmavreth_data_written, length, 8);
+
+// Writes the data of a REDIRECT, at the gateway: for an IKE_SA_INIT response with the nonce of the client's request;
+// for the first or the last IKE_AUTH response, or for an INFORMATIONAL request, with a nonce of 0 octets, which is
+// none.
+// Numbers, in the order of the checks:
+//    2  the output has under 513 octets, however short the data would be
+//   30  the identity has a type or a size that is not allowed, or the nonce has not 0 or 16 to 256 octets
+//    0  written to the start of the output; octets past `length` stay as they were
+// With 2 and 30 every octet of the output stays as it was; `length` is 0.
+UNMAVRETH_MUST_USE
+unmavreth_data_written unmavreth_write_redirect(uint8_t identity_type, const uint8_t *identity, size_t identity_size,
+                                                const uint8_t *nonce, size_t nonce_size, uint8_t *out,
+                                                size_t out_size);
+
+// Writes the data of a REDIRECTED_FROM, at the client: for the IKE_SA_INIT request to the gateway that it was moved to,
+// with the address of the gateway that it comes from. Numbers, in the order of the checks, as above:
+//    2  the output has under 513 octets
+//   30  the identity has a type or a size that is not allowed, or is a name
+//    0  written
+UNMAVRETH_MUST_USE
+unmavreth_data_written unmavreth_write_redirected_from(uint8_t identity_type, const uint8_t *identity,
+                                                       size_t identity_size, uint8_t *out, size_t out_size);
+
+// Writes the data of a REDIRECT_SUPPORTED, at the client: for its IKE_SA_INIT request. Numbers:
+//    2  the output has under 513 octets, though nothing is written
+//    0  done: `length` is 0, and every octet of the output stays as it was
+UNMAVRETH_MUST_USE
+unmavreth_data_written unmavreth_write_redirect_supported(uint8_t *out, size_t out_size);
+
+// What a client keeps of the redirects that it accepted, from gateway to gateway: the times of the last ones, oldest
+// first. All zeros is a fresh record.
+typedef struct unmavreth_redirects {
+    uint8_t count; // how many places of `times` hold one; over 5 it reads as 5
+    uint64_t times[UNMAVRETH_REDIRECTS_MOST];
+} unmavreth_redirects;
+UNMAVRETH_SIZE(unmavreth_redirects, 48);
+UNMAVRETH_AT(unmavreth_redirects, count, 0);
+UNMAVRETH_AT(unmavreth_redirects, times, 8);
+
+typedef struct unmavreth_redirect_decision {
+    uint8_t number;
+    uint8_t identity_type; // enum unmavreth_identity; 0 with every number but 0
+    size_t nonce_len;      // octets of the nonce; 0 if there is none, as with every number but 0
+} unmavreth_redirect_decision;
+UNMAVRETH_SIZE(unmavreth_redirect_decision, 16);
+UNMAVRETH_AT(unmavreth_redirect_decision, number, 0);
+UNMAVRETH_AT(unmavreth_redirect_decision, identity_type, 1);
+UNMAVRETH_AT(unmavreth_redirect_decision, nonce_len, 8);
+
+// Decides, at the client, whether a REDIRECT is to be followed, by its data and the exchange that it came in.
+//   count, times   the two fields of the client's record, an unmavreth_redirects
+//   identity       where the identity of the gateway to go to is handed out, as in unmavreth_read_redirect
+//   exchange       enum unmavreth_exchange
+//   sent           the nonce of the client's IKE_SA_INIT request; looked at in IKE_SA_INIT only
+//   time           now, in seconds, by any clock that does not run back
+// Numbers, in the order of the checks:
+//   30  the data is not that of a REDIRECT, as in unmavreth_read_redirect; or, in IKE_SA_INIT, `sent` has not 16 to 256
+//       octets
+//   31  a middle IKE_AUTH response or any other exchange; or a nonce outside IKE_SA_INIT, were it a single octet
+//   32  in IKE_SA_INIT, no nonce, or another than the one sent
+//   33  `time` is before that of the last accepted one
+//   34  five accepted ones are less than 300 seconds before `time`
+//    0  accepted, and `time` is kept: the record has the times of the last five accepted ones, zeros past the count
+// With every number but 0 the record stays as it was and the part is empty. From a fresh record on, no sixth is
+// accepted within 300 seconds.
+UNMAVRETH_MUST_USE
+unmavreth_redirect_decision unmavreth_decide_redirect(uint8_t *count, uint64_t times[UNMAVRETH_REDIRECTS_MOST],
+                                                      unmavreth_part *identity, uint8_t exchange, const uint8_t *sent,
+                                                      size_t sent_size, uint64_t time, const uint8_t *data,
+                                                      size_t data_size);
 
 #undef UNMAVRETH_AT
 #undef UNMAVRETH_SIZE

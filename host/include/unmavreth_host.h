@@ -307,4 +307,98 @@ static inline unmavreth_entry_written unmavreth_write_entry_part(uint8_t kind,
     return unmavreth_write_entry(kind, slots, source.start, source.octets, out, UNMAVRETH_ENTRY_MOST);
 }
 
+// ---------------------------------------------------------------------------------------------------------- redirects
+
+// What the data of a REDIRECT or a REDIRECTED_FROM says. With every number but 0 the type is 0 and both parts are
+// empty.
+typedef struct unmavreth_redirect {
+    uint8_t number;
+    uint8_t identity_type;   // enum unmavreth_identity
+    unmavreth_part identity; // a part of the data, as the nonce is
+    unmavreth_part nonce;    // 0 octets: none
+} unmavreth_redirect;
+
+// Where the data of one goes; unmavreth_data_written has its length.
+typedef struct unmavreth_redirect_data {
+    uint8_t octets[UNMAVRETH_REDIRECT_ROOM];
+} unmavreth_redirect_data;
+
+// As unmavreth_read_redirect, which asks for outputs that are set.
+UNMAVRETH_MUST_USE
+static inline unmavreth_redirect unmavreth_read_redirect_part(unmavreth_part data)
+{
+    unmavreth_redirect out;
+    data = unmavreth_lent(data);
+    out.identity = out.nonce = data;
+    const unmavreth_gateway_read read =
+        unmavreth_read_redirect(&out.identity, &out.nonce, data.start, data.octets);
+    out.number = read.number;
+    out.identity_type = read.identity_type;
+    return out;
+}
+
+// As unmavreth_read_redirected_from, likewise; there is no nonce.
+UNMAVRETH_MUST_USE
+static inline unmavreth_redirect unmavreth_read_redirected_from_part(unmavreth_part data)
+{
+    unmavreth_redirect out;
+    data = unmavreth_lent(data);
+    out.identity = out.nonce = data;
+    out.nonce.octets = 0;
+    const unmavreth_gateway_read read = unmavreth_read_redirected_from(&out.identity, data.start, data.octets);
+    out.number = read.number;
+    out.identity_type = read.identity_type;
+    return out;
+}
+
+// As unmavreth_read_redirect_supported.
+UNMAVRETH_MUST_USE
+static inline uint8_t unmavreth_read_redirect_supported_part(unmavreth_part data)
+{
+    data = unmavreth_lent(data);
+    return unmavreth_read_redirect_supported(data.start, data.octets);
+}
+
+// As unmavreth_write_redirect.
+UNMAVRETH_MUST_USE
+static inline unmavreth_data_written unmavreth_write_redirect_part(uint8_t identity_type, unmavreth_part identity,
+                                                                   unmavreth_part nonce, unmavreth_redirect_data *out)
+{
+    identity = unmavreth_lent(identity);
+    nonce = unmavreth_lent(nonce);
+    return unmavreth_write_redirect(identity_type, identity.start, identity.octets, nonce.start, nonce.octets,
+                                    out->octets, UNMAVRETH_REDIRECT_ROOM);
+}
+
+// As unmavreth_write_redirected_from.
+UNMAVRETH_MUST_USE
+static inline unmavreth_data_written unmavreth_write_redirected_from_part(uint8_t identity_type,
+                                                                          unmavreth_part identity,
+                                                                          unmavreth_redirect_data *out)
+{
+    identity = unmavreth_lent(identity);
+    return unmavreth_write_redirected_from(identity_type, identity.start, identity.octets, out->octets,
+                                           UNMAVRETH_REDIRECT_ROOM);
+}
+
+// As unmavreth_decide_redirect, on a record as a whole.
+UNMAVRETH_MUST_USE
+static inline unmavreth_redirect unmavreth_decide_redirect_part(unmavreth_redirects *record, uint8_t exchange,
+                                                                unmavreth_part sent, uint64_t time,
+                                                                unmavreth_part data)
+{
+    unmavreth_redirect out;
+    sent = unmavreth_lent(sent);
+    data = unmavreth_lent(data);
+    out.identity = out.nonce = data;
+    const unmavreth_redirect_decision decision =
+        unmavreth_decide_redirect(&record->count, record->times, &out.identity, exchange, sent.start, sent.octets,
+                                  time, data.start, data.octets);
+    out.number = decision.number;
+    out.identity_type = decision.identity_type;
+    out.nonce.start = data.start + (data.octets - decision.nonce_len); // what stands behind the identity, to the end
+    out.nonce.octets = decision.nonce_len;
+    return out;
+}
+
 #endif

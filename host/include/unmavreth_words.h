@@ -25,6 +25,11 @@ static inline const char *unmavreth_number_words(uint8_t number)
     case UNMAVRETH_CUT: return "a cut entry, or a number not shortest or past 64 bits";
     case UNMAVRETH_UNKNOWN_KIND: return "unknown kind of an entry";
     case UNMAVRETH_TOO_LARGE: return "too large for its field";
+    case UNMAVRETH_BAD_REDIRECT: return "malformed data of a redirect, or a bad identity or nonce for one";
+    case UNMAVRETH_WRONG_EXCHANGE: return "a redirect in a wrong exchange, or with a nonce in one that has none";
+    case UNMAVRETH_WRONG_NONCE: return "a redirect without the nonce that was sent";
+    case UNMAVRETH_TIME_BEFORE_LAST: return "a time before the last accepted redirect's";
+    case UNMAVRETH_TOO_MANY_REDIRECTS: return "five accepted redirects within 300 seconds before";
     case UNMAVRETH_BAD_CHAIN_LENGTH: return "a payload cut short or of a length that cannot be";
     case UNMAVRETH_BAD_NOTIFY: return "a Notify of a length or with an SPI that cannot be";
     case UNMAVRETH_BAD_DATA_SIZE: return "notification data of a wrong size";

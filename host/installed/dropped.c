@@ -47,3 +47,24 @@ void drop(unmavreth_gateway *g, const unmavreth_opening *opening, const unmavret
     unmavreth_read_entry_part(b, 0);
     unmavreth_write_entry_part(0, slots, b, out);
 }
+
+void drop_redirects(unmavreth_redirects *record, unmavreth_redirect_data *data, uint8_t *out, unmavreth_part b,
+                    unmavreth_part other);
+
+void drop_redirects(unmavreth_redirects *record, unmavreth_redirect_data *data, uint8_t *out, unmavreth_part b,
+                    unmavreth_part other)
+{
+    unmavreth_read_redirect(&b, &other, b.start, b.octets);
+    unmavreth_read_redirected_from(&b, b.start, b.octets);
+    unmavreth_read_redirect_supported(b.start, b.octets);
+    unmavreth_write_redirect(1, b.start, b.octets, b.start, 0, out, 0);
+    unmavreth_write_redirected_from(1, b.start, b.octets, out, 0);
+    unmavreth_write_redirect_supported(out, 0);
+    unmavreth_decide_redirect(&record->count, record->times, &b, 0, b.start, 0, 0, b.start, b.octets);
+    unmavreth_read_redirect_part(b);
+    unmavreth_read_redirected_from_part(b);
+    unmavreth_read_redirect_supported_part(b);
+    unmavreth_write_redirect_part(1, b, b, data);
+    unmavreth_write_redirected_from_part(1, b, data);
+    unmavreth_decide_redirect_part(record, 0, b, 0, b);
+}

@@ -67,6 +67,42 @@ static void try_nothing(void)
     HOLDS(unmavreth_read_entry_part(trace, 0).slots[UNMAVRETH_CLOSE_IKE_SPI] == SPI);
 }
 
+// A REDIRECT with a nonce, written, read and decided on; and a REDIRECTED_FROM.
+static void try_redirects(void)
+{
+    static const uint8_t address[UNMAVRETH_IP4_OCTETS] = {192, 0, 2, 2};
+    static const uint8_t octets[UNMAVRETH_NONCE_LEAST] = {9, 8, 7};
+    const unmavreth_part identity = {address, sizeof address}, nonce = {octets, sizeof octets};
+    unmavreth_redirect_data out;
+    unmavreth_redirects record;
+    memset(&record, 0, sizeof record);
+    unmavreth_data_written written = unmavreth_write_redirect_part(UNMAVRETH_IP4_IDENTITY, identity, nonce, &out);
+    const unmavreth_part data = {out.octets, written.length};
+    HOLDS(written.number == UNMAVRETH_DONE && written.length == 2 + sizeof address + sizeof octets);
+    const unmavreth_redirect read = unmavreth_read_redirect_part(data);
+    HOLDS(read.number == UNMAVRETH_DONE && read.identity_type == UNMAVRETH_IP4_IDENTITY);
+    HOLDS(read.identity.start == data.start + 2 && read.identity.octets == sizeof address);
+    HOLDS(read.nonce.start == data.start + 6 && read.nonce.octets == sizeof octets);
+    const unmavreth_redirect decided = unmavreth_decide_redirect_part(&record, UNMAVRETH_SA_INIT, nonce, 7, data);
+    HOLDS(decided.number == UNMAVRETH_DONE && decided.identity.start == read.identity.start);
+    HOLDS(decided.identity.octets == read.identity.octets && decided.nonce.start == read.nonce.start);
+    HOLDS(decided.nonce.octets == read.nonce.octets && decided.identity_type == UNMAVRETH_IP4_IDENTITY);
+    HOLDS(record.count == 1 && record.times[0] == 7);
+    const unmavreth_redirect refused = unmavreth_decide_redirect_part(&record, UNMAVRETH_LAST_AUTH, nothing, 8, data);
+    HOLDS(refused.number == UNMAVRETH_WRONG_EXCHANGE && refused.identity_type == 0);
+    HOLDS(refused.identity.octets == 0 && refused.nonce.octets == 0 && record.count == 1);
+    HOLDS(unmavreth_read_redirect_part(nothing).number == UNMAVRETH_BAD_REDIRECT);
+    HOLDS(unmavreth_read_redirected_from_part(data).number == UNMAVRETH_BAD_REDIRECT);
+    HOLDS(unmavreth_read_redirect_supported_part(data) == UNMAVRETH_BAD_REDIRECT);
+    HOLDS(unmavreth_read_redirect_supported_part(nothing) == UNMAVRETH_DONE);
+    HOLDS(unmavreth_write_redirected_from_part(UNMAVRETH_IP4_IDENTITY, nothing, &out).number == UNMAVRETH_BAD_REDIRECT);
+    written = unmavreth_write_redirected_from_part(UNMAVRETH_IP4_IDENTITY, identity, &out);
+    const unmavreth_part from = {out.octets, written.length};
+    const unmavreth_redirect came = unmavreth_read_redirected_from_part(from);
+    HOLDS(came.number == UNMAVRETH_DONE && came.identity_type == UNMAVRETH_IP4_IDENTITY && came.nonce.octets == 0);
+    HOLDS(came.identity.octets == sizeof address && memcmp(came.identity.start, address, sizeof address) == 0);
+}
+
 static void try_gateway(void)
 {
     static unmavreth_gateway gateway;
@@ -180,6 +216,7 @@ int main(void)
 {
     HOLDS(unmavreth_interface() == UNMAVRETH_INTERFACE);
     try_reading();
+    try_redirects();
     try_nothing();
     try_gateway();
     try_check(true, UNMAVRETH_OUTCOME_ACCEPTED);

@@ -11,6 +11,7 @@ pub enum Kind {
     Assess,
     Writer,
     RoundTrips,
+    Redirects,
     /// Of the replay.
     Traces,
     /// Of what is read and written of a trace, entry by entry.
@@ -18,7 +19,7 @@ pub enum Kind {
 }
 
 impl Kind {
-    pub const ALL: [Kind; 10] = [
+    pub const ALL: [Kind; 11] = [
         Kind::Reader,
         Kind::Tables,
         Kind::Requests,
@@ -27,6 +28,7 @@ impl Kind {
         Kind::Assess,
         Kind::Writer,
         Kind::RoundTrips,
+        Kind::Redirects,
         Kind::Traces,
         Kind::Entries,
     ];
@@ -41,6 +43,7 @@ impl Kind {
             Kind::Assess => "responses",
             Kind::Writer => "writer",
             Kind::RoundTrips => "round-trips",
+            Kind::Redirects => "redirects",
             Kind::Traces => "traces",
             Kind::Entries => "entries",
         }

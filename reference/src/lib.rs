@@ -29,6 +29,7 @@ pub mod pending;
 pub mod plain;
 pub mod policy;
 pub mod reader;
+pub mod redirect;
 pub mod reply;
 pub mod request;
 pub mod request_fields;

@@ -12,6 +12,7 @@ mod notify;
 mod opening;
 mod policy;
 mod reader;
+mod redirect;
 mod response;
 mod writer;
 
@@ -21,4 +22,5 @@ pub use handler::{handle, Reply};
 pub use opening::open;
 pub use policy::acceptable;
 pub use reader::{read, Reading};
+pub use redirect::{decide, Decision};
 pub use writer::{write, Written};

@@ -3,6 +3,7 @@ pub mod calls;
 pub mod chain;
 pub mod check;
 pub mod handler;
+pub mod redirects;
 pub mod responses;
 pub mod trace;
 pub mod version;

@@ -1,6 +1,8 @@
 -- Trusted. The numbers that a call gives, by name: 01, "The numbers given back", and 02, E4: "Split 6 everywhere into
 -- 61 (chain lengths), 62 (Notify lengths or SPI), 63 (data size), 64 (repeated or contradictory notification), and 65
--- (octets after the end)"; E6: "14 (no pending check, or another ID)".
+-- (octets after the end)"; E6: "14 (no pending check, or another ID)"; and E7: "30 malformed ..., 31 a middle IKE_AUTH
+-- response, or a nonce outside IKE_SA_INIT, 32 nonce missing or different, 33 time in seconds before the last accepted
+-- one's, 34 five accepted ones less than 300 seconds before it".
 --
 --   Number     an enum, as `octets/src/number.rt` declares it: a name for each number
 --   numberOf   the number for it
@@ -12,6 +14,8 @@ use Rattle.octets.specs.declared.number.Number.the-variants.{BadChainLen
 use Rattle.octets.specs.declared.number.Number.the-variants.{Repeated, OctetsAfterEnd}
 use Rattle.octets.specs.declared.number.Number.the-variants.{UnknownCritical, AddressesAltered, NotAcceptable}
 use Rattle.octets.specs.declared.number.Number.the-variants.{Full, SpiInUse, BadPolicy, CheckNotPending}
+use Rattle.octets.specs.declared.number.Number.the-variants.{BadRedirect, WrongExchange, WrongNonce}
+use Rattle.octets.specs.declared.number.Number.the-variants.{TimeBeforeLast, TooManyRedirects}
 
 abbrev pub numberOf : Number → ℕ
 numberOf Done = 0
@@ -32,3 +36,8 @@ numberOf Full = 10
 numberOf SpiInUse = 11
 numberOf BadPolicy = 12
 numberOf CheckNotPending = 14
+numberOf BadRedirect = 30
+numberOf WrongExchange = 31
+numberOf WrongNonce = 32
+numberOf TimeBeforeLast = 33
+numberOf TooManyRedirects = 34

@@ -22,6 +22,11 @@ pub enum Number {
     SpiInUse,
     BadPolicy,
     CheckNotPending,
+    BadRedirect,
+    WrongExchange,
+    WrongNonce,
+    TimeBeforeLast,
+    TooManyRedirects,
 }
 
 // As it is told.
@@ -47,5 +52,10 @@ pub fn number_of(n: Number) -> u8
         Number::SpiInUse => 11,
         Number::BadPolicy => 12,
         Number::CheckNotPending => 14,
+        Number::BadRedirect => 30,
+        Number::WrongExchange => 31,
+        Number::WrongNonce => 32,
+        Number::TimeBeforeLast => 33,
+        Number::TooManyRedirects => 34,
     }
 }

@@ -91,6 +91,7 @@ mod policy;
 mod raw;
 mod reader;
 mod records;
+pub mod redirect;
 mod responder;
 mod routability;
 mod sockets;

@@ -40,6 +40,22 @@ pub const REQUEST_ROOM: usize = NOTIFY_HEADER
     + 2 * (NOTIFY_HEADER + NAT_OCTETS)
     + ADDRESSES_MOST * (NOTIFY_HEADER + IP6_OCTETS)
     + (NOTIFY_HEADER + COOKIE_MOST);
+/// What stands before the identity in the data of a redirect: its type and its size.
+pub const IDENTITY_HEADER: usize = 2;
+/// The shortest name of a gateway.
+pub const FQDN_LEAST: usize = 1;
+/// The longest name of a gateway.
+pub const FQDN_MOST: usize = 255;
+/// The shortest nonce.
+pub const NONCE_LEAST: usize = 16;
+/// The longest nonce.
+pub const NONCE_MOST: usize = 256;
+/// The least output for the data of a redirect, 513 octets, whatever is written.
+pub const REDIRECT_ROOM: usize = IDENTITY_HEADER + FQDN_MOST + NONCE_MOST;
+/// How many redirects are accepted within a period, and how many times are kept.
+pub const REDIRECTS_MOST: usize = 5;
+/// The period, in seconds.
+pub const PERIOD_SECONDS: u64 = 300;
 /// The slots of an entry of a trace: as many as the widest kind has, a policy.
 pub const ENTRY_SLOTS: usize = 1 + RULES_MOST * 5;
 /// The longest string of an entry.
@@ -51,6 +67,7 @@ pub const ENTRY_MOST: usize =
 /// Where a record's tally of what is unknown stays.
 pub const TALLY_MOST: u32 = u32::MAX;
 
+const _: () = assert!(REDIRECT_ROOM == 513);
 const _: () = assert!(RESPONSE_ROOM == 128);
 const _: () = assert!(REQUEST_ROOM == 564);
 const _: () = assert!(ENTRY_SLOTS == 81);

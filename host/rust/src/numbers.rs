@@ -10,7 +10,8 @@ pub enum Number {
     /// 128 records, a NAT value not of 20 octets, a cookie to send not of 0 or 8 to 64 octets, or one for a
     /// check not of 8 to 64.
     BadArgument,
-    /// 2: the output is under 128 octets, 564 for the writer, or shorter than the entry of a trace.
+    /// 2: the output is under 128 octets, 564 for the writer, 513 for the data of a redirect, or shorter than
+    /// the entry of a trace.
     OutputTooShort,
     /// 3: the body is over 4,096 octets.
     BodyTooLong,
@@ -48,6 +49,17 @@ pub enum Number {
     UnknownKind,
     /// 22: a number, a count or a length of a trace is too large for its field.
     TooLarge,
+    /// 30: data of a redirect is cut or left over, its identity has a type or a size that can't be, or our
+    /// nonce has such a size.
+    BadRedirect,
+    /// 31: a redirect came in a middle IKE_AUTH response, or with a nonce outside IKE_SA_INIT.
+    WrongExchange,
+    /// 32: a redirect came in IKE_SA_INIT without the nonce that was sent.
+    WrongNonce,
+    /// 33: a redirect's time is before that of the last accepted one.
+    TimeBeforeLast,
+    /// 34: five redirects were accepted less than 300 seconds before.
+    TooManyRedirects,
     /// A number that no call gives.
     Other(u8),
 }
@@ -96,6 +108,11 @@ impl From<u8> for Number {
             20 => Number::Cut,
             21 => Number::UnknownKind,
             22 => Number::TooLarge,
+            30 => Number::BadRedirect,
+            31 => Number::WrongExchange,
+            32 => Number::WrongNonce,
+            33 => Number::TimeBeforeLast,
+            34 => Number::TooManyRedirects,
             other => Number::Other(other),
         }
     }
@@ -125,6 +142,11 @@ impl From<Number> for u8 {
             Number::Cut => 20,
             Number::UnknownKind => 21,
             Number::TooLarge => 22,
+            Number::BadRedirect => 30,
+            Number::WrongExchange => 31,
+            Number::WrongNonce => 32,
+            Number::TimeBeforeLast => 33,
+            Number::TooManyRedirects => 34,
             Number::Other(other) => other,
         }
     }

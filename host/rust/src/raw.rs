@@ -1,10 +1,11 @@
 //! The C interface of `libunmavreth.a`. A start and a count are those of memory that the caller lends for
 //! the call; nothing lent for writing may overlap anything else that is lent.
 use crate::layout::{
-    AddressList, Ask, Assessment, EntryRead, EntryWritten, IkeRecord, IpsecRecord, Offsets,
-    Opening, Pair, Part, Policy, Reading, Reply, Rule, Written,
+    AddressList, Ask, Assessment, DataWritten, EntryRead, EntryWritten, GatewayRead, IkeRecord,
+    IpsecRecord, Offsets, Opening, Pair, Part, Policy, Reading, RedirectDecision, Reply, Rule,
+    Written,
 };
-use crate::limits::{ENTRY_SLOTS, IKE_PLACES, RULES_MOST};
+use crate::limits::{ENTRY_SLOTS, IKE_PLACES, REDIRECTS_MOST, RULES_MOST};
 
 /// The number of the interface that this crate was written for, and the library's symbol that ends in it:
 /// every program that has this crate refers to the symbol, so that it does not link with a library of
@@ -22,7 +23,7 @@ macro_rules! interface {
         static LINKED: unsafe extern "C" fn() -> u32 = $named;
     };
 }
-interface!(2, unmavreth_interface_2);
+interface!(3, unmavreth_interface_3);
 
 extern "C" {
     pub(crate) fn unmavreth_interface() -> u32;
@@ -158,4 +159,56 @@ extern "C" {
         out: *mut u8,
         out_size: usize,
     ) -> EntryWritten;
+}
+
+extern "C" {
+    /// `*identity` and `*nonce` must hold a valid part on entry.
+    pub(crate) fn unmavreth_read_redirect(
+        identity: *mut Part,
+        nonce: *mut Part,
+        data: *const u8,
+        data_size: usize,
+    ) -> GatewayRead;
+
+    /// `*identity` must hold a valid part on entry.
+    pub(crate) fn unmavreth_read_redirected_from(
+        identity: *mut Part,
+        data: *const u8,
+        data_size: usize,
+    ) -> GatewayRead;
+
+    pub(crate) fn unmavreth_read_redirect_supported(data: *const u8, data_size: usize) -> u8;
+
+    pub(crate) fn unmavreth_write_redirect(
+        identity_type: u8,
+        identity: *const u8,
+        identity_size: usize,
+        nonce: *const u8,
+        nonce_size: usize,
+        out: *mut u8,
+        out_size: usize,
+    ) -> DataWritten;
+
+    pub(crate) fn unmavreth_write_redirected_from(
+        identity_type: u8,
+        identity: *const u8,
+        identity_size: usize,
+        out: *mut u8,
+        out_size: usize,
+    ) -> DataWritten;
+
+    pub(crate) fn unmavreth_write_redirect_supported(out: *mut u8, out_size: usize) -> DataWritten;
+
+    /// `*identity` must hold a valid part on entry.
+    pub(crate) fn unmavreth_decide_redirect(
+        count: *mut u8,
+        times: *mut [u64; REDIRECTS_MOST],
+        identity: *mut Part,
+        exchange: u8,
+        sent: *const u8,
+        sent_size: usize,
+        time: u64,
+        data: *const u8,
+        data_size: usize,
+    ) -> RedirectDecision;
 }

@@ -39,7 +39,7 @@ pub fn nat_value(body: &[u8], offset: u16) -> &[u8] {
 /// The part as a slice of the body, by where it begins and how long it is; empty if it isn't inside, so
 /// that nothing is read through the start that was told.
 #[inline]
-fn within(body: &[u8], part: Part) -> &[u8] {
+pub(crate) fn within(body: &[u8], part: Part) -> &[u8] {
     let from = part.start.addr().wrapping_sub(body.as_ptr().addr());
     body.get(from..).and_then(|rest| rest.get(..part.octets)).unwrap_or_default()
 }

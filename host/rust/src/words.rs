@@ -24,6 +24,15 @@ impl Number {
             Number::Cut => "a cut entry, or a number not shortest or past 64 bits",
             Number::UnknownKind => "unknown kind of an entry",
             Number::TooLarge => "too large for its field",
+            Number::BadRedirect => {
+                "malformed data of a redirect, or a bad identity or nonce for one"
+            }
+            Number::WrongExchange => {
+                "a redirect in a wrong exchange, or with a nonce in one that has none"
+            }
+            Number::WrongNonce => "a redirect without the nonce that was sent",
+            Number::TimeBeforeLast => "a time before the last accepted redirect's",
+            Number::TooManyRedirects => "five accepted redirects within 300 seconds before",
             Number::BadChainLength => "a payload cut short or of a length that cannot be",
             Number::BadNotify => "a Notify of a length or with an SPI that cannot be",
             Number::BadDataSize => "notification data of a wrong size",

@@ -1,5 +1,6 @@
 //! Limits and numbers have the same names and values here, in the C header and in the library's own code.
 use unmavreth::limits::*;
+use unmavreth::redirect::{self, Exchange};
 use unmavreth::trace::Kind;
 use unmavreth::Number;
 
@@ -10,6 +11,9 @@ const REFUSALS: &str = include_str!("../../../crates/fields/src/refusal.rt");
 const FIELDS: &str = include_str!("../../../crates/fields/src/codes.rt");
 const ENTRIES: &str = include_str!("../../../crates/entries/src/lib.rt");
 const KINDS: &str = include_str!("../../../crates/entries/src/kind.rt");
+const REDIRECTS: &str = include_str!("../../../crates/redirect/src/wire.rt");
+const OFTEN: &str = include_str!("../../../crates/redirecting/src/limits.rt");
+const EXCHANGES: &str = include_str!("../../../crates/redirecting/src/exchange.rt");
 
 /// Whether the text has these words, and neither digits nor letters behind them.
 fn says(text: &str, words: &str) -> bool {
@@ -71,7 +75,7 @@ fn in_capitals(name: &str) -> String {
 
 #[test]
 fn numbers() {
-    for octet in (0..=5).chain(7..=12).chain([14]).chain(20..=22).chain(61..=65) {
+    for octet in (0..=5).chain(7..=12).chain([14]).chain(20..=22).chain(30..=34).chain(61..=65) {
         let name = format!("{:?}", Number::from(octet));
         let (words, whose) =
             if !(20..=22).contains(&octet) { (NUMBERS, "Number") } else { (REFUSALS, "Refusal") };
@@ -101,4 +105,45 @@ fn limits_of_entries() {
     assert!(says(ENTRIES, &format!("pub const ENTRY_SLOTS: usize = {ENTRY_SLOTS}")));
     assert!(says(FIELDS, &format!("pub const STRING_MOST: u64 = {STRING_MOST}")));
     assert!(says(FIELDS, &format!("pub const LIST_PLACES: usize = {RULES_MOST}")));
+}
+
+#[test]
+fn redirects() {
+    for (name, value) in [
+        ("REDIRECT_SUPPORTED: u16", usize::from(redirect::REDIRECT_SUPPORTED)),
+        ("REDIRECT: u16", usize::from(redirect::REDIRECT)),
+        ("REDIRECTED_FROM: u16", usize::from(redirect::REDIRECTED_FROM)),
+        ("IP4_IDENTITY: u8", usize::from(redirect::IP4_IDENTITY)),
+        ("IP6_IDENTITY: u8", usize::from(redirect::IP6_IDENTITY)),
+        ("FQDN_IDENTITY: u8", usize::from(redirect::FQDN_IDENTITY)),
+        ("FQDN_LEAST: usize", FQDN_LEAST),
+        ("FQDN_MOST: usize", FQDN_MOST),
+        ("NONCE_LEAST: usize", NONCE_LEAST),
+        ("NONCE_MOST: usize", NONCE_MOST),
+        ("IDENTITY_HEADER: usize", IDENTITY_HEADER),
+        ("REDIRECTS_MOST: usize", REDIRECTS_MOST),
+        ("PERIOD_SECONDS: u64", PERIOD_SECONDS as usize),
+    ] {
+        let known = [REDIRECTS, OFTEN].concat();
+        assert!(says(&known, &format!("pub const {name} = {value}")), "{name} in the library");
+        let name = name.split(':').next().unwrap_or_default();
+        assert!(says(HEADER, &format!("UNMAVRETH_{name} = {value}")), "{name} in the header");
+    }
+    assert!(REDIRECTS.contains(&sum_of("REDIRECT_ROOM")), "the room in the library");
+    assert!(says(HEADER, &format!("UNMAVRETH_REDIRECT_ROOM = {REDIRECT_ROOM}")));
+}
+
+#[test]
+fn exchanges_of_redirects() {
+    for octet in 0..=255 {
+        let exchange = Exchange::from(octet);
+        assert_eq!(u8::from(exchange), octet);
+        assert_eq!(exchange == Exchange::Other(octet), octet > 4);
+    }
+    for octet in 0..=4 {
+        let name = format!("{:?}", Exchange::from(octet));
+        assert!(says(EXCHANGES, &format!("{octet} => Exchange::{name}")), "{name} in the library");
+        let word = in_capitals(&name);
+        assert!(says(HEADER, &format!("UNMAVRETH{word} = {octet}")), "{name} in the header");
+    }
 }

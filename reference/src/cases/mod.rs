@@ -4,6 +4,7 @@ pub mod checks;
 pub mod entries;
 pub mod orders;
 pub mod reader;
+pub mod redirects;
 pub mod requests;
 pub mod round_trips;
 mod seeded;

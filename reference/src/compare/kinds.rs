@@ -4,6 +4,7 @@ use crate::checks;
 use crate::entries;
 use crate::orders;
 use crate::reader;
+use crate::redirects;
 use crate::report::Detail;
 use crate::requests;
 use crate::round_trips;
@@ -15,6 +16,7 @@ use reference::cases::checks::ChecksCases;
 use reference::cases::entries::EntriesCases;
 use reference::cases::orders::OrdersCases;
 use reference::cases::reader::ReaderCases;
+use reference::cases::redirects::RedirectsCases;
 use reference::cases::requests::RequestsCases;
 use reference::cases::round_trips::RoundTripsCases;
 use reference::cases::tables::TablesCases;
@@ -25,7 +27,7 @@ use reference::rules::{Plain, Rules};
 use std::io;
 
 /// The kinds of the library's calls, in the order in which they take turns in a run of all.
-const OF_CALLS: [Kind; 17] = [
+const OF_CALLS: [Kind; 18] = [
     Kind::Reader,
     Kind::Requests,
     Kind::Tables,
@@ -43,6 +45,7 @@ const OF_CALLS: [Kind; 17] = [
     Kind::Writer,
     Kind::RoundTrips,
     Kind::Entries,
+    Kind::Redirects,
 ];
 
 /// The turns of all kinds. A trace has one, since a program is started for each, which is enough for a run of the gate
@@ -80,6 +83,7 @@ pub struct Cases {
     assess: AssessCases,
     writer: WriterCases,
     round_trips: RoundTripsCases,
+    redirects: RedirectsCases,
     traces: TracesCases,
     entries: EntriesCases,
 }
@@ -95,6 +99,7 @@ impl Cases {
             assess: AssessCases::new(seed),
             writer: WriterCases::new(seed),
             round_trips: RoundTripsCases::new(seed),
+            redirects: RedirectsCases::new(seed),
             traces: TracesCases::new(seed),
             entries: EntriesCases::new(seed),
         }
@@ -126,6 +131,7 @@ impl Cases {
             Kind::Assess => assess::run(self.assess.case(number), rules, detail),
             Kind::Writer => writer::run(self.writer.case(number), rules, detail),
             Kind::RoundTrips => round_trips::run(self.round_trips.case(number), rules, detail),
+            Kind::Redirects => redirects::run(self.redirects.case(number), rules, detail),
             Kind::Traces => traces::run(self.traces.case(number), rules, detail)?,
             Kind::Entries => entries::run(self.entries.case(number), rules, detail),
         })

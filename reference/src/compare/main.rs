@@ -7,6 +7,7 @@ mod kinds;
 mod orders;
 mod ours;
 mod reader;
+mod redirects;
 mod report;
 mod requests;
 mod round_trips;

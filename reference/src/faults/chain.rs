@@ -159,6 +159,18 @@ pub const FAULTS: &[Row<dyn ChainRules>] = &[
         "Notify types below 16384 are left out of the tally.",
         &ErrorsUntallied,
     ),
+    (
+        Kind::Reader,
+        "redirects-untallied",
+        "REDIRECT_SUPPORTED, REDIRECT and REDIRECTED_FROM are left out of the tally.",
+        &RedirectsUntallied,
+    ),
+    (
+        Kind::Reader,
+        "redirect-supported-size",
+        "A REDIRECT_SUPPORTED with data gives 63 in a chain.",
+        &RedirectSupportedSize,
+    ),
     (Kind::Assess, "failed-16384", "Notify type 16384 is told as an error.", &Failed16384),
     (
         Kind::Reader,
@@ -481,6 +493,20 @@ struct ErrorsUntallied;
 impl ChainRules for ErrorsUntallied {
     fn is_tallied(&self, notify_type: NotifyType) -> bool {
         !Plain.is_error(notify_type)
+    }
+}
+
+struct RedirectsUntallied;
+impl ChainRules for RedirectsUntallied {
+    fn is_tallied(&self, notify_type: NotifyType) -> bool {
+        Plain.is_tallied(notify_type) && !(16406..=16408).contains(&notify_type.0)
+    }
+}
+
+struct RedirectSupportedSize;
+impl ChainRules for RedirectSupportedSize {
+    fn allows_data(&self, notify_type: NotifyType, size: usize) -> bool {
+        Plain.allows_data(notify_type, size) && (notify_type.0 != 16406 || size == 0)
     }
 }
 

@@ -12,6 +12,7 @@ mod checks;
 mod orders;
 mod parts;
 mod policy;
+mod redirects;
 mod replay;
 mod requests;
 mod responses;
@@ -22,8 +23,8 @@ mod writer;
 
 use crate::kind::Kind;
 use crate::rules::{
-    ChainRules, CheckRules, OrderRules, PartRules, Plain, PolicyRules, ReplayRules, RequestRules,
-    ResponseRules, RoundTripRules, Rules, TableRules, TraceRules, WriterRules,
+    ChainRules, CheckRules, OrderRules, PartRules, Plain, PolicyRules, RedirectRules, ReplayRules,
+    RequestRules, ResponseRules, RoundTripRules, Rules, TableRules, TraceRules, WriterRules,
 };
 
 /// A row of a part's table: the kind of cases that must find the fault, its name, what is wrong, and the wrong rules.
@@ -69,6 +70,7 @@ fn of_every_part() -> Vec<Fault> {
     faults.extend(of_part(responses::FAULTS, |responses| Faulty { responses, ..sound }));
     faults.extend(of_part(writer::FAULTS, |writer| Faulty { writer, ..sound }));
     faults.extend(of_part(round_trips::FAULTS, |round_trips| Faulty { round_trips, ..sound }));
+    faults.extend(of_part(redirects::FAULTS, |redirects| Faulty { redirects, ..sound }));
     faults.extend(of_part(trace::FAULTS, |trace| Faulty { trace, ..sound }));
     faults.extend(of_part(replay::FAULTS, |replay| Faulty { replay, ..sound }));
     faults
@@ -98,6 +100,7 @@ pub struct Faulty {
     responses: &'static dyn ResponseRules,
     writer: &'static dyn WriterRules,
     round_trips: &'static dyn RoundTripRules,
+    redirects: &'static dyn RedirectRules,
     trace: &'static dyn TraceRules,
     replay: &'static dyn ReplayRules,
 }
@@ -115,6 +118,7 @@ impl Faulty {
         responses: &Plain,
         writer: &Plain,
         round_trips: &Plain,
+        redirects: &Plain,
         trace: &Plain,
         replay: &Plain,
     };
@@ -131,6 +135,7 @@ impl Rules for Faulty {
     type Responses = dyn ResponseRules;
     type Writer = dyn WriterRules;
     type RoundTrips = dyn RoundTripRules;
+    type Redirects = dyn RedirectRules;
     type Trace = dyn TraceRules;
     type Replay = dyn ReplayRules;
 
@@ -172,6 +177,10 @@ impl Rules for Faulty {
 
     fn round_trips(&self) -> &Self::RoundTrips {
         self.round_trips
+    }
+
+    fn redirects(&self) -> &Self::Redirects {
+        self.redirects
     }
 
     fn trace(&self) -> &Self::Trace {

@@ -6,6 +6,7 @@ use crate::cases::checks::{self, ChecksCases};
 use crate::cases::entries::EntriesCases;
 use crate::cases::orders::{self, OrdersCases};
 use crate::cases::reader::ReaderCases;
+use crate::cases::redirects::RedirectsCases;
 use crate::cases::requests::{self, RequestsCases};
 use crate::cases::round_trips::RoundTripsCases;
 use crate::cases::tables::TablesCases;
@@ -16,6 +17,7 @@ use crate::handler::handle;
 use crate::orders::broken;
 use crate::outcome::Outcome;
 use crate::reader::read;
+use crate::redirect::program;
 use crate::round_trips::Model;
 use crate::trace::codec;
 use crate::writer::write;
@@ -31,6 +33,7 @@ struct Cases {
     assess: AssessCases,
     writer: WriterCases,
     round_trips: RoundTripsCases,
+    redirects: RedirectsCases,
     traces: TracesCases,
     entries: EntriesCases,
 }
@@ -46,6 +49,7 @@ impl Cases {
             assess: AssessCases::new(1),
             writer: WriterCases::new(1),
             round_trips: RoundTripsCases::new(1),
+            redirects: RedirectsCases::new(1),
             traces: TracesCases::new(1),
             entries: EntriesCases::new(1),
         }
@@ -75,6 +79,11 @@ impl Cases {
             Kind::RoundTrips => {
                 let case = self.round_trips.case(number);
                 case.holds_of(&Model(&Plain), one) != case.holds_of(&Model(&Plain), other)
+            }
+            Kind::Redirects => {
+                let given = self.redirects.case(number);
+                let (one, other) = (&program::Model(one), &program::Model(other));
+                program::Outcome::of(one, &given) != program::Outcome::of(other, &given)
             }
             Kind::Traces => {
                 let case = self.traces.case(number);
@@ -171,7 +180,7 @@ fn names_are_there_once_and_lines_too() {
 }
 
 /// The rules and the faults of each part, as they are written.
-const PARTS: [[&str; 2]; 12] = [
+const PARTS: [[&str; 2]; 13] = [
     [include_str!("../rules/chain.rs"), include_str!("chain.rs")],
     [include_str!("../rules/parts.rs"), include_str!("parts.rs")],
     [include_str!("../rules/tables.rs"), include_str!("tables.rs")],
@@ -182,6 +191,7 @@ const PARTS: [[&str; 2]; 12] = [
     [include_str!("../rules/responses.rs"), include_str!("responses.rs")],
     [include_str!("../rules/writer.rs"), include_str!("writer.rs")],
     [include_str!("../rules/round_trips.rs"), include_str!("round_trips.rs")],
+    [include_str!("../rules/redirects.rs"), include_str!("redirects.rs")],
     [include_str!("../rules/trace.rs"), include_str!("trace.rs")],
     [include_str!("../rules/replay.rs"), include_str!("replay.rs")],
 ];

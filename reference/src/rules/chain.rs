@@ -182,7 +182,8 @@ pub trait ChainRules {
         None
     }
 
-    /// "Every other notify type is tallied as unknown", those that tell errors too.
+    /// "Every other notify type is tallied as unknown", those that tell errors too; E7, of the redirect types: "chains
+    /// still tally them".
     fn is_tallied(&self, notify_type: NotifyType) -> bool {
         !notify_type.is_known()
     }

@@ -5,6 +5,7 @@ mod checks;
 mod orders;
 mod parts;
 mod policy;
+mod redirects;
 mod replay;
 mod requests;
 mod responses;
@@ -18,6 +19,7 @@ pub use checks::CheckRules;
 pub use orders::OrderRules;
 pub use parts::PartRules;
 pub use policy::PolicyRules;
+pub use redirects::RedirectRules;
 pub use replay::ReplayRules;
 pub use requests::RequestRules;
 pub use responses::ResponseRules;
@@ -38,6 +40,7 @@ pub trait Rules {
     type Responses: ResponseRules + ?Sized;
     type Writer: WriterRules + ?Sized;
     type RoundTrips: RoundTripRules + ?Sized;
+    type Redirects: RedirectRules + ?Sized;
     type Trace: TraceRules + ?Sized;
     type Replay: ReplayRules + ?Sized;
 
@@ -51,6 +54,7 @@ pub trait Rules {
     fn responses(&self) -> &Self::Responses;
     fn writer(&self) -> &Self::Writer;
     fn round_trips(&self) -> &Self::RoundTrips;
+    fn redirects(&self) -> &Self::Redirects;
     fn trace(&self) -> &Self::Trace;
     fn replay(&self) -> &Self::Replay;
 }
@@ -69,6 +73,7 @@ impl OrderRules for Plain {}
 impl ResponseRules for Plain {}
 impl WriterRules for Plain {}
 impl RoundTripRules for Plain {}
+impl RedirectRules for Plain {}
 impl TraceRules for Plain {}
 impl ReplayRules for Plain {}
 
@@ -83,6 +88,7 @@ impl Rules for Plain {
     type Responses = Plain;
     type Writer = Plain;
     type RoundTrips = Plain;
+    type Redirects = Plain;
     type Trace = Plain;
     type Replay = Plain;
 
@@ -123,6 +129,10 @@ impl Rules for Plain {
     }
 
     fn round_trips(&self) -> &Plain {
+        self
+    }
+
+    fn redirects(&self) -> &Plain {
         self
     }
 

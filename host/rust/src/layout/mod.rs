@@ -18,6 +18,7 @@ mod answers;
 mod chain;
 mod entries;
 mod flag;
+mod redirects;
 mod rules;
 mod tables;
 
@@ -28,5 +29,7 @@ pub use answers::{Assessment, Reply, Written};
 pub use chain::{Ask, Offsets, Reading, Seen, Tally};
 pub(crate) use entries::{EntryRead, EntryWritten};
 pub use flag::Flag;
+pub use redirects::Redirects;
+pub(crate) use redirects::{DataWritten, GatewayRead, RedirectDecision};
 pub use rules::{Policy, Rule};
 pub use tables::{Agreed, IkeRecord, IpsecRecord, Opening, PendingCheck};

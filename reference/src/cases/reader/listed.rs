@@ -29,6 +29,7 @@ pub fn all() -> Vec<Case> {
         spi_sizes(),
         cookies_alike(),
         told::all(),
+        redirects(),
     ]
     .concat()
 }
@@ -45,6 +46,20 @@ fn empty_payload(payload_type: u8, flags: u8) -> Draft {
 fn smallest(notify_type: NotifyType) -> Draft {
     let data: Vec<u8> = (1..).take(atoms::allowed_sizes(notify_type)[0]).collect();
     Draft::notify(notify_type, &data)
+}
+
+/// The notifications of a redirect, with data as they have it and other, before and behind others.
+fn redirects() -> Vec<Case> {
+    let update = smallest(NotifyType::UPDATE_SA_ADDRESSES);
+    let mut cases = Vec::new();
+    for notify_type in 16_406..=16_408 {
+        for data in [&[][..], &[0], &[1, 4, 192, 0, 2, 1], &[1, 4, 192, 0, 2], &[3, 1, 97, 5, 6]] {
+            let redirect = Draft::notify(NotifyType(notify_type), data);
+            cases.push(chain_of(vec![redirect.clone()]));
+            cases.push(chain_of(vec![redirect.clone(), update.clone(), redirect]));
+        }
+    }
+    cases
 }
 
 /// Rows a to h of the table, and row c with a cookie.

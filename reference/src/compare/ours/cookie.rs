@@ -2,9 +2,9 @@
 use reference::outcome::Place;
 
 #[repr(C)]
-struct COctets {
-    start: *const u8,
-    length: usize,
+pub struct COctets {
+    pub start: *const u8,
+    pub length: usize,
 }
 
 #[link(name = "unmavreth", kind = "static")]
@@ -38,7 +38,7 @@ pub fn nat_value(body: &[u8], at: u16) -> Place<'_> {
 
 /// A part that was handed out, where its start and its length say that it is. Nothing is read
 /// through its start.
-fn part(body: &[u8], out: COctets) -> Place<'_> {
+pub fn part(body: &[u8], out: COctets) -> Place<'_> {
     match out.length {
         0 => Place::default(),
         length => {

@@ -6,6 +6,7 @@ pub mod cookie;
 pub mod entries;
 mod pipe;
 pub mod reader;
+pub mod redirects;
 pub mod replay;
 pub mod requests;
 pub mod tables;

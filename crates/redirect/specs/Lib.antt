@@ -1,0 +1,5 @@
+pub mod Wire
+pub mod Rooms
+pub mod Identity
+pub mod Read
+pub mod Write

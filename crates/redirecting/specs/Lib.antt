@@ -1,0 +1,4 @@
+pub mod Limits
+pub mod Exchange
+pub mod Times
+pub mod Decision
