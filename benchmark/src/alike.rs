@@ -1,8 +1,8 @@
 // Tests that the lean baseline tells the same as the library on far more inputs than the rows'.
-use crate::job::{draft, Asking, Checking, Deciding, Handling, Job, OpeningBoth};
+use crate::job::{draft, Asking, Checking, Cloning, Deciding, Handling, Job, OpeningBoth};
 use crate::rows;
 use crate::side::Side;
-use unmavreth::{Address, Draft, Pair, Rule};
+use unmavreth::{Address, Draft, Flag, Pair, Rule};
 
 /// What the library and the lean baseline tell must be the same, a check bit by bit too.
 fn alike(job: &Job) {
@@ -21,6 +21,7 @@ fn body(job: &mut Job) -> Option<&mut Vec<u8>> {
         Job::Read { body, .. } | Job::Assess { body, .. } => Some(body),
         Job::Handle(handling) => Some(&mut handling.body),
         Job::Check(checking) => Some(&mut checking.body),
+        Job::Clone(cloning) => Some(&mut cloning.body),
         _ => None,
     }
 }
@@ -62,8 +63,17 @@ fn of_repeated_notifications() {
         &[0x40, 17, 9],
         &[0x40, 18, 12],
     ];
-    let more: [&[u8]; 6] =
-        [&[0x40, 18, 36], &[0, 40, 0], &[0, 41, 2], &[0, 0, 0], &[0x3f, 255, 1], &[0x40, 0, 0]];
+    let more: [&[u8]; 9] = [
+        &[0x40, 18, 36],
+        &[0, 40, 0],
+        &[0, 41, 2],
+        &[0, 0, 0],
+        &[0x3f, 255, 1],
+        &[0x40, 0, 0],
+        &[0x40, 48, 0],
+        &[0x40, 49, 0],
+        &[0x40, 49, 1],
+    ];
     let all: Vec<&[u8]> = notifies.into_iter().chain(more).collect();
     for [one, two, three] in triples(all.len()) {
         let mut body = Vec::new();
@@ -78,7 +88,7 @@ fn of_repeated_notifications() {
 /// One notification of every known type, with every SPI size and data size around the allowed ones.
 #[test]
 fn of_sizes() {
-    for (low, spi) in (3..=19u8).flat_map(|low| [0, 1, 9].map(|spi| (low, spi))) {
+    for (low, spi) in (3..=19u8).chain(47..=50).flat_map(|low| [0, 1, 9].map(|spi| (low, spi))) {
         for size in 0..=66 {
             let head = [0, 0, 0, 8 + size, 0, spi, 0x40, low];
             alike_of_chain([&head[..], &vec![7; size.into()]].concat());
@@ -135,13 +145,14 @@ fn of_kept_cookies() {
     }
 }
 
-/// A chain read, assessed, as the response to a check, and as a request to a record whose tally is all but full.
+/// A chain read, assessed, as the response to a check, as a rekey, and as a request to a record whose tally is all but full.
 fn alike_of_chain(body: Vec<u8>) {
     let mut handling = Handling::of(41, body.clone());
     handling.gateway.ike[0].unknown = u32::MAX - 1;
     alike(&Job::Handle(Box::new(handling)));
     alike(&Job::Read { first: 41, body: body.clone() });
     alike(&Job::Check(Box::new(Checking { body: body.clone(), ..Checking::owning(2) })));
+    alike(&Job::Clone(Box::new(Cloning { body: body.clone(), ..Cloning::of_last() })));
     alike(&Job::Assess { first: 41, body });
 }
 
@@ -182,16 +193,39 @@ fn of_arguments() {
     }
 }
 
+/// Clones of records that did not agree or are being deleted, among others of their peer and with no place free,
+/// to SPIs that are in use.
+#[test]
+fn of_clones() {
+    for (others, free) in (0..=5).flat_map(|others| [false, true].map(|free| (others, free))) {
+        for (spi, new_spi) in [(0, 8), (7, 0), (7, 7), (7, 8), (7, 101), (101, 8), (9, 8)] {
+            for (cloning, deleting) in [(1, 0), (1, 1), (0, 0), (0, 1)] {
+                let mut of = Cloning { spi, new_spi, ..Cloning::of_last() };
+                let record = of.gateway.ike[30];
+                for other in &mut of.gateway.ike[..others] {
+                    other.agreed.peer = record.agreed.peer;
+                }
+                of.gateway.ike[30].agreed.cloning = Flag::from(cloning == 1);
+                of.gateway.ike[30].deleting = Flag::from(deleting == 1);
+                of.gateway.ike[31].spi = if free { 0 } else { 132 };
+                of.room = if others == 5 { 127 } else { 128 };
+                alike(&Job::Clone(Box::new(of)));
+            }
+        }
+    }
+}
+
 #[test]
 fn of_drafts() {
     let cookies: [&[u8]; 6] = [&[], &[1; 7], &[1; 8], &[1; 64], &[1; 65], &[1; 20]];
     let addresses = [Address::ipv6([3; 16]), Address { family: 4, octets: [3; 16] }];
-    for (flags, count) in (0..64).flat_map(|flags| [0, 1, 2, 3, 16, 17].map(|of| (flags, of))) {
+    for (flags, count) in (0..256).flat_map(|flags| [0, 1, 2, 3, 16, 17].map(|of| (flags, of))) {
         let set = |bit: u32| flags >> bit & 1 == 1;
         for (place, cookie) in cookies.into_iter().enumerate() {
             let mut of: Draft<'static> = draft();
             (of.ask.update, of.ask.no_nats, of.ask.nat_source) = (set(0), set(1), set(2));
             (of.ask.nat_destination, of.ask.no_additional) = (set(3), set(4));
+            (of.ask.clone_supported, of.ask.clone) = (set(6), set(7));
             (of.ask.count, of.cookie) = (count, cookie);
             of.pair = if set(5) { Pair::ipv6(([5; 16], 1), ([6; 16], 2)) } else { of.pair };
             of.addresses[1] = addresses[place % 2];

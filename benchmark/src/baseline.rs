@@ -1,8 +1,8 @@
 // A row's call on the lean baseline: once uncounted, once counted on state of its own.
 use crate::chains::COOKIE;
 use crate::counted::*;
-use crate::job::{Checking, Deciding, Handling, Job, OpeningBoth};
-use crate::lean::{self, Assessment, Reading, Reply, Written};
+use crate::job::{Checking, Cloning, Deciding, Handling, Job, OpeningBoth};
+use crate::lean::{self, Assessment, CloneReply, Reading, Reply, Written};
 use crate::ours::{Lent, BEFORE};
 use crate::told::Told;
 use std::hint::black_box;
@@ -15,6 +15,7 @@ pub fn told(job: &Job) -> Told {
         Job::Handle(handling) => handled(handling, false),
         Job::Check(checking) => checked(checking, false),
         Job::Open(opening) => opened(opening, false),
+        Job::Clone(cloning) => cloned(cloning, false),
         Job::Decide(of) => decided(of, false),
         Job::Write(draft) => write(draft, false),
         Job::Assess { first, body } => assessed(body, &lean::assess(&COOKIE, *first, body)),
@@ -30,6 +31,7 @@ pub fn counted(job: &Job) -> Told {
         Job::Handle(handling) => handled(handling, true),
         Job::Check(checking) => checked(checking, true),
         Job::Open(opening) => opened(opening, true),
+        Job::Clone(cloning) => cloned(cloning, true),
         Job::Decide(of) => decided(of, true),
         Job::Write(draft) => write(draft, true),
         Job::Assess { first, body } => assessed(
@@ -100,6 +102,26 @@ fn opened(opening: &OpeningBoth, count: bool) -> Told {
     ));
     let fields = vec![("number", number.into())];
     Told { fields, octets: vec![], tables: Some(lent.tables()) }
+}
+
+fn cloned(cloning: &Cloning, count: bool) -> Told {
+    let mut lent = Lent::of(&cloning.gateway);
+    let call = if count { counted_lean_clone } else { lean::clone_ike };
+    let CloneReply { number, first, payloads, offset, ordinal, length } = black_box(call(
+        black_box(&mut lent.ike),
+        black_box(&cloning.request()),
+        black_box(&mut lent.out[..cloning.room]),
+    ));
+    let fields = vec![
+        ("number", number.into()),
+        ("first", first.into()),
+        ("payloads", payloads.into()),
+        ("offset", offset.into()),
+        ("ordinal", ordinal.into()),
+        ("length", length.into()),
+    ];
+    let octets = vec![lent.out[..cloning.room].to_vec()];
+    Told { fields, octets, tables: Some(lent.tables()) }
 }
 
 fn write(draft: &Draft, count: bool) -> Told {

@@ -9,6 +9,7 @@ const ADDITIONAL_IP6_ADDRESS: u16 = 16398;
 const UPDATE_SA_ADDRESSES: u16 = 16400;
 const COOKIE2: u16 = 16401;
 const NO_NATS_ALLOWED: u16 = 16402;
+const CLONE_IKE_SA: u16 = 16433;
 const UNKNOWN: u16 = 40000;
 
 pub const COOKIE: [u8; 16] = [1, 2, 3, 4, 5, 6, 7, 8, 9, 10, 11, 12, 13, 14, 15, 16];
@@ -56,6 +57,18 @@ pub fn response() -> Vec<u8> {
 /// The response to a check with its cookie, of 24 octets.
 pub fn check_response() -> Vec<u8> {
     notifications(&[(COOKIE2, &CHECK_COOKIE)])
+}
+
+/// A rekey of an IKE SA with CLONE_IKE_SA, of 160 octets: the notification, SA, nonce and key exchange, whose
+/// content is skipped.
+pub fn rekey() -> Vec<u8> {
+    let mut body = notifications(&[(CLONE_IKE_SA, &[])]);
+    body[0] = SKIPPED;
+    for (next, length) in [(40, 44), (34, 36), (0, 72)] {
+        body.extend([next, 0, 0, length]);
+        body.extend(vec![7; usize::from(length) - 4]);
+    }
+    body
 }
 
 /// An update whose NO_NATS_ALLOWED tells other addresses and ports than any packet here.

@@ -22,7 +22,8 @@ pub fn pair(of: &unmavreth::Pair) -> AddressPair {
 }
 
 fn agreed(of: &unmavreth::Agreed) -> Agreed {
-    Agreed { mobike: u8::from(of.mobike.is_set()) }
+    let [mobike, cloning] = [of.mobike, of.cloning].map(|flag| u8::from(flag.is_set()));
+    Agreed { mobike, cloning, peer: of.peer }
 }
 
 fn ike(of: &unmavreth::IkeRecord) -> IkeRecord {
@@ -36,6 +37,7 @@ fn ike(of: &unmavreth::IkeRecord) -> IkeRecord {
         addresses: of.addresses.each_ref().map(address),
         unknown: of.unknown,
         check: pending(&of.check),
+        deleting: u8::from(of.deleting.is_set()),
     }
 }
 

@@ -7,22 +7,24 @@ use reference::address::AddressPair;
 use reference::asking::Arguments;
 use reference::assess::Assessed;
 use reference::calls::Call;
+use reference::cloning::Cloned;
 use reference::reply::Handled;
 use reference::rules::{Plain, PolicyRules};
 use reference::tables::Tables;
 use std::hint::black_box;
 use unmavreth::redirect::{Exchange, Redirect, Redirects};
 use unmavreth::{
-    Assessment, CheckResponse, Draft, IkeRecord, IpsecRecord, Number, Opening, Pair, Policy,
-    Reading, Reply, Request, Written,
+    Assessment, CheckResponse, CloneReply, CloneRequest, Draft, IkeRecord, IpsecRecord, Number,
+    Opening, Pair, Policy, Reading, Reply, Request, Written,
 };
 
 /// The names that callgrind is told. With a wrong one nothing is counted, which is an error.
-pub const NAMES: [&str; 24] = [
+pub const NAMES: [&str; 27] = [
     "counted_ours_read",
     "counted_ours_handle",
     "counted_ours_check",
     "counted_ours_open",
+    "counted_ours_clone",
     "counted_ours_decide",
     "counted_lean_decide",
     "counted_ours_write",
@@ -32,6 +34,7 @@ pub const NAMES: [&str; 24] = [
     "counted_second_handle",
     "counted_second_check",
     "counted_second_open",
+    "counted_second_clone",
     "counted_second_write",
     "counted_second_assess",
     "counted_second_acceptable",
@@ -39,6 +42,7 @@ pub const NAMES: [&str; 24] = [
     "counted_lean_handle",
     "counted_lean_check",
     "counted_lean_open",
+    "counted_lean_clone",
     "counted_lean_write",
     "counted_lean_assess",
     "counted_lean_acceptable",
@@ -280,4 +284,39 @@ pub fn counted_second_check<'a>(
     let assessed = reference::check::decide(response, tables, &reference::rules::Plain);
     black_box(&assessed);
     assessed
+}
+
+#[inline(never)]
+#[no_mangle]
+pub fn counted_ours_clone(
+    ike: &mut [IkeRecord; 32],
+    request: &CloneRequest<'_>,
+    out: &mut [u8],
+) -> CloneReply {
+    let reply = unmavreth::clone_ike(ike, request, out);
+    black_box(&reply);
+    reply
+}
+
+#[inline(never)]
+#[no_mangle]
+pub fn counted_lean_clone(
+    ike: &mut [IkeRecord; 32],
+    request: &CloneRequest<'_>,
+    out: &mut [u8],
+) -> lean::CloneReply {
+    let reply = lean::clone_ike(ike, request, out);
+    black_box(&reply);
+    reply
+}
+
+#[inline(never)]
+#[no_mangle]
+pub fn counted_second_clone(
+    request: &reference::cloning::CloneRequest,
+    tables: &mut Tables,
+) -> Cloned {
+    let cloned = reference::cloning::clone(request, tables, &Plain);
+    black_box(&cloned);
+    cloned
 }

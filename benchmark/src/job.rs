@@ -3,8 +3,8 @@ use crate::chains::{self, CHECK_COOKIE, COOKIE, NAT_DESTINATION, NAT_SOURCE, NOT
 use unmavreth::redirect::{Exchange, Redirects};
 use unmavreth::trace::Entry;
 use unmavreth::{
-    Address, Agreed, Ask, CheckResponse, Draft, Effect, Flag, Gateway, Number, Opening, Pair,
-    Policy, Request, Rule,
+    Address, Agreed, Ask, CheckResponse, CloneRequest, Draft, Effect, Flag, Gateway, Number,
+    Opening, Pair, Policy, Request, Rule,
 };
 
 pub enum Job {
@@ -12,6 +12,7 @@ pub enum Job {
     Handle(Box<Handling>),
     Check(Box<Checking>),
     Open(Box<OpeningBoth>),
+    Clone(Box<Cloning>),
     Decide(Box<Deciding>),
     Write(Box<Draft<'static>>),
     Assess { first: u8, body: Vec<u8> },
@@ -59,6 +60,17 @@ pub struct Checking {
 pub struct OpeningBoth {
     pub gateway: Gateway,
     pub opening: Opening,
+}
+
+/// A request to clone, with the table and the output that are lent for it.
+pub struct Cloning {
+    pub gateway: Gateway,
+    pub spi: u64,
+    pub new_spi: u64,
+    pub first: u8,
+    pub body: Vec<u8>,
+    /// How long the output is, at most 128 octets.
+    pub room: usize,
 }
 
 pub const OWNER: u64 = 7;
@@ -141,6 +153,25 @@ impl OpeningBoth {
     }
 }
 
+impl Cloning {
+    /// A rekey of the last of 31 records, the only one of its peer.
+    pub fn of_last() -> Self {
+        let mut gateway = with_policy();
+        for spi in (101..131).chain([OWNER]) {
+            let agreed = Agreed { mobike: Flag::YES, cloning: Flag::YES, peer: spi as u32 };
+            done(gateway.open(&Opening { agreed, ..opening(spi, spi as u32) }));
+        }
+        let (first, body) = (NOTIFY, chains::rekey());
+        Cloning { gateway, spi: OWNER, new_spi: OTHER, first, body, room: 128 }
+    }
+
+    /// The request as the library is given it.
+    pub fn request(&self) -> CloneRequest<'_> {
+        let Cloning { spi, new_spi, first, ref body, .. } = *self;
+        CloneRequest { spi, new_spi, first, body }
+    }
+}
+
 impl Deciding {
     /// A REDIRECT to an IPv4 address with the nonce of 32 octets that was sent, in IKE_SA_INIT, a second
     /// after the last of five accepted ones, the first of which was `since` seconds before.
@@ -170,7 +201,7 @@ fn ipv6(last: u8) -> [u8; 16] {
 }
 
 fn opening(spi: u64, child: u32) -> Opening {
-    Opening { spi, agreed: Agreed { mobike: Flag::YES }, pair: OLD, child }
+    Opening { spi, agreed: Agreed { mobike: Flag::YES, ..Agreed::NONE }, pair: OLD, child }
 }
 
 /// The calls that make the policy and the tables of `Handling::of`, as entries of a trace.

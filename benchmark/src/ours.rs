@@ -2,7 +2,7 @@
 use crate::chains::COOKIE;
 use crate::convert;
 use crate::counted::*;
-use crate::job::{Checking, Deciding, Handling, Job, OpeningBoth};
+use crate::job::{Checking, Cloning, Deciding, Handling, Job, OpeningBoth};
 use crate::told::Told;
 use reference::tables::Tables;
 use std::hint::black_box;
@@ -21,6 +21,7 @@ pub fn told(job: &Job) -> Told {
         Job::Handle(handling) => handled(handling, false),
         Job::Check(checking) => checked(checking, false),
         Job::Open(opening) => opened(opening, false),
+        Job::Clone(cloning) => cloned(cloning, false),
         Job::Decide(of) => decided(of, false),
         Job::Write(draft) => {
             let mut out = vec![BEFORE; 564];
@@ -42,6 +43,7 @@ pub fn counted(job: &Job) -> Told {
         Job::Handle(handling) => handled(handling, true),
         Job::Check(checking) => checked(checking, true),
         Job::Open(opening) => opened(opening, true),
+        Job::Clone(cloning) => cloned(cloning, true),
         Job::Decide(of) => decided(of, true),
         Job::Write(draft) => count_write(draft),
         Job::Assess { first, body } => assessed(
@@ -118,6 +120,26 @@ fn opened(opening: &OpeningBoth, count: bool) -> Told {
     ));
     let fields = vec![("number", u8::from(number).into())];
     Told { fields, octets: vec![], tables: Some(lent.tables()) }
+}
+
+fn cloned(cloning: &Cloning, count: bool) -> Told {
+    let mut lent = Lent::of(&cloning.gateway);
+    let call = if count { counted_ours_clone } else { unmavreth::clone_ike };
+    let reply = black_box(call(
+        black_box(&mut lent.ike),
+        black_box(&cloning.request()),
+        black_box(&mut lent.out[..cloning.room]),
+    ));
+    let fields = vec![
+        ("number", u8::from(reply.number()).into()),
+        ("first", reply.first().into()),
+        ("payloads", reply.payloads().into()),
+        ("offset", reply.offset().into()),
+        ("ordinal", reply.ordinal().into()),
+        ("length", reply.length().into()),
+    ];
+    let octets = vec![lent.out[..cloning.room].to_vec()];
+    Told { fields, octets, tables: Some(lent.tables()) }
 }
 
 fn decided(of: &Deciding, count: bool) -> Told {

@@ -1,6 +1,8 @@
 // The rows: which call each counts, on what, and what it must tell.
 use crate::chains::{self, NOTIFY, SKIPPED};
-use crate::job::{draft, Asking, Checking, Deciding, Handling, Job, OpeningBoth, ELSEWHERE};
+use crate::job::{
+    draft, Asking, Checking, Cloning, Deciding, Handling, Job, OpeningBoth, ELSEWHERE,
+};
 use unmavreth::Flag;
 
 /// In which table a row stands.
@@ -39,6 +41,7 @@ pub fn all() -> Vec<Row> {
     rows.extend(full_tables());
     rows.extend(refusals());
     rows.extend(openings());
+    rows.push(cloned());
     rows.extend(redirects());
     rows.extend(initiator());
     rows.extend([256, 512, 1024, 2048, 4096].map(by_octets));
@@ -162,6 +165,12 @@ fn openings() -> Vec<Row> {
         row("opened", opened, empty, &[("number", 0)]),
         row("opened-full", "the same, refused 10: full tables", full, &[("number", 10)]),
     ]
+}
+
+fn cloned() -> Row {
+    let title = "a rekey of 160 octets with CLONE_IKE_SA, the last of 31 IKE records cloned";
+    let cloned = [("number", 0), ("payloads", 4), ("length", 8)];
+    row("cloned", title, || Job::Clone(Box::new(Cloning::of_last())), &cloned)
 }
 
 fn redirects() -> [Row; 2] {

@@ -2,12 +2,13 @@
 use crate::chains::{COOKIE, NAT_DESTINATION};
 use crate::convert;
 use crate::counted::*;
-use crate::job::{Checking, Handling, Job, OpeningBoth};
+use crate::job::{Checking, Cloning, Handling, Job, OpeningBoth};
 use crate::ours::BEFORE;
 use crate::told::Told;
 use reference::asking::{Arguments, Ask};
 use reference::assess::Assessed;
 use reference::calls::Call;
+use reference::cloning::CloneRequest;
 use reference::outcome::Outcome;
 use reference::reader::Reading;
 use reference::request::Request;
@@ -22,6 +23,7 @@ pub fn told(job: &Job) -> Option<Told> {
         Job::Handle(handling) => handled(handling, false),
         Job::Check(checking) => checked(checking, false),
         Job::Open(opening) => opened(opening, false),
+        Job::Clone(cloning) => cloned(cloning, false),
         Job::Decide(_) => return None,
         Job::Write(draft) => written(reference::writer::write(&arguments(draft), &Plain)),
         Job::Assess { first, body } => {
@@ -45,6 +47,7 @@ pub fn counted(job: &Job) -> Option<Told> {
         Job::Handle(handling) => handled(handling, true),
         Job::Check(checking) => checked(checking, true),
         Job::Open(opening) => opened(opening, true),
+        Job::Clone(cloning) => cloned(cloning, true),
         Job::Decide(_) => return None,
         Job::Write(draft) => {
             let arguments = arguments(draft);
@@ -73,6 +76,8 @@ fn arguments(draft: &unmavreth::Draft) -> Arguments {
         nat_destination: draft.ask.nat_destination,
         no_additional: draft.ask.no_additional,
         count: draft.ask.count,
+        clone_supported: draft.ask.clone_supported,
+        clone: draft.ask.clone,
     };
     Arguments {
         ask,
@@ -148,6 +153,29 @@ fn opened(opening: &OpeningBoth, count: bool) -> Told {
         false => opening.make(lent, &Plain),
     });
     Told { fields: vec![("number", number.into())], octets: vec![], tables: Some(tables) }
+}
+
+fn cloned(cloning: &Cloning, count: bool) -> Told {
+    let given = &cloning.gateway;
+    let mut tables = convert::tables(&given.ike, &given.ipsec, &given.policy);
+    let Cloning { spi, new_spi, first, ref body, room, .. } = *cloning;
+    let request =
+        CloneRequest { spi, new_spi, first, body: body.clone(), output: vec![BEFORE; room] };
+    let (given, lent) = (black_box(&request), black_box(&mut tables));
+    let cloned = black_box(match count {
+        true => counted_second_clone(given, lent),
+        false => reference::cloning::clone(given, lent, &Plain),
+    });
+    let reply = &cloned.reply;
+    let fields = vec![
+        ("number", reply.number.into()),
+        ("first", reply.first.into()),
+        ("payloads", reply.payloads as u64),
+        ("offset", reply.offset as u64),
+        ("ordinal", reply.ordinal as u64),
+        ("length", reply.length as u64),
+    ];
+    Told { fields, octets: vec![cloned.output], tables: Some(tables) }
 }
 
 fn reading(body: &[u8], reading: &Reading) -> Told {

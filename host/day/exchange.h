@@ -13,7 +13,8 @@
 #define OUR_IPSEC_2 UINT32_C(0xc1a50002)
 #define NEIGHBOUR_SPI UINT64_C(0x0b0b000000000002)
 #define NEIGHBOUR_IPSEC UINT32_C(0xc1a50003)
-enum { OUR_PLACE = 0, NEIGHBOUR_PLACE = 1, OUTCOME = 256 };
+#define THIRD_SPI UINT64_C(0x0ca7e00000000003) // of an initiator that comes when these two have left
+enum { OUR_PLACE = 0, NEIGHBOUR_PLACE = 1, OUTCOME = 384 };
 
 typedef struct day {
     gateway gateway;

@@ -6,7 +6,6 @@
 #include "records.h"
 #include "scenes.h"
 
-#define THIRD_SPI UINT64_C(0x0ca7e00000000003)
 #define THIRD_IPSEC UINT32_C(0xc1a50004)
 #define FURTHER_IPSEC UINT32_C(0xc1a60000) // those that fill the list follow it
 

@@ -39,6 +39,12 @@ uint8_t gateway_close_ipsec(gateway *g, uint32_t spi)
     return unmavreth_close_ipsec(g->tables.ipsec, UNMAVRETH_IPSEC_PLACES, spi);
 }
 
+uint8_t gateway_mark_deletion(gateway *g, uint64_t spi)
+{
+    trace_mark_deletion(&g->trace, spi);
+    return unmavreth_mark_deletion(&g->tables.ike, spi);
+}
+
 uint8_t gateway_set_policy(gateway *g, uint16_t count, const unmavreth_rules *rules)
 {
     trace_policy(&g->trace, count, rules);
@@ -84,4 +90,18 @@ unmavreth_assessment gateway_end_check(gateway *g, uint64_t spi, uint32_t id, co
     trace_check_response(&g->trace, spi, id, response);
     return unmavreth_check(&g->tables.ike, g->tables.ipsec, UNMAVRETH_IPSEC_PLACES, spi, id, response->first,
                            response->octets, response->length);
+}
+
+unmavreth_clone_reply gateway_clone(gateway *g, uint64_t spi, uint64_t new_spi, const message *request,
+                                    message *response, bool *kept)
+{
+    trace_clone(&g->trace, spi, new_spi, request);
+    memset(response->octets, FILL, sizeof response->octets);
+    unmavreth_clone_reply reply =
+        unmavreth_clone(&g->tables.ike, spi, new_spi, request->first, request->octets, request->length,
+                        response->octets, UNMAVRETH_RESPONSE_ROOM);
+    response->first = reply.first;
+    response->length = reply.length;
+    *kept = is_filled(response->octets + reply.length, sizeof response->octets - reply.length);
+    return reply;
 }

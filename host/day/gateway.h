@@ -30,6 +30,8 @@ uint8_t gateway_close_ipsec(gateway *g, uint32_t spi);
 uint8_t gateway_set_policy(gateway *g, uint16_t count, const unmavreth_rules *rules);
 bool gateway_accepts(const gateway *g, unmavreth_pair pair);
 
+uint8_t gateway_mark_deletion(gateway *g, uint64_t spi);
+
 // Handles a request, with what a check of ours would have. `kept` says whether the octets past the response stayed as
 // they were.
 unmavreth_reply gateway_answer(gateway *g, uint64_t spi, uint32_t id, unmavreth_pair packet, const message *request,
@@ -40,5 +42,9 @@ message gateway_write_check(const own_check *check);
 
 // Decides the response to a check.
 unmavreth_assessment gateway_end_check(gateway *g, uint64_t spi, uint32_t id, const message *response);
+
+// Decides a rekey of an IKE SA that may be a clone. `kept` as above.
+unmavreth_clone_reply gateway_clone(gateway *g, uint64_t spi, uint64_t new_spi, const message *request,
+                                    message *response, bool *kept);
 
 #endif

@@ -37,8 +37,8 @@ static void print_opening(void)
     out("\n");
     out_wrapped(PLAIN, 0, 0,
                 "Both ends run: the initiator's end writes requests and assesses responses, the gateway handles the "
-                "octets and keeps the tables. The requests of unknown, malformed and critical are laid out by hand, "
-                "since the request writer never writes such. Our initiator's IKE SPI is 0a11ce0000000001, the "
+                "octets and keeps the tables. The requests of unknown, malformed and critical, and some of clone, are "
+                "laid out by hand, since the request writer never writes such. Our initiator's IKE SPI is 0a11ce0000000001, the "
                 "neighbour's is 0b0b000000000002. A pair is as in a packet from the peer: source > destination. In the "
                 "tables, update and list are marks, the message IDs of the newest update received and of the list "
                 "kept, unknown is the tally, and check is the message ID of the gateway's request that checks return "

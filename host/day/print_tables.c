@@ -74,6 +74,17 @@ static void add_check(char *text, const unmavreth_ike *r, bool changed)
         add(text, "check %" PRIu32 "%s", r->check.id, star(changed));
 }
 
+// What cloning goes by, of a record that agreed on it: the peer's number, and whether it is being deleted.
+static void add_cloning(char *text, const unmavreth_ike *r, const unmavreth_ike *was)
+{
+    if (r->agreed.cloning == 0)
+        return;
+    add(text, "cloning agreed%s", star(was->agreed.cloning == 0));
+    add(text, "peer %" PRIu32 "%s", r->agreed.peer, star(r->agreed.peer != was->agreed.peer));
+    if (r->deleting != 0)
+        add(text, "being deleted%s", star(was->deleting == 0));
+}
+
 // The addresses of a record, with a star behind each that `was` has not at its place.
 static void add_addresses(char *text, const unmavreth_ike *r, const unmavreth_ike *was)
 {
@@ -118,6 +129,8 @@ static void print_ike_before(const unmavreth_ike *r, const unmavreth_ike *was)
         add(text, "unknown %" PRIu32, was->unknown);
     if (!same_check(r, was))
         add_check(text, was, false);
+    if (r->deleting != 0 && was->deleting == 0)
+        add(text, "not being deleted");
     if (!same_addresses(r, was)) {
         add_addresses(addresses, was, was);
         add(text, "additional addresses %s", addresses);
@@ -139,6 +152,7 @@ static void print_ike(size_t place, const unmavreth_ike *r, const unmavreth_ike 
     add_mark(marks, "list", r->list_mark, r->list_mark != was->list_mark);
     add(marks, "unknown %" PRIu32 "%s", r->unknown, star(r->unknown != was->unknown));
     add_check(marks, r, !same_check(r, was));
+    add_cloning(marks, r, was);
     print_details(PLAIN, "", marks);
     if (r->count != 0 || was->count != 0)
         add_addresses(addresses, r, was);

@@ -1,4 +1,4 @@
-// The calls that open and close records.
+// The calls that open, mark and close records.
 #include "records.h"
 
 #include <inttypes.h>
@@ -10,8 +10,11 @@ void open_both(day *d, const unmavreth_opening *opening, uint8_t expected)
 {
     uint8_t number = gateway_open(&d->gateway, opening);
     const char *mobike = opening->agreed.mobike ? "agreed" : "not agreed";
-    out("  Open IKE record %016" PRIx64 ", MOBIKE %s, with IPsec record %08" PRIx32 ":\n    answer %u: %s\n",
-        opening->spi, mobike, opening->child, number, unmavreth_number_words(number));
+    out("  Open IKE record %016" PRIx64 ", MOBIKE %s, with IPsec record %08" PRIx32 ":\n", opening->spi, mobike,
+        opening->child);
+    if (opening->agreed.cloning)
+        out("    cloning agreed, peer %" PRIu32 "\n", opening->agreed.peer);
+    out("    answer %u: %s\n", number, unmavreth_number_words(number));
     if (number != UNMAVRETH_DONE)
         add_outcome(d, "opening refused, %u: %s", number, unmavreth_number_words(number));
     check_number(&d->checks, "opening an IKE record with its first IPsec record", number, expected);
@@ -39,6 +42,14 @@ void close_ike(day *d, uint64_t spi)
     out("  Close IKE record %016" PRIx64 ", with the IPsec records that it owns:\n    answer %u: %s\n", spi, number,
         unmavreth_number_words(number));
     check_number(&d->checks, "closing the IKE record", number, UNMAVRETH_DONE);
+}
+
+void mark_deletion(day *d, uint64_t spi)
+{
+    uint8_t number = gateway_mark_deletion(&d->gateway, spi);
+    out("  Mark IKE record %016" PRIx64 " as being deleted:\n    answer %u: %s\n", spi, number,
+        unmavreth_number_words(number));
+    check_number(&d->checks, "marking the IKE record", number, UNMAVRETH_DONE);
 }
 
 void add_in_use(day *d)

@@ -1,4 +1,4 @@
-// The calls that open and close records: each prints its answer, and checks it.
+// The calls that open, mark and close records: each prints its answer, and checks it.
 #ifndef DAY_RECORDS_H
 #define DAY_RECORDS_H
 
@@ -12,6 +12,7 @@ void open_both(day *d, const unmavreth_opening *opening, uint8_t expected);
 void open_ipsec(day *d, uint32_t spi, uint64_t owner);
 void close_ipsec(day *d, size_t place);
 void close_ike(day *d, uint64_t spi);
+void mark_deletion(day *d, uint64_t spi);
 
 // Adds to the scene's outcome how many records are in use.
 void add_in_use(day *d);

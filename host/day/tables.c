@@ -40,7 +40,7 @@ static bool same_check(const unmavreth_pending_check *a, const unmavreth_pending
 
 static bool same_agreed(const unmavreth_agreed *a, const unmavreth_agreed *b)
 {
-    return a->mobike == b->mobike;
+    return a->mobike == b->mobike && a->cloning == b->cloning && a->peer == b->peer;
 }
 
 static bool same_ike(const unmavreth_ike *a, const unmavreth_ike *b)
@@ -50,7 +50,7 @@ static bool same_ike(const unmavreth_ike *a, const unmavreth_ike *b)
             return false;
     return a->spi == b->spi && same_agreed(&a->agreed, &b->agreed) && same_pair(&a->pair, &b->pair) &&
            a->update_mark == b->update_mark && a->list_mark == b->list_mark && a->count == b->count &&
-           a->unknown == b->unknown && same_check(&a->check, &b->check);
+           a->unknown == b->unknown && same_check(&a->check, &b->check) && a->deleting == b->deleting;
 }
 
 static bool same_ipsec(const unmavreth_ipsec *a, const unmavreth_ipsec *b)

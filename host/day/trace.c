@@ -60,6 +60,8 @@ void trace_open_both(trace *t, const unmavreth_opening *opening)
     what.slots[UNMAVRETH_OPEN_AGREED] = opening->agreed.mobike != 0;
     tell_pair(&what, UNMAVRETH_OPEN_PAIR, &opening->pair);
     what.slots[UNMAVRETH_OPEN_CHILD] = opening->child;
+    what.slots[UNMAVRETH_OPEN_PEER] = opening->agreed.peer;
+    what.slots[UNMAVRETH_OPEN_CLONING] = opening->agreed.cloning != 0;
     append(t, UNMAVRETH_KIND_OPEN_BOTH, &what);
 }
 
@@ -124,6 +126,24 @@ void trace_check_response(trace *t, uint64_t spi, uint32_t id, const message *re
     what.slots[UNMAVRETH_CHECK_RESPONSE_BODY] = offset_of(&what, response->octets, response->length);
     what.slots[UNMAVRETH_CHECK_RESPONSE_BODY_SIZE] = response->length;
     append(t, UNMAVRETH_KIND_CHECK_RESPONSE, &what);
+}
+
+void trace_clone(trace *t, uint64_t spi, uint64_t new_spi, const message *request)
+{
+    told what = {0};
+    what.slots[UNMAVRETH_CLONE_SPI] = spi;
+    what.slots[UNMAVRETH_CLONE_NEW_SPI] = new_spi;
+    what.slots[UNMAVRETH_CLONE_FIRST] = request->first;
+    what.slots[UNMAVRETH_CLONE_BODY] = offset_of(&what, request->octets, request->length);
+    what.slots[UNMAVRETH_CLONE_BODY_SIZE] = request->length;
+    append(t, UNMAVRETH_KIND_CLONE, &what);
+}
+
+void trace_mark_deletion(trace *t, uint64_t spi)
+{
+    told what = {0};
+    what.slots[UNMAVRETH_MARK_DELETION_SPI] = spi;
+    append(t, UNMAVRETH_KIND_MARK_DELETION, &what);
 }
 
 unsigned trace_read_back(const trace *t)

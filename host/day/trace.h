@@ -22,6 +22,8 @@ void trace_request(trace *t, uint64_t spi, uint32_t id, const unmavreth_pair *pa
                    const uint8_t nat_source[UNMAVRETH_NAT_OCTETS], const uint8_t nat_destination[UNMAVRETH_NAT_OCTETS],
                    const message *request, const uint8_t *cookie, size_t cookie_octets, uint32_t check_id);
 void trace_check_response(trace *t, uint64_t spi, uint32_t id, const message *response);
+void trace_clone(trace *t, uint64_t spi, uint64_t new_spi, const message *request);
+void trace_mark_deletion(trace *t, uint64_t spi);
 
 // How many entries there are in the octets, read one behind the other; 0 if one is refused.
 unsigned trace_read_back(const trace *t);

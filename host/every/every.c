@@ -76,6 +76,13 @@ static void end_check(void)
                  .number;
 }
 
+static void clone_original(void)
+{
+    number = unmavreth_clone(&gateway.ike, request.spi, 9, first, body.start, body.octets, response.octets,
+                             UNMAVRETH_RESPONSE_ROOM)
+                 .number;
+}
+
 static void write_request(void)
 {
     number = unmavreth_write(draft.ask, draft.pair, draft.addresses, draft.nat_source.octets, UNMAVRETH_NAT_OCTETS,
@@ -107,6 +114,11 @@ static void close_ike(void)
 static void close_ipsec(void)
 {
     number = unmavreth_close_ipsec(gateway.ipsec, UNMAVRETH_IPSEC_PLACES, opening.child);
+}
+
+static void mark_deletion(void)
+{
+    number = unmavreth_mark_deletion(&gateway.ike, opening.spi);
 }
 
 static void set_policy(void)
@@ -257,6 +269,61 @@ static void asked_in_full(void)
     request_in_full();
 }
 
+// The last of the records is the original, and one place is free for its clone; what is asked of the peer's records and
+// of the SPIs is asked of all 32.
+static void with_an_original(void)
+{
+    for (size_t i = 0; i < UNMAVRETH_IKE_PLACES - 1; i++)
+        gateway.ike.records[i] = (unmavreth_ike){.spi = 100 + i, .agreed = {.peer = 1}};
+    memset(&gateway.ike.records[UNMAVRETH_IKE_PLACES - 2], 0, sizeof gateway.ike.records[0]);
+    gateway.ike.records[UNMAVRETH_IKE_PLACES - 1] =
+        (unmavreth_ike){.spi = 7, .agreed = {.cloning = 1}, .pair = {.family = 6}};
+}
+
+// The chain is told to be no request to clone, and one with CLONE_IKE_SA as its last payload is.
+static void rekey_of_skipped(void)
+{
+    of_skipped();
+    with_an_original();
+}
+
+static void rekey_of_unknown(void)
+{
+    of_unknown();
+    with_an_original();
+}
+
+static void rekey_of_notifies(void)
+{
+    of_notifies();
+    with_an_original();
+}
+
+static void rekey_cut(void)
+{
+    cut();
+    with_an_original();
+}
+
+static void rekey_in_full(void)
+{
+    asked_in_full();
+    with_an_original();
+}
+
+static void rekey_to_clone(void)
+{
+    rekey_of_notifies();
+    octets[sizeof octets - NOTIFY + 6] = UNMAVRETH_CLONE_IKE_SA >> 8;
+    octets[sizeof octets - NOTIFY + 7] = UNMAVRETH_CLONE_IKE_SA & UINT8_MAX;
+}
+
+static void to_mark(void)
+{
+    begin();
+    with_an_original();
+}
+
 static void with_a_free_place(void)
 {
     begin();
@@ -294,6 +361,8 @@ static void entry_of(uint8_t its_kind)
         slots[UNMAVRETH_REQUEST_BODY_SIZE] = slots[UNMAVRETH_REQUEST_COOKIE_SIZE] = UNMAVRETH_STRING_MOST;
     if (kind == UNMAVRETH_KIND_CHECK_RESPONSE)
         slots[UNMAVRETH_CHECK_RESPONSE_BODY_SIZE] = UNMAVRETH_STRING_MOST;
+    if (kind == UNMAVRETH_KIND_CLONE)
+        slots[UNMAVRETH_CLONE_BODY_SIZE] = UNMAVRETH_STRING_MOST;
     if (kind == UNMAVRETH_KIND_POLICY)
         slots[UNMAVRETH_POLICY_COUNT] = UNMAVRETH_RULES_MOST;
     write_entry();
@@ -303,6 +372,8 @@ static void entry_of_opening(void) { entry_of(UNMAVRETH_KIND_OPEN_BOTH); }
 static void entry_of_request(void) { entry_of(UNMAVRETH_KIND_REQUEST); }
 static void entry_of_policy(void) { entry_of(UNMAVRETH_KIND_POLICY); }
 static void entry_of_response(void) { entry_of(UNMAVRETH_KIND_CHECK_RESPONSE); }
+static void entry_of_clone(void) { entry_of(UNMAVRETH_KIND_CLONE); }
+static void entry_of_mark(void) { entry_of(UNMAVRETH_KIND_MARK_DELETION); }
 
 const every_call every[] = {
     {"unmavreth_interface", begin, interface, 0},
@@ -325,6 +396,12 @@ const every_call every[] = {
     {"unmavreth_check", of_notifies, end_check, 0},
     {"unmavreth_check", cut, end_check, UNMAVRETH_BAD_CHAIN_LENGTH},
     {"unmavreth_check", asked_in_full, end_check, 0},
+    {"unmavreth_clone", rekey_of_skipped, clone_original, UNMAVRETH_NO_CLONE_REQUEST},
+    {"unmavreth_clone", rekey_of_unknown, clone_original, UNMAVRETH_NO_CLONE_REQUEST},
+    {"unmavreth_clone", rekey_of_notifies, clone_original, UNMAVRETH_NO_CLONE_REQUEST},
+    {"unmavreth_clone", rekey_cut, clone_original, UNMAVRETH_BAD_CHAIN_LENGTH},
+    {"unmavreth_clone", rekey_in_full, clone_original, UNMAVRETH_NO_CLONE_REQUEST},
+    {"unmavreth_clone", rekey_to_clone, clone_original, 0},
     {"unmavreth_write", asked_in_full, write_request, 0},
     {"unmavreth_assess", of_skipped, assess, 0},
     {"unmavreth_assess", of_unknown, assess, 0},
@@ -333,6 +410,7 @@ const every_call every[] = {
     {"unmavreth_assess", asked_in_full, assess, 0},
     {"unmavreth_close_ipsec", begin, close_ipsec, 0},
     {"unmavreth_close_ike", begin, close_ike, 0},
+    {"unmavreth_mark_deletion", to_mark, mark_deletion, 0},
     {"unmavreth_open_ipsec", with_a_free_place, open_ipsec, 0},
     {"unmavreth_open", with_free_places, open_both, 0},
     {"unmavreth_set_policy", begin, set_policy, 0},
@@ -350,9 +428,13 @@ const every_call every[] = {
     {"unmavreth_read_entry", entry_of_request, read_entry, 0},
     {"unmavreth_read_entry", entry_of_policy, read_entry, 0},
     {"unmavreth_read_entry", entry_of_response, read_entry, 0},
+    {"unmavreth_read_entry", entry_of_clone, read_entry, 0},
+    {"unmavreth_read_entry", entry_of_mark, read_entry, 0},
     {"unmavreth_write_entry", entry_of_opening, write_entry, 0},
     {"unmavreth_write_entry", entry_of_request, write_entry, 0},
     {"unmavreth_write_entry", entry_of_policy, write_entry, 0},
     {"unmavreth_write_entry", entry_of_response, write_entry, 0},
+    {"unmavreth_write_entry", entry_of_clone, write_entry, 0},
+    {"unmavreth_write_entry", entry_of_mark, write_entry, 0},
 };
 const size_t every_count = sizeof every / sizeof every[0];

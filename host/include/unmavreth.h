@@ -19,10 +19,10 @@
 // for every number. What a host does around the calls, with IKE_AUTH, with a rekeyed SA, and after a refusal, stands in
 // docs/HOST.md, which is also in the manual page unmavreth(3).
 //
-// Stack: reading a chain (unmavreth_read, unmavreth_handle, unmavreth_check, unmavreth_assess) calls itself once for
-// each payload, at most 1,024 deep. How much stack a call takes is not proved but measured (host/stack; docs/HOST.md
-// has each): these four under 35,000 octets, the request writer under 8,000, an entry of a trace read under 23,000.
-// Call from a thread with at least 64 KiB of stack.
+// Stack: reading a chain (unmavreth_read, unmavreth_handle, unmavreth_check, unmavreth_clone, unmavreth_assess) calls
+// itself once for each payload, at most 1,024 deep. How much stack a call takes is not proved but measured (host/stack;
+// docs/HOST.md has each): these five under 35,000 octets, the request writer under 8,000, an entry of a trace read
+// under 23,000. Call from a thread with at least 64 KiB of stack.
 #ifndef UNMAVRETH_H
 #define UNMAVRETH_H
 
@@ -51,7 +51,7 @@ extern "C" {
 // The number of the interface: the layout of the structs below and the calls. It is raised with every change of them.
 // Whatever includes this header refers to the library's symbol that ends in this number, so that a header and an
 // archive of different numbers do not link.
-#define UNMAVRETH_INTERFACE 3
+#define UNMAVRETH_INTERFACE 4
 
 #define UNMAVRETH_JOINED(name, number) name##number
 #define UNMAVRETH_NAMED(name, number) UNMAVRETH_JOINED(name, number)
@@ -106,10 +106,14 @@ enum unmavreth_number {
     UNMAVRETH_TOO_LARGE = 22,         // a number, a count or a length of a trace, for its field
     // redirects: data cut or left over, an identity of a type or size that cannot be, or our nonce of such a size
     UNMAVRETH_BAD_REDIRECT = 30,
-    UNMAVRETH_WRONG_EXCHANGE = 31,    // a REDIRECT in a middle IKE_AUTH response, or with a nonce outside IKE_SA_INIT
-    UNMAVRETH_WRONG_NONCE = 32,       // a REDIRECT in IKE_SA_INIT without the nonce that was sent
-    UNMAVRETH_TIME_BEFORE_LAST = 33,  // of a REDIRECT: before the last accepted one's
-    UNMAVRETH_TOO_MANY_REDIRECTS = 34 // five accepted ones less than 300 seconds before it
+    UNMAVRETH_WRONG_EXCHANGE = 31,     // a REDIRECT in a middle IKE_AUTH response, or with a nonce outside IKE_SA_INIT
+    UNMAVRETH_WRONG_NONCE = 32,        // a REDIRECT in IKE_SA_INIT without the nonce that was sent
+    UNMAVRETH_TIME_BEFORE_LAST = 33,   // of a REDIRECT: before the last accepted one's
+    UNMAVRETH_TOO_MANY_REDIRECTS = 34, // five accepted ones less than 300 seconds before it
+    UNMAVRETH_CLONING_NOT_AGREED = 40, // for the IKE SA to clone
+    UNMAVRETH_CANNOT_CLONE_NOW = 41,   // the IKE SA to clone is being deleted, or no place is free
+    UNMAVRETH_PEER_AT_LIMIT = 42,      // the peer of the IKE SA to clone has 4 IKE records or more
+    UNMAVRETH_NO_CLONE_REQUEST = 44    // no CLONE_IKE_SA is there
 };
 
 // What became of a request's update, and of its list of additional addresses.
@@ -131,6 +135,7 @@ enum unmavreth_limit {
     UNMAVRETH_BODY_MOST = 4096,    // the longest body that is read
     UNMAVRETH_IKE_PLACES = 32,     // IKE records
     UNMAVRETH_IPSEC_PLACES = 128,  // IPsec records; any other count of lent records is answered 1
+    UNMAVRETH_PEER_RECORDS_MOST = 4, // IKE records of one peer; none of them is cloned once there are as many
     UNMAVRETH_ADDRESSES_MOST = 16, // additional addresses that are kept, or written
     UNMAVRETH_RULES_MOST = 16,     // rules of the policy
     UNMAVRETH_ADDRESS_OCTETS = 16, // an address as it travels, of either family
@@ -183,12 +188,21 @@ enum unmavreth_notify {
     UNMAVRETH_NO_NATS_ALLOWED = 16402               // 12 (IPv4) or 36 (IPv6): source, destination, their ports
 };
 
+// Those of cloning (RFC 7791). They are known to unmavreth_clone alone, which asks that they have no data and no SPI:
+// in every other chain they are tallied as unknown, whatever they have.
+enum unmavreth_clone_notify {
+    UNMAVRETH_CLONE_IKE_SA_SUPPORTED = 16432, // in IKE_AUTH, from both ends: the IKE SA may be cloned
+    UNMAVRETH_CLONE_IKE_SA = 16433            // in a rekey of the IKE SA: the new one is a clone, and the old one stays
+};
+
 // The errors that a response may tell; types below 16384 are errors.
 enum unmavreth_error {
     UNMAVRETH_UNSUPPORTED_CRITICAL_PAYLOAD = 1, // data: the payload's type
     UNMAVRETH_INVALID_SYNTAX = 7,
+    UNMAVRETH_NO_ADDITIONAL_SAS = 35,
     UNMAVRETH_UNACCEPTABLE_ADDRESSES = 40,
     UNMAVRETH_UNEXPECTED_NAT_DETECTED = 41,
+    UNMAVRETH_TEMPORARY_FAILURE = 43,
     UNMAVRETH_FIRST_STATUS = 16384 // the first notify type that is not an error
 };
 
@@ -277,13 +291,18 @@ bool unmavreth_acceptable(const unmavreth_policy *policy, unmavreth_pair pair);
 
 // ------------------------------------------------------------------------------------------------------------ tables
 
-// What is agreed when an IKE record is opened. Yes or no is an octet: 0 is no and every other value yes. An opening
-// stores 0 or 1; from then on no call changes it until the record is closed, whatever its value.
+// What is agreed when an IKE record is opened, and with whom. Yes or no is an octet: 0 is no and every other value yes.
+// An opening stores 0 or 1, and a clone has each field as its original has it; from then on no call changes it until
+// the record is closed, whatever its value.
 typedef struct unmavreth_agreed {
-    uint8_t mobike; // whether MOBIKE was agreed
+    uint8_t mobike;  // whether MOBIKE was agreed
+    uint8_t cloning; // whether both ends sent CLONE_IKE_SA_SUPPORTED
+    uint32_t peer;   // the host's number for the peer, one for all IKE SAs with it; any, 0 too
 } unmavreth_agreed;
-UNMAVRETH_SIZE(unmavreth_agreed, 1);
+UNMAVRETH_SIZE(unmavreth_agreed, 8);
 UNMAVRETH_AT(unmavreth_agreed, mobike, 0);
+UNMAVRETH_AT(unmavreth_agreed, cloning, 1);
+UNMAVRETH_AT(unmavreth_agreed, peer, 4);
 
 // The return routability check (RFC 4555, 3.7) that is under way for an IKE record: the cookie of our request, zeros
 // behind it, and our request's message ID. All zeros is none; a length outside 8 to 64, which no call stores, reads as
@@ -302,7 +321,7 @@ UNMAVRETH_AT(unmavreth_pending_check, id, 68);
 // the ID plus one, and no mark as 0: an ID exceeds the mark exactly if mark <= ID.
 typedef struct unmavreth_ike {
     uint64_t spi;            // the gateway's own SPI of the IKE SA
-    unmavreth_agreed agreed; // what it was opened with
+    unmavreth_agreed agreed; // what it was opened with, or the original of a clone was
     unmavreth_pair pair;     // the addresses and ports in use
     uint64_t update_mark;    // of the newest update that was received
     uint64_t list_mark;      // of the newest list that was kept
@@ -310,23 +329,25 @@ typedef struct unmavreth_ike {
     unmavreth_address addresses[UNMAVRETH_ADDRESSES_MOST];
     uint32_t unknown; // unknown payloads and unknown notifications, counted; stays at UNMAVRETH_TALLY_MOST once there
     unmavreth_pending_check check; // of the update that was last applied, until a response ends it
+    uint8_t deleting; // 0, or any other value from unmavreth_mark_deletion on until it is closed
 } unmavreth_ike;
-UNMAVRETH_SIZE(unmavreth_ike, 416);
+UNMAVRETH_SIZE(unmavreth_ike, 432);
 UNMAVRETH_AT(unmavreth_ike, spi, 0);
 UNMAVRETH_AT(unmavreth_ike, agreed, 8);
-UNMAVRETH_AT(unmavreth_ike, pair, 10);
-UNMAVRETH_AT(unmavreth_ike, update_mark, 48);
-UNMAVRETH_AT(unmavreth_ike, list_mark, 56);
-UNMAVRETH_AT(unmavreth_ike, count, 64);
-UNMAVRETH_AT(unmavreth_ike, addresses, 66);
-UNMAVRETH_AT(unmavreth_ike, unknown, 340);
-UNMAVRETH_AT(unmavreth_ike, check, 344);
+UNMAVRETH_AT(unmavreth_ike, pair, 16);
+UNMAVRETH_AT(unmavreth_ike, update_mark, 56);
+UNMAVRETH_AT(unmavreth_ike, list_mark, 64);
+UNMAVRETH_AT(unmavreth_ike, count, 72);
+UNMAVRETH_AT(unmavreth_ike, addresses, 74);
+UNMAVRETH_AT(unmavreth_ike, unknown, 348);
+UNMAVRETH_AT(unmavreth_ike, check, 352);
+UNMAVRETH_AT(unmavreth_ike, deleting, 424);
 
 // The table of IKE records: always 32, as a struct so that the compiler checks it.
 typedef struct unmavreth_ike_table {
     unmavreth_ike records[UNMAVRETH_IKE_PLACES];
 } unmavreth_ike_table;
-UNMAVRETH_SIZE(unmavreth_ike_table, 13312);
+UNMAVRETH_SIZE(unmavreth_ike_table, 13824);
 UNMAVRETH_AT(unmavreth_ike_table, records, 0);
 
 // An IPsec record. The place is free if its SPI is 0; all zeros is a free place.
@@ -347,26 +368,27 @@ typedef struct unmavreth_opening {
     unmavreth_pair pair;     // of both records
     uint32_t child;          // the SPI of the IPsec record, the gateway's own of the child SA
 } unmavreth_opening;
-UNMAVRETH_SIZE(unmavreth_opening, 56);
+UNMAVRETH_SIZE(unmavreth_opening, 64);
 UNMAVRETH_AT(unmavreth_opening, spi, 0);
 UNMAVRETH_AT(unmavreth_opening, agreed, 8);
-UNMAVRETH_AT(unmavreth_opening, pair, 10);
-UNMAVRETH_AT(unmavreth_opening, child, 48);
+UNMAVRETH_AT(unmavreth_opening, pair, 16);
+UNMAVRETH_AT(unmavreth_opening, child, 56);
 
 // The calls on the tables change them in place. The IPsec records are lent as a start and how many there are, which
 // must be 128. The host begins with tables of zeros. If several places have an SPI, which no sequence of calls on
-// tables of zeros brings about, the lowest is meant. With every number but 0 each of these four calls leaves every
+// tables of zeros brings about, the lowest is meant. With every number but 0 each of these five calls leaves every
 // field of every place as it was.
 
 // Opens an IKE record and its first IPsec record: both, each at the lowest free place of its table, or neither. The
-// IKE record has no marks, no additional addresses, tally 0 and no check under way; the IPsec record has the owner
-// `spi`. Numbers, in the order of the checks:
+// IKE record has no marks, no additional addresses, tally 0 and no check under way, and is not being deleted; the IPsec
+// record has the owner `spi`. Numbers, in the order of the checks:
 //    1  `records` is not 128, one of the SPIs is 0, the pair's family is not 4 or 6, or an IPv4 address of the pair has
 //       a tail that is not zero
 //   11  an IKE record has the SPI `spi`; then, an IPsec record has the SPI `child`
 //   10  no place is free for the IKE record; then, none for the IPsec record
 //    0  both opened; no other place changes
-// Neither the policy nor what is agreed is asked whether they may be opened.
+// Neither the policy nor what is agreed is asked whether they may be opened, nor how many records the peer has: the
+// limit of a peer's records is one for clones.
 UNMAVRETH_MUST_USE
 uint8_t unmavreth_open(unmavreth_ike_table *ike, unmavreth_ipsec *ipsec, size_t records, unmavreth_opening opening);
 
@@ -394,6 +416,15 @@ uint8_t unmavreth_close_ike(unmavreth_ike_table *ike, unmavreth_ipsec *ipsec, si
 //    0  closed: every field of its place is 0; no other place changes
 UNMAVRETH_MUST_USE
 uint8_t unmavreth_close_ipsec(unmavreth_ipsec *ipsec, size_t records, uint32_t spi);
+
+// Marks an IKE record as being deleted, for a host that begins to delete the IKE SA; it closes the record once the SA
+// is gone. A record with the mark is not cloned any more (unmavreth_clone); to all other calls it is as it was. Nothing
+// but closing the record takes the mark away. Numbers, in the order of the checks:
+//    1  the SPI is 0
+//    4  no IKE record has this SPI
+//    0  marked, whether it was before or not: `deleting` of its place is 1; no other field of any place changes
+UNMAVRETH_MUST_USE
+uint8_t unmavreth_mark_deletion(unmavreth_ike_table *ike, uint64_t spi);
 
 // --------------------------------------------------------------------------------------------------- reading a chain
 
@@ -642,10 +673,72 @@ UNMAVRETH_MUST_USE
 unmavreth_assessment unmavreth_check(unmavreth_ike_table *ike, unmavreth_ipsec *ipsec, size_t records, uint64_t spi,
                                      uint32_t id, uint8_t first, const uint8_t *body, size_t body_size);
 
+// ------------------------------------------------------------------------------------------------ cloning an IKE SA
+
+// All that a request to clone gives back but the table and the response's octets.
+typedef struct unmavreth_clone_reply {
+    uint8_t number;
+    uint8_t first;     // the type of the response's first payload: 41, or 0 if nothing is written
+    uint16_t payloads; // of the request, with 0, 44, 41, 42 and 11; else 0
+    uint16_t offset;   // as in unmavreth_reading
+    uint16_t ordinal;  // likewise
+    uint16_t length;   // octets of the response
+} unmavreth_clone_reply;
+UNMAVRETH_SIZE(unmavreth_clone_reply, 10);
+UNMAVRETH_AT(unmavreth_clone_reply, number, 0);
+UNMAVRETH_AT(unmavreth_clone_reply, first, 1);
+UNMAVRETH_AT(unmavreth_clone_reply, payloads, 2);
+UNMAVRETH_AT(unmavreth_clone_reply, offset, 4);
+UNMAVRETH_AT(unmavreth_clone_reply, ordinal, 6);
+UNMAVRETH_AT(unmavreth_clone_reply, length, 8);
+
+// Decides a request to clone an IKE SA (RFC 7791) of which our end is the original responder: a decrypted
+// CREATE_CHILD_SA request that rekeys the IKE SA. Whether it does, the host sees by its SA payload; a request for a
+// child SA is not given here.
+//   spi          the gateway's SPI of the IKE SA that the request came in, the original
+//   new_spi      the SPI that the gateway draws for the new IKE SA
+//   first, body  the decrypted payload chain; SA, nonce and key exchange in it are skipped, and are the host's to read
+//   out          where the response goes
+// It is read as by unmavreth_read, but for CLONE_IKE_SA and CLONE_IKE_SA_SUPPORTED, which are known here: with an SPI
+// either is 62 and with data 63, and a second one is no fault. What else is in it has no effect, and no tally grows.
+// Numbers, in the order of the checks, and what each leaves of the output:
+//    1  one of the SPIs is 0
+//    2  the output has under 128 octets, however short the response would be
+//    3  the body has over 4,096 octets
+//    4  no IKE record has the SPI `spi`
+//   40  cloning was not agreed for it
+//         With 1 to 4 and 40 every octet of the output stays as it was; `length` is 0. The host answers the request
+//         itself: with 40 as one that has no cloning does, which ignores CLONE_IKE_SA; with 4 likewise, or, if both
+//         ends agreed on cloning, by TEMPORARY_FAILURE; with 3 by INVALID_SYNTAX; with 1 and 2 the call was wrong, and
+//         can be made again.
+//   61 to 65  malformed               } as in unmavreth_read
+//    7  an unknown critical payload   }
+//         The response is INVALID_SYNTAX, or with 7 UNSUPPORTED_CRITICAL_PAYLOAD with the payload's type.
+//   44  no CLONE_IKE_SA is there: it is a plain rekey, in which this call has no part
+//         Every octet of the output stays as it was; `length` is 0.
+//   41  the original is being deleted (unmavreth_mark_deletion), or no place is free: the response is
+//       TEMPORARY_FAILURE, and the client may try again later
+//   42  four IKE records or more have the original's peer number, itself and those being deleted among them: the
+//       response is NO_ADDITIONAL_SAS, and the client is not to try again until one of its IKE SAs is gone
+//   11  an IKE record has the SPI `new_spi`: the host draws another one, and makes the call again
+//         Every octet of the output stays as it was; `length` is 0.
+//    0  cloned. The lowest free place has the SPI `new_spi`, and of the original the pair and what is agreed, the peer
+//       number among it, each field as it stands there. It has no marks, no additional addresses, tally 0 and no check
+//       under way, and is not being deleted. No IPsec record changes: those of the original stay with it, and the
+//       clone's own are opened as child SAs are made (unmavreth_open_ipsec). The response is CLONE_IKE_SA. The host now
+//       goes on with the key exchange of the rekey, and sends its SA, nonce and key exchange with the response: RFC
+//       7791 has no notification there and says that this one is ignored, so that a host may leave it off. The
+//       original is not deleted. If the key exchange fails, the host closes the clone (unmavreth_close_ike).
+// With every number but 0 every field of every place stays as it was, and with 0 that of every place but the clone's.
+// The response stands at the start of the output; octets past its `length` stay as they were.
+UNMAVRETH_MUST_USE
+unmavreth_clone_reply unmavreth_clone(unmavreth_ike_table *ike, uint64_t spi, uint64_t new_spi, uint8_t first,
+                                      const uint8_t *body, size_t body_size, uint8_t *out, size_t out_size);
+
 // ----------------------------------------------------------------------------------------------- the initiator's end
 
 // What a request is to carry; of each yes or no, 0 is no and any other value yes. Both kinds of NAT detection are asked
-// for, or neither.
+// for, or neither. Each of the last two is asked for alone: with nothing else here, and no cookie.
 typedef struct unmavreth_ask {
     uint8_t update;          // UPDATE_SA_ADDRESSES
     uint8_t no_nats;         // NO_NATS_ALLOWED with `pair`
@@ -653,14 +746,18 @@ typedef struct unmavreth_ask {
     uint8_t nat_destination; // NAT_DETECTION_DESTINATION_IP with the value of that name
     uint8_t no_additional;   // NO_ADDITIONAL_ADDRESSES
     uint16_t count;          // how many of `addresses`; 0 without no_additional says nothing about them
+    uint8_t clone_supported; // CLONE_IKE_SA_SUPPORTED, for IKE_AUTH
+    uint8_t clone;           // CLONE_IKE_SA, for a rekey of the IKE SA
 } unmavreth_ask;
-UNMAVRETH_SIZE(unmavreth_ask, 8);
+UNMAVRETH_SIZE(unmavreth_ask, 10);
 UNMAVRETH_AT(unmavreth_ask, update, 0);
 UNMAVRETH_AT(unmavreth_ask, no_nats, 1);
 UNMAVRETH_AT(unmavreth_ask, nat_source, 2);
 UNMAVRETH_AT(unmavreth_ask, nat_destination, 3);
 UNMAVRETH_AT(unmavreth_ask, no_additional, 4);
 UNMAVRETH_AT(unmavreth_ask, count, 6);
+UNMAVRETH_AT(unmavreth_ask, clone_supported, 8);
+UNMAVRETH_AT(unmavreth_ask, clone, 9);
 
 typedef struct unmavreth_written {
     uint8_t number;
@@ -673,11 +770,13 @@ UNMAVRETH_AT(unmavreth_written, first, 1);
 UNMAVRETH_AT(unmavreth_written, length, 2);
 
 // Writes a request, those asked for in this order: update, NO_NATS_ALLOWED, NAT source, NAT destination,
-// NO_ADDITIONAL_ADDRESSES or the addresses, COOKIE2 (asked for by a cookie of other than 0 octets). What is not asked
-// for, and addresses past the count, are not looked at. Numbers, in the order of the checks:
+// NO_ADDITIONAL_ADDRESSES or the addresses, COOKIE2 (asked for by a cookie of other than 0 octets). Or it writes
+// CLONE_IKE_SA_SUPPORTED alone or CLONE_IKE_SA alone, which the host puts into its own IKE_AUTH or CREATE_CHILD_SA
+// request. What is not asked for, and addresses past the count, are not looked at. Numbers, in the order of the checks:
 //    1  count is over 16, or not 0 with no_additional; one NAT kind alone, or a NAT value that is asked for has not
 //       20 octets; the pair or an address that is asked for has a family other than 4 and 6, or an IPv4 tail that is
-//       not zero; the cookie has not 0 or 8 to 64 octets
+//       not zero; the cookie has not 0 or 8 to 64 octets; clone_supported or clone with anything else that is asked
+//       for, the other of the two, a count or a cookie among it
 //    2  the output has under 564 octets, however short the request would be
 //    0  written to the start of the output; octets past `length` stay as they were
 // With 1 and 2 every octet of the output stays as it was; `first` and `length` are 0.
@@ -715,7 +814,9 @@ enum unmavreth_kind {
     UNMAVRETH_KIND_CLOSE_IPSEC = 3, // unmavreth_close_ipsec
     UNMAVRETH_KIND_REQUEST = 4,     // unmavreth_handle
     UNMAVRETH_KIND_POLICY = 5,      // unmavreth_set_policy
-    UNMAVRETH_KIND_CHECK_RESPONSE = 6 // unmavreth_check
+    UNMAVRETH_KIND_CHECK_RESPONSE = 6, // unmavreth_check
+    UNMAVRETH_KIND_CLONE = 7,          // unmavreth_clone
+    UNMAVRETH_KIND_MARK_DELETION = 8   // unmavreth_mark_deletion
 };
 
 enum unmavreth_entry_limit {
@@ -745,6 +846,8 @@ enum unmavreth_slot {
     UNMAVRETH_OPEN_AGREED = 1, // 0 or 1
     UNMAVRETH_OPEN_PAIR = 2,   // where the pair begins
     UNMAVRETH_OPEN_CHILD = 7,
+    UNMAVRETH_OPEN_PEER = 8,
+    UNMAVRETH_OPEN_CLONING = 9, // 0 or 1
 
     UNMAVRETH_ADD_SPI = 0,
     UNMAVRETH_ADD_OWNER = 1,
@@ -774,7 +877,15 @@ enum unmavreth_slot {
     UNMAVRETH_CHECK_RESPONSE_ID = 1,
     UNMAVRETH_CHECK_RESPONSE_FIRST = 2,
     UNMAVRETH_CHECK_RESPONSE_BODY = 3, // an offset
-    UNMAVRETH_CHECK_RESPONSE_BODY_SIZE = 4
+    UNMAVRETH_CHECK_RESPONSE_BODY_SIZE = 4,
+
+    UNMAVRETH_CLONE_SPI = 0,
+    UNMAVRETH_CLONE_NEW_SPI = 1,
+    UNMAVRETH_CLONE_FIRST = 2,
+    UNMAVRETH_CLONE_BODY = 3, // an offset
+    UNMAVRETH_CLONE_BODY_SIZE = 4,
+
+    UNMAVRETH_MARK_DELETION_SPI = 0
 };
 
 // Where the rule of this ordinal, from 0, begins in the slots of a policy.

@@ -66,6 +66,15 @@ typedef struct unmavreth_check_response {
     unmavreth_part body; // the payloads
 } unmavreth_check_response;
 
+// A request to clone an IKE SA as it came: a rekey of it, authenticated, decrypted, and within the message window. Its
+// response goes to an unmavreth_response; unmavreth_clone_reply has the first type and the length.
+typedef struct unmavreth_clone_request {
+    uint64_t spi;        // the gateway's SPI of the IKE SA that it came in
+    uint64_t new_spi;    // the SPI that the gateway draws for the new one
+    uint8_t first;       // the type of the first payload
+    unmavreth_part body; // the payloads
+} unmavreth_clone_request;
+
 // A part as the exported calls take it: no pointer is null there, not even with length 0.
 static inline unmavreth_part unmavreth_lent(unmavreth_part part)
 {
@@ -103,6 +112,13 @@ UNMAVRETH_MUST_USE
 static inline uint8_t unmavreth_gateway_close_ipsec(unmavreth_gateway *gateway, uint32_t spi)
 {
     return unmavreth_close_ipsec(gateway->ipsec, UNMAVRETH_IPSEC_PLACES, spi);
+}
+
+// As unmavreth_mark_deletion.
+UNMAVRETH_MUST_USE
+static inline uint8_t unmavreth_gateway_mark_deletion(unmavreth_gateway *gateway, uint64_t spi)
+{
+    return unmavreth_mark_deletion(&gateway->ike, spi);
 }
 
 // As unmavreth_set_policy, with all of these rules; over 16 of them are refused there.
@@ -147,6 +163,17 @@ static inline unmavreth_assessment unmavreth_gateway_check(unmavreth_gateway *ga
                            response->first, body.start, body.octets);
 }
 
+// As unmavreth_clone.
+UNMAVRETH_MUST_USE
+static inline unmavreth_clone_reply unmavreth_gateway_clone(unmavreth_gateway *gateway,
+                                                            const unmavreth_clone_request *request,
+                                                            unmavreth_response *response)
+{
+    const unmavreth_part body = unmavreth_lent(request->body);
+    return unmavreth_clone(&gateway->ike, request->spi, request->new_spi, request->first, body.start, body.octets,
+                           response->octets, UNMAVRETH_RESPONSE_ROOM);
+}
+
 // ------------------------------------------------------------------------------------------------- looking at records
 
 // The IKE record with this SPI, at the lowest place if there are several; NULL if there is none, or the SPI is 0.
@@ -165,6 +192,17 @@ static inline const unmavreth_ipsec *unmavreth_find_ipsec(const unmavreth_gatewa
         if (gateway->ipsec[at].spi == spi)
             return &gateway->ipsec[at];
     return NULL;
+}
+
+// How many IKE records in use have this peer number: a clone of one of them is refused at
+// UNMAVRETH_PEER_RECORDS_MOST.
+static inline size_t unmavreth_peer_records(const unmavreth_gateway *gateway, uint32_t peer)
+{
+    size_t records = 0;
+    for (size_t at = 0; at < UNMAVRETH_IKE_PLACES; at++)
+        if (gateway->ike.records[at].spi != 0 && gateway->ike.records[at].agreed.peer == peer)
+            records++;
+    return records;
 }
 
 // Whether two pairs are the same, field by field: a pair has an octet of padding.
@@ -272,6 +310,26 @@ static inline unmavreth_written unmavreth_write_check(const unmavreth_reply *rep
     memset(&draft, 0, sizeof draft);
     if (reply->update == UNMAVRETH_UPDATE_APPLIED)
         draft.cookie = request->cookie;
+    return unmavreth_write_draft(&draft, message);
+}
+
+// As unmavreth_write: CLONE_IKE_SA_SUPPORTED and nothing else, for the host's IKE_AUTH message.
+UNMAVRETH_MUST_USE
+static inline unmavreth_written unmavreth_write_clone_supported(unmavreth_message *message)
+{
+    unmavreth_draft draft;
+    memset(&draft, 0, sizeof draft);
+    draft.ask.clone_supported = 1;
+    return unmavreth_write_draft(&draft, message);
+}
+
+// As unmavreth_write: CLONE_IKE_SA and nothing else, for the host's CREATE_CHILD_SA request that rekeys the IKE SA.
+UNMAVRETH_MUST_USE
+static inline unmavreth_written unmavreth_write_clone(unmavreth_message *message)
+{
+    unmavreth_draft draft;
+    memset(&draft, 0, sizeof draft);
+    draft.ask.clone = 1;
     return unmavreth_write_draft(&draft, message);
 }
 

@@ -30,6 +30,10 @@ static inline const char *unmavreth_number_words(uint8_t number)
     case UNMAVRETH_WRONG_NONCE: return "a redirect without the nonce that was sent";
     case UNMAVRETH_TIME_BEFORE_LAST: return "a time before the last accepted redirect's";
     case UNMAVRETH_TOO_MANY_REDIRECTS: return "five accepted redirects within 300 seconds before";
+    case UNMAVRETH_CLONING_NOT_AGREED: return "cloning not agreed";
+    case UNMAVRETH_CANNOT_CLONE_NOW: return "the IKE SA to clone is being deleted, or all places in use";
+    case UNMAVRETH_PEER_AT_LIMIT: return "the peer has four IKE records or more";
+    case UNMAVRETH_NO_CLONE_REQUEST: return "no CLONE_IKE_SA in the request";
     case UNMAVRETH_BAD_CHAIN_LENGTH: return "a payload cut short or of a length that cannot be";
     case UNMAVRETH_BAD_NOTIFY: return "a Notify of a length or with an SPI that cannot be";
     case UNMAVRETH_BAD_DATA_SIZE: return "notification data of a wrong size";
@@ -81,8 +85,10 @@ static inline const char *unmavreth_notify_words(uint16_t type)
     switch (type) {
     case UNMAVRETH_UNSUPPORTED_CRITICAL_PAYLOAD: return "UNSUPPORTED_CRITICAL_PAYLOAD";
     case UNMAVRETH_INVALID_SYNTAX: return "INVALID_SYNTAX";
+    case UNMAVRETH_NO_ADDITIONAL_SAS: return "NO_ADDITIONAL_SAS";
     case UNMAVRETH_UNACCEPTABLE_ADDRESSES: return "UNACCEPTABLE_ADDRESSES";
     case UNMAVRETH_UNEXPECTED_NAT_DETECTED: return "UNEXPECTED_NAT_DETECTED";
+    case UNMAVRETH_TEMPORARY_FAILURE: return "TEMPORARY_FAILURE";
     case UNMAVRETH_NAT_DETECTION_SOURCE_IP: return "NAT_DETECTION_SOURCE_IP";
     case UNMAVRETH_NAT_DETECTION_DESTINATION_IP: return "NAT_DETECTION_DESTINATION_IP";
     case UNMAVRETH_MOBIKE_SUPPORTED: return "MOBIKE_SUPPORTED";
@@ -92,6 +98,8 @@ static inline const char *unmavreth_notify_words(uint16_t type)
     case UNMAVRETH_UPDATE_SA_ADDRESSES: return "UPDATE_SA_ADDRESSES";
     case UNMAVRETH_COOKIE2: return "COOKIE2";
     case UNMAVRETH_NO_NATS_ALLOWED: return "NO_NATS_ALLOWED";
+    case UNMAVRETH_CLONE_IKE_SA_SUPPORTED: return "CLONE_IKE_SA_SUPPORTED";
+    case UNMAVRETH_CLONE_IKE_SA: return "CLONE_IKE_SA";
     default: return NULL;
     }
 }

@@ -4,14 +4,18 @@
 void drop(unmavreth_gateway *g, const unmavreth_opening *opening, const unmavreth_request *request,
           unmavreth_response *response, const unmavreth_draft *draft, unmavreth_message *message,
           const unmavreth_rules *rules, const unmavreth_seen *seen, const unmavreth_reply *reply,
-          const unmavreth_check_response *checked, const uint64_t *slots, uint8_t *out, unmavreth_part b);
+          const unmavreth_check_response *checked, const unmavreth_clone_request *cloned, const uint64_t *slots,
+          uint8_t *out, unmavreth_part b);
 
 void drop(unmavreth_gateway *g, const unmavreth_opening *opening, const unmavreth_request *request,
           unmavreth_response *response, const unmavreth_draft *draft, unmavreth_message *message,
           const unmavreth_rules *rules, const unmavreth_seen *seen, const unmavreth_reply *reply,
-          const unmavreth_check_response *checked, const uint64_t *slots, uint8_t *out, unmavreth_part b)
+          const unmavreth_check_response *checked, const unmavreth_clone_request *cloned, const uint64_t *slots,
+          uint8_t *out, unmavreth_part b)
 {
     unmavreth_interface();
+    unmavreth_mark_deletion(&g->ike, 7);
+    unmavreth_clone(&g->ike, 7, 8, 0, b.start, b.octets, out, 0);
     unmavreth_set_policy(&g->policy, 0, rules);
     unmavreth_acceptable(&g->policy, request->pair);
     unmavreth_open(&g->ike, g->ipsec, UNMAVRETH_IPSEC_PLACES, *opening);
@@ -36,6 +40,10 @@ void drop(unmavreth_gateway *g, const unmavreth_opening *opening, const unmavret
     unmavreth_gateway_acceptable(g, request->pair);
     unmavreth_gateway_handle(g, request, response);
     unmavreth_gateway_check(g, checked);
+    unmavreth_gateway_mark_deletion(g, 7);
+    unmavreth_gateway_clone(g, cloned, response);
+    unmavreth_write_clone_supported(message);
+    unmavreth_write_clone(message);
     unmavreth_read_part(0, b);
     unmavreth_cookie_part(b, 0, 0);
     unmavreth_nat_value_part(b, 0);

@@ -212,6 +212,41 @@ static void try_check(bool copied, uint8_t outcome)
     HOLDS(unmavreth_write_check(&reply, &request, &message).length == 0);
 }
 
+// A record is cloned as SPI + 1 by what the library writes, once; then both being there, and the mark, are told.
+static void try_clone(void)
+{
+    static unmavreth_gateway gateway;
+    unmavreth_pair pair;
+    unmavreth_clone_request request;
+    unmavreth_response response;
+    unmavreth_message message;
+    memset(&pair, 0, sizeof pair);
+    memset(&request, 0, sizeof request);
+    pair.family = 4;
+    open_one(&gateway, pair);
+    request.spi = SPI;
+    request.new_spi = SPI + 1;
+    HOLDS(unmavreth_gateway_clone(&gateway, &request, &response).number == UNMAVRETH_CLONING_NOT_AGREED);
+    gateway.ike.records[0].agreed.cloning = 1;
+    HOLDS(unmavreth_gateway_clone(&gateway, &request, &response).number == UNMAVRETH_NO_CLONE_REQUEST); // empty, lent as null
+    unmavreth_written written = unmavreth_write_clone_supported(&message);
+    HOLDS(written.number == UNMAVRETH_DONE && written.length == UNMAVRETH_NOTIFY_HEADER && message.octets[7] == 0x30);
+    written = unmavreth_write_clone(&message);
+    HOLDS(written.number == UNMAVRETH_DONE && written.length == UNMAVRETH_NOTIFY_HEADER && message.octets[7] == 0x31);
+    request.first = written.first;
+    request.body.start = message.octets;
+    request.body.octets = written.length;
+    HOLDS(unmavreth_peer_records(&gateway, 0) == 1 && unmavreth_peer_records(&gateway, 1) == 0);
+    const unmavreth_clone_reply reply = unmavreth_gateway_clone(&gateway, &request, &response);
+    HOLDS(reply.number == UNMAVRETH_DONE && reply.first == written.first && reply.length == written.length);
+    HOLDS(reply.payloads == 1 && memcmp(response.octets, message.octets, reply.length) == 0);
+    HOLDS(unmavreth_find_ike(&gateway, SPI + 1) == &gateway.ike.records[1] && unmavreth_peer_records(&gateway, 0) == 2);
+    HOLDS(unmavreth_gateway_clone(&gateway, &request, &response).number == UNMAVRETH_SPI_IN_USE);
+    HOLDS(unmavreth_gateway_mark_deletion(&gateway, SPI + 2) == UNMAVRETH_NO_SUCH_RECORD);
+    HOLDS(unmavreth_gateway_mark_deletion(&gateway, SPI) == UNMAVRETH_DONE && gateway.ike.records[0].deleting == 1);
+    HOLDS(unmavreth_gateway_clone(&gateway, &request, &response).number == UNMAVRETH_CANNOT_CLONE_NOW);
+}
+
 int main(void)
 {
     HOLDS(unmavreth_interface() == UNMAVRETH_INTERFACE);
@@ -221,5 +256,6 @@ int main(void)
     try_gateway();
     try_check(true, UNMAVRETH_OUTCOME_ACCEPTED);
     try_check(false, UNMAVRETH_OUTCOME_CLOSE);
+    try_clone();
     return 0;
 }

@@ -1,5 +1,6 @@
 // Runs the snippets, in the place of the host that is around them.
 #include "auth_list.c"
+#include "clone.c"
 #include "moved.c"
 #include "rekey.c"
 #include "update.c"
@@ -10,6 +11,7 @@
 
 #define SPI UINT64_C(0x0a11ce0000000001)
 #define NEW_SPI UINT64_C(0x0a11ce0000000002)
+#define CLONE_SPI UINT64_C(0x0a11ce0000000009)
 enum { CHILD = 70, CHILD_2 = 71, CHILD_3 = 72, PORT = 4500, COOKIE_AT = 16, COOKIE_OCTETS = 8 };
 
 // An update with a cookie.
@@ -105,8 +107,9 @@ static void try_update(void)
     const struct sockaddr_storage own = socket_address(AF_INET, "192.0.2.1", PORT);
     const struct sockaddr_storage from = socket_address(AF_INET6, "::ffff:198.51.100.7", PORT);
     const struct sockaddr_storage to = socket_address(AF_INET6, "::ffff:192.0.2.1", PORT);
-    const struct ike_sa sa = {.own_spi = SPI, .child_spi = CHILD, .mobike = 1, .next_id = 30,
-                              .peer = (const struct sockaddr *)&old, .own = (const struct sockaddr *)&own};
+    const struct ike_sa sa = {.own_spi = SPI, .child_spi = CHILD, .mobike = 1, .cloning = 1, .client = 5,
+                              .next_id = 30, .peer = (const struct sockaddr *)&old,
+                              .own = (const struct sockaddr *)&own};
     struct ike_request came = {.id = 4, .from = (const struct sockaddr *)&from, .to = (const struct sockaddr *)&to,
                                .nat_source = {{0}}, .nat_destination = {{0}}, .first = 41, .payloads = update,
                                .octets = sizeof update, .fresh = {7, 7, 7}};
@@ -176,6 +179,33 @@ static void try_auth_list(void)
     HOLDS(mobike_auth_list(&gateway, NEW_SPI, 1, UNMAVRETH_FIRST_KNOWN_PAYLOAD, body) == UNMAVRETH_NO_SUCH_RECORD);
 }
 
+// A rekey with CLONE_IKE_SA makes a record beside the old one; one that is refused is answered, and one without the
+// notification is left to the host.
+static void try_clone(void)
+{
+    static const uint8_t rekey[] = {33, 0, 0, 8, 0, 0, 0x40, 0x31, 0, 0, 0, 4};
+    const struct ike_sa sa = {.own_spi = SPI, .child_spi = CHILD, .mobike = 1, .cloning = 1, .client = 5,
+                              .next_id = 32, .peer = NULL, .own = NULL};
+    struct ike_request came = {.id = 7, .from = NULL, .to = NULL, .nat_source = {{0}}, .nat_destination = {{0}},
+                               .first = 41, .payloads = rekey, .octets = sizeof rekey, .fresh = {0}};
+    const unmavreth_ike was = *unmavreth_find_ike(&gateway, SPI);
+    HOLDS(mobike_clone(&gateway, &sa, &came, SPI) == UNMAVRETH_SPI_IN_USE);
+    HOLDS(mobike_clone(&gateway, &sa, &came, CLONE_SPI) == UNMAVRETH_DONE && seen.id != 7);
+    const unmavreth_ike *is = unmavreth_find_ike(&gateway, CLONE_SPI);
+    HOLDS(is != NULL && is->agreed.cloning == 1 && is->agreed.peer == 5 && unmavreth_same_pair(&is->pair, &was.pair));
+    HOLDS(is->list_mark == 0 && unmavreth_peer_records(&gateway, 5) == 2);
+    came.first = 33;
+    came.payloads = rekey + UNMAVRETH_NOTIFY_HEADER;
+    came.octets = sizeof rekey - UNMAVRETH_NOTIFY_HEADER;
+    HOLDS(mobike_clone(&gateway, &sa, &came, CLONE_SPI + 1) == UNMAVRETH_NO_CLONE_REQUEST && seen.id != 7);
+    came.first = 41;
+    came.payloads = rekey;
+    came.octets = sizeof rekey;
+    HOLDS(unmavreth_gateway_mark_deletion(&gateway, SPI) == UNMAVRETH_DONE);
+    HOLDS(mobike_clone(&gateway, &sa, &came, CLONE_SPI + 1) == UNMAVRETH_CANNOT_CLONE_NOW && seen.id == 7);
+    HOLDS(seen.first == 41 && seen.octets == 8 && seen.payloads[7] == UNMAVRETH_TEMPORARY_FAILURE);
+}
+
 // The new record has the pair and the IPsec records of the old one, no marks and an empty list.
 static void try_rekey(void)
 {
@@ -186,6 +216,7 @@ static void try_rekey(void)
     HOLDS(mobike_rekey(&gateway, SPI, NEW_SPI) == UNMAVRETH_NO_SUCH_RECORD);
     const unmavreth_ike *is = unmavreth_find_ike(&gateway, NEW_SPI);
     HOLDS(is != NULL && is->agreed.mobike == was.agreed.mobike && unmavreth_same_pair(&is->pair, &was.pair));
+    HOLDS(is->agreed.cloning == was.agreed.cloning && is->agreed.peer == was.agreed.peer && is->deleting == 0);
     HOLDS(is->update_mark == 0 && is->list_mark == 0 && is->count == 0);
     for (uint32_t child = CHILD; child <= CHILD_2; child++) {
         const unmavreth_ipsec *of = unmavreth_find_ipsec(&gateway, child);
@@ -199,6 +230,7 @@ int main(void)
     try_update();
     try_moved();
     try_auth_list();
+    try_clone();
     try_rekey();
     return 0;
 }

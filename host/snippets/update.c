@@ -8,7 +8,8 @@ static unmavreth_gateway gateway; // all zeros: no record, and no rule yet
 // IKE_AUTH is done: opens the records of the IKE SA and of its first child SA, both or neither.
 uint8_t mobike_open(const struct ike_sa *sa)
 {
-    unmavreth_opening opening = {.spi = sa->own_spi, .agreed = {.mobike = sa->mobike},
+    unmavreth_opening opening = {.spi = sa->own_spi,
+                                 .agreed = {.mobike = sa->mobike, .cloning = sa->cloning, .peer = sa->client},
                                  .pair = unmavreth_pair_of(sa->peer, sa->own), .child = sa->child_spi};
     return unmavreth_gateway_open(&gateway, &opening);
 }

@@ -3,7 +3,8 @@ use unmavreth::{write_check, Agreed, CheckResponse, Gateway, Number, Opening, Ou
 
 /// IKE_AUTH is done: opens the records of the IKE SA and of its first child SA, both or neither.
 fn mobike_open(gateway: &mut Gateway, sa: &IkeSa) -> Result<(), Number> {
-    let (agreed, pair) = (Agreed { mobike: sa.mobike.into() }, Pair::between(sa.peer, sa.own));
+    let agreed = Agreed { mobike: sa.mobike.into(), cloning: sa.cloning.into(), peer: sa.client };
+    let pair = Pair::between(sa.peer, sa.own);
     gateway.open(&Opening { spi: sa.own_spi, agreed, pair, child: sa.child_spi }).ok()
 }
 

@@ -1,4 +1,4 @@
-// What is agreed when an IKE record is opened, and stays as it is until the record is closed.
+// What is agreed when an IKE record is opened, with whom, and stays as it is until the record is closed.
 //
 // Yes or no is an octet, so that any value may be lent and looked at: 0 is no, every other value yes.
 
@@ -6,10 +6,14 @@
 #[derive(Debug, Clone, Copy, PartialEq, Eq)]
 pub struct Agreed {
     pub mobike: u8,
+    /// That the IKE SA may be cloned.
+    pub cloning: u8,
+    /// The peer's number, any.
+    pub peer: u32,
 }
 
 impl Agreed {
-    pub const NOTHING: Agreed = Agreed { mobike: 0 };
+    pub const NOTHING: Agreed = Agreed { mobike: 0, cloning: 0, peer: 0 };
 }
 
 #[cfg(test)]

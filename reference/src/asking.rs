@@ -18,6 +18,10 @@ pub struct Ask {
     pub no_additional: bool,
     /// How many addresses.
     pub count: u16,
+    /// CLONE_IKE_SA_SUPPORTED.
+    pub clone_supported: bool,
+    /// CLONE_IKE_SA.
+    pub clone: bool,
 }
 
 #[derive(Debug, Clone, PartialEq, Eq)]

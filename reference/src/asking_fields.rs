@@ -11,6 +11,8 @@ pub fn of(arguments: &Arguments) -> Vec<(String, String)> {
         ("NAT destination", ask.nat_destination.to_string()),
         ("no additional addresses", ask.no_additional.to_string()),
         ("count of addresses", ask.count.to_string()),
+        ("clone supported", ask.clone_supported.to_string()),
+        ("clone", ask.clone.to_string()),
         ("pair", show::pair(&arguments.pair)),
         ("lent NAT source", show::hex(&arguments.nat_source)),
         ("lent NAT destination", show::hex(&arguments.nat_destination)),

@@ -1,6 +1,7 @@
 // The table calls: what each is given, and the number it gives back.
 use crate::address::AddressPair;
 use crate::closing::{close_ike, close_ipsec};
+use crate::deleting::mark_deletion;
 use crate::opening::open_ipsec;
 use crate::opening_both::{open_both, Opening};
 use crate::policy::{set, RuleList};
@@ -21,6 +22,10 @@ pub enum Call {
     },
     CloseIpsec {
         spi: u32,
+    },
+    /// Of an IKE record that is being deleted.
+    MarkDeletion {
+        spi: u64,
     },
     SetPolicy {
         count: u16,
@@ -43,6 +48,10 @@ pub enum Refusal {
     SpiInUse = 11,
     Policy = 12,
     NoPendingCheck = 14,
+    CloningNotAgreed = 40,
+    CannotCloneNow = 41,
+    PeerAtLimit = 42,
+    NoCloneRequest = 44,
 }
 
 /// Who is lent the IPsec list.
@@ -72,6 +81,7 @@ impl Call {
             Call::OpenIpsec { spi, owner } => open_ipsec(tables, *spi, *owner, of_tables),
             Call::CloseIke { spi } => close_ike(tables, *spi, of_tables),
             Call::CloseIpsec { spi } => close_ipsec(tables, *spi, of_tables),
+            Call::MarkDeletion { spi } => mark_deletion(tables, *spi, of_tables),
             Call::SetPolicy { count, rules } => set(&mut tables.policy, *count, rules, of_policy),
             Call::Acceptable { pair } => {
                 return u8::from(of_policy.asked(&mut tables.policy, pair));

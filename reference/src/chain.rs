@@ -6,6 +6,15 @@ pub const CRITICAL: u8 = 0x80;
 pub const NO_NEXT_PAYLOAD: u8 = 0;
 pub const NOTIFY: u8 = 41;
 
+/// Which message a chain is of.
+#[derive(Debug, Clone, Copy, PartialEq, Eq)]
+pub enum Exchange {
+    /// An INFORMATIONAL request or a response.
+    Informational,
+    /// A CREATE_CHILD_SA request given as an IKE rekey.
+    Rekey,
+}
+
 /// What a payload type means to a reader.
 #[derive(Debug, Clone, Copy, PartialEq, Eq)]
 pub enum Class {

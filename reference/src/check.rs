@@ -161,7 +161,7 @@ mod tests {
     /// An IKE record that has moved, two IPsec records of it, one of another, and a free place that names it.
     fn tables() -> Tables {
         let mut tables = Tables::empty();
-        let agreed = Agreed { mobike: 1 };
+        let agreed = Agreed { mobike: 1, ..Agreed::NOTHING };
         let record = IkeRecord { spi: 7, agreed, pair: NEW, unknown: 4, ..IkeRecord::FREE };
         tables.ike_mut()[1] = IkeRecord { check: CHECK, update_mark: 9, ..record };
         for (place, (spi, owner)) in [(1, 7), (2, 8), (0, 7), (3, 7)].into_iter().enumerate() {

@@ -78,7 +78,7 @@ mod tests {
     fn tables(ike_spis: &[u64], ipsec: &[(u32, u64)]) -> Tables {
         let mut tables = Tables::empty();
         for (place, &spi) in ike_spis.iter().enumerate() {
-            let agreed = Agreed { mobike: 255 };
+            let agreed = Agreed { mobike: 255, ..Agreed::NOTHING };
             tables.ike_mut()[place] = IkeRecord { spi, agreed, unknown: 5, ..IkeRecord::FREE };
         }
         for (place, &(spi, owner)) in ipsec.iter().enumerate() {

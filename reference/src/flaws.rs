@@ -1,6 +1,6 @@
 // What makes a chain refused: finds every flaw of it, and the one that is told.
-use crate::chain::{Chain, Class, End, Payload};
-use crate::notify::NotifyType;
+use crate::chain::{Chain, Class, End, Exchange, Payload};
+use crate::notify::{Notify, NotifyType};
 use crate::rules::ChainRules;
 
 #[derive(Debug, Clone, Copy, PartialEq, Eq)]
@@ -40,12 +40,12 @@ impl Flaw {
 }
 
 /// The flaw that is told of a chain, if it has any.
-pub fn told(chain: &Chain, rules: &(impl ChainRules + ?Sized)) -> Option<Flaw> {
-    let flaw = all(chain, rules).into_iter().min_by_key(|flaw| rules.rank(flaw))?;
+pub fn told(chain: &Chain, exchange: Exchange, rules: &(impl ChainRules + ?Sized)) -> Option<Flaw> {
+    let flaw = all(chain, exchange, rules).into_iter().min_by_key(|flaw| rules.rank(flaw))?;
     Some(Flaw { ordinal: rules.ordinal(&flaw, chain), ..flaw })
 }
 
-fn all(chain: &Chain, rules: &(impl ChainRules + ?Sized)) -> Vec<Flaw> {
+fn all(chain: &Chain, exchange: Exchange, rules: &(impl ChainRules + ?Sized)) -> Vec<Flaw> {
     let mut flaws = Vec::new();
     let mut notifies = Vec::new();
     for payload in &chain.payloads {
@@ -58,13 +58,26 @@ fn all(chain: &Chain, rules: &(impl ChainRules + ?Sized)) -> Vec<Flaw> {
             flaws.push(Flaw::of(payload, rules.cause_of_notify_length(payload)));
             continue;
         };
-        let causes = rules.causes_of_content(&notify).into_iter();
+        let causes = causes_of_content(&notify, exchange, rules).into_iter();
         flaws.extend(causes.map(|cause| Flaw::of(payload, cause)));
         flaws.extend(flaws_after(&notifies, payload, notify.notify_type, rules));
         notifies.push((payload, notify.notify_type));
     }
     flaws.extend(flaws_of_end(chain, rules));
     flaws
+}
+
+/// What is wrong with a notification's SPI and data.
+fn causes_of_content(
+    notify: &Notify,
+    exchange: Exchange,
+    rules: &(impl ChainRules + ?Sized),
+) -> Vec<Cause> {
+    if notify.notify_type.is_of_clones() && rules.knows_clones(exchange) {
+        rules.causes_in_clones(notify)
+    } else {
+        rules.causes_of_content(notify)
+    }
 }
 
 /// An unknown payload type with the critical bit.

@@ -94,7 +94,7 @@ mod tests {
     /// An IKE record, an IPsec record of it, and one of another behind the same address.
     fn tables() -> Tables {
         let mut tables = Tables::empty();
-        let agreed = Agreed { mobike: 1 };
+        let agreed = Agreed { mobike: 1, ..Agreed::NOTHING };
         tables.ike_mut()[0] = IkeRecord { spi: 7, agreed, pair: OLD, ..IkeRecord::FREE };
         tables.ipsec_mut()[0] = IpsecRecord { spi: 1, owner: 7, pair: OLD };
         tables.ipsec_mut()[1] = IpsecRecord { spi: 2, owner: 8, pair: OLD };

@@ -7,6 +7,8 @@ pub enum Kind {
     Requests,
     /// Of responses to return routability checks.
     Checks,
+    /// Of requests to clone an IKE SA.
+    Clones,
     Orders,
     Assess,
     Writer,
@@ -19,11 +21,12 @@ pub enum Kind {
 }
 
 impl Kind {
-    pub const ALL: [Kind; 11] = [
+    pub const ALL: [Kind; 12] = [
         Kind::Reader,
         Kind::Tables,
         Kind::Requests,
         Kind::Checks,
+        Kind::Clones,
         Kind::Orders,
         Kind::Assess,
         Kind::Writer,
@@ -39,6 +42,7 @@ impl Kind {
             Kind::Tables => "tables",
             Kind::Requests => "requests",
             Kind::Checks => "checks",
+            Kind::Clones => "clones",
             Kind::Orders => "orders",
             Kind::Assess => "responses",
             Kind::Writer => "writer",

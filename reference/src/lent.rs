@@ -5,7 +5,8 @@ use crate::agreed::Agreed;
 use crate::lent_rules::BetweenRules;
 use crate::pending::{PendingCheck, MOST_COOKIE};
 use crate::policy::Policy;
-use crate::tables::{IkeRecord, IkeTable, IpsecRecord, IpsecTable, Record, Tables};
+use crate::rules::Plain;
+use crate::tables::{find, IkeRecord, IkeTable, IpsecRecord, IpsecTable, Record, Tables};
 use std::rc::Rc;
 
 /// So many records stand on each side of a list.
@@ -15,7 +16,8 @@ const AROUND: usize = 2;
 pub const NO_SPI_GIVEN: u32 = 1;
 
 /// What the records around have, so that any change shows.
-const AGREED: Agreed = Agreed { mobike: 0xa5 };
+const AGREED: Agreed = Agreed { mobike: 0xa5, cloning: 0x5a, peer: 0xa55a_5aa5 };
+const DELETING: u8 = 0xa5;
 const PAIR: AddressPair = AddressPair {
     family: 6,
     source: [0xa5; 16],
@@ -63,7 +65,12 @@ pub struct LentTables {
 impl LentTables {
     /// The tables, for a call that gives these SPIs of an IKE and of an IPsec record.
     pub fn new(tables: &Tables, spi: u64, ipsec_spi: u32) -> Self {
-        let ike = IkeRecord { spi, agreed: AGREED, pair: PAIR, check: CHECK, ..IkeRecord::FREE };
+        // Of the peer that the record has, so that it would count for it.
+        let meant = find(&tables.ike.records, spi, &Plain);
+        let peer = meant.map_or(AGREED.peer, |place| tables.ike.records[place].agreed.peer);
+        let agreed = Agreed { peer, ..AGREED };
+        let ike = IkeRecord { agreed, pair: PAIR, check: CHECK, ..IkeRecord::FREE };
+        let ike = IkeRecord { spi, deleting: DELETING, ..ike };
         let ipsec = IpsecRecord { spi: ipsec_spi, owner: spi, pair: PAIR };
         LentTables {
             ike: Lent::new(&tables.ike.records, ike),

@@ -10,8 +10,10 @@ pub struct NotifyType(pub u16);
 impl NotifyType {
     pub const UNSUPPORTED_CRITICAL_PAYLOAD: Self = NotifyType(1);
     pub const INVALID_SYNTAX: Self = NotifyType(7);
+    pub const NO_ADDITIONAL_SAS: Self = NotifyType(35);
     pub const UNACCEPTABLE_ADDRESSES: Self = NotifyType(40);
     pub const UNEXPECTED_NAT_DETECTED: Self = NotifyType(41);
+    pub const TEMPORARY_FAILURE: Self = NotifyType(43);
 
     pub const NAT_DETECTION_SOURCE_IP: Self = NotifyType(16388);
     pub const NAT_DETECTION_DESTINATION_IP: Self = NotifyType(16389);
@@ -22,8 +24,10 @@ impl NotifyType {
     pub const UPDATE_SA_ADDRESSES: Self = NotifyType(16400);
     pub const COOKIE2: Self = NotifyType(16401);
     pub const NO_NATS_ALLOWED: Self = NotifyType(16402);
+    pub const CLONE_IKE_SA_SUPPORTED: Self = NotifyType(16432);
+    pub const CLONE_IKE_SA: Self = NotifyType(16433);
 
-    /// The types with rules of their own; every other one is tallied as unknown.
+    /// The types with rules of their own in every chain; every other one is tallied as unknown.
     pub const KNOWN: [Self; 9] = [
         Self::NAT_DETECTION_SOURCE_IP,
         Self::NAT_DETECTION_DESTINATION_IP,
@@ -36,6 +40,9 @@ impl NotifyType {
         Self::NO_NATS_ALLOWED,
     ];
 
+    /// The types with rules of their own in a request to clone an IKE SA only.
+    pub const OF_CLONES: [Self; 2] = [Self::CLONE_IKE_SA_SUPPORTED, Self::CLONE_IKE_SA];
+
     /// The types that a chain may hold once at most.
     pub const ONCE: [Self; 5] = [
         Self::UPDATE_SA_ADDRESSES,
@@ -47,6 +54,10 @@ impl NotifyType {
 
     pub fn is_known(self) -> bool {
         Self::KNOWN.contains(&self)
+    }
+
+    pub fn is_of_clones(self) -> bool {
+        Self::OF_CLONES.contains(&self)
     }
 
     pub fn is_additional_address(self) -> bool {

@@ -86,7 +86,7 @@ mod tests {
         let mut tables = Tables::empty();
         let pair = AddressPair { family: 5, source_port: 1, ..IPV6 };
         tables.ike_mut()[3] = IkeRecord { spi: 7, pair, ..IkeRecord::FREE };
-        let agreed = Agreed { mobike: 1 };
+        let agreed = Agreed { mobike: 1, ..Agreed::NOTHING };
         tables.ike_mut()[4] = IkeRecord { spi: 7, agreed, pair: IPV4, ..IkeRecord::FREE };
         assert_eq!(open(&mut tables, 9, 7), Ok(()));
         assert_eq!(tables.ipsec.records[0], IpsecRecord { spi: 9, owner: 7, pair });

@@ -85,7 +85,7 @@ mod tests {
     const IPV6: AddressPair = AddressPair { family: 6, source: [9; 16], ..AddressPair::ZERO };
 
     fn open(tables: &mut Tables, spi: u64, pair: AddressPair, child: u32) -> Result<(), Refusal> {
-        let agreed = Agreed { mobike: 2 };
+        let agreed = Agreed { mobike: 2, ..Agreed::NOTHING };
         open_both(tables, &Opening { spi, agreed, pair, child }, &Plain)
     }
 
@@ -117,7 +117,7 @@ mod tests {
         tables.ipsec_mut()[2] = IpsecRecord { spi: 0, owner: 8, pair: IPV4 };
         let mut expected = tables.clone();
         assert_eq!(open(&mut tables, 7, IPV6, 9), Ok(()));
-        let agreed = Agreed { mobike: 1 };
+        let agreed = Agreed { mobike: 1, ..Agreed::NOTHING };
         expected.ike_mut()[1] = IkeRecord { spi: 7, agreed, pair: IPV6, ..IkeRecord::FREE };
         expected.ipsec_mut()[2] = IpsecRecord { spi: 9, owner: 7, pair: IPV6 };
         assert_eq!(tables, expected);

@@ -1,5 +1,5 @@
 // Which chains are plainly read: told from their payloads alone, not by writing them again.
-use crate::chain::{self, Payload, NOTIFY};
+use crate::chain::{self, Exchange, Payload, NOTIFY};
 use crate::notify::NotifyType;
 use crate::reader::{self, Answer};
 use crate::rules::{ChainRules, Plain, RoundTripRules, Rules};
@@ -19,6 +19,13 @@ pub fn plainly_read(first: u8, body: &[u8], rules: &impl Rules) -> bool {
             && rules.has_kinds(sources, destinations)
             && rules.has_few(addresses)
     })
+}
+
+/// Whether the chain is read as that of a request to clone, and has what the writer writes for one and nothing else.
+pub fn plainly_read_as_clone(first: u8, body: &[u8], rules: &impl Rules) -> bool {
+    let reading = reader::read_in(Exchange::Rekey, first, body, rules.chain());
+    let payloads = chain::split(first, body).payloads;
+    reading.answer == Answer::Read && rules.round_trips().is_plain_clone(&payloads)
 }
 
 /// The notify type of a payload, if it is a Notify.
@@ -73,6 +80,25 @@ mod tests {
         assert!(!is_plain(&[IPV4, COOKIE, IPV4]));
         assert!(!is_plain(&[UPDATE, MOBIKE]));
         assert!(!is_plain(&[UPDATE, (NotifyType(16403), &[])]));
+    }
+
+    #[test]
+    fn a_clone_is_plainly_read_alone() {
+        let clone: (NotifyType, &[u8]) = (NotifyType::CLONE_IKE_SA, &[]);
+        let supported: (NotifyType, &[u8]) = (NotifyType::CLONE_IKE_SA_SUPPORTED, &[]);
+        let is_plain_clone = |notifications: &[(NotifyType, &[u8])]| {
+            let body = octets(notifications);
+            plainly_read_as_clone(first_type(&body), &body, &Plain)
+        };
+        assert!(is_plain_clone(&[clone]));
+        assert!(!is_plain(&[clone]) && !is_plain(&[supported]));
+        for others in [&[][..], &[supported], &[clone, clone], &[UPDATE, clone], &[clone, MOBIKE]] {
+            assert!(!is_plain_clone(others));
+        }
+        assert!(!is_plain_clone(&[(clone.0, &[1])]));
+        let mut changed = octets(&[clone]);
+        changed[4] = 1;
+        assert!(!plainly_read_as_clone(41, &changed, &Plain));
     }
 
     #[test]

@@ -1,5 +1,5 @@
 // The payload reader: the answer to a first payload type and a body, with what the chain says.
-use crate::chain;
+use crate::chain::{self, Exchange};
 use crate::flaws::{self, Flaw};
 use crate::rules::ChainRules;
 use crate::summary::{summarise, Summary};
@@ -41,7 +41,18 @@ pub struct Reading<'a> {
     pub summary: Summary<'a>,
 }
 
+/// Reads the chain of an INFORMATIONAL request or of a response.
 pub fn read<'a>(first: u8, body: &'a [u8], rules: &(impl ChainRules + ?Sized)) -> Reading<'a> {
+    read_in(Exchange::Informational, first, body, rules)
+}
+
+/// Reads the chain of a message of this exchange.
+pub fn read_in<'a>(
+    exchange: Exchange,
+    first: u8,
+    body: &'a [u8],
+    rules: &(impl ChainRules + ?Sized),
+) -> Reading<'a> {
     let chain = chain::split(first, body);
     let unflawed = |answer, summary| {
         let ordinal = rules.ordinal_without_flaw(&chain);
@@ -50,8 +61,8 @@ pub fn read<'a>(first: u8, body: &'a [u8], rules: &(impl ChainRules + ?Sized)) -
     if body.len() > rules.longest_body() {
         return unflawed(Answer::BodyTooLong, Summary::default());
     }
-    match flaws::told(&chain, rules) {
-        None => unflawed(Answer::Read, summarise(&chain, rules)),
+    match flaws::told(&chain, exchange, rules) {
+        None => unflawed(Answer::Read, summarise(&chain, exchange, rules)),
         Some(flaw) => Reading {
             answer: Answer::Flawed(flaw),
             ordinal: flaw.ordinal,
@@ -221,6 +232,28 @@ mod tests {
         assert_eq!(both((0x13, 0, &[]), (address, 0, &[1; 4])), (64, 16, 2));
         assert_eq!(both((0x13, 0, &[]), (address, 0, &[1; 5])), (63, 16, 2));
         assert_eq!(both((0x13, 0, &[]), (address, 4, &[1; 8])), (62, 16, 2));
+    }
+
+    #[test]
+    fn the_two_of_clones_are_known_in_a_rekey_only() {
+        for (low, is_clone) in [(0x30, false), (0x31, true)] {
+            let read = |exchange, spi_size, rest: &[u8]| {
+                let body = notifications(&[(low, spi_size, rest), (low, 0, &[])]);
+                let Reading { answer, summary, .. } = read_in(exchange, 41, &body, &Plain);
+                let Summary { payloads, unknown_notifies, clone_supported, clone, .. } = summary;
+                (answer.number(&Plain), payloads, unknown_notifies, clone_supported, clone)
+            };
+            for (spi_size, rest) in [(0, &[][..]), (0, &[1]), (1, &[1]), (1, &[1, 2])] {
+                let told = read(Exchange::Informational, spi_size, rest);
+                assert_eq!(told, (0, 2, 2, false, false));
+            }
+            let told = |spi_size, rest| read(Exchange::Rekey, spi_size, rest);
+            assert_eq!(told(0, &[]), (0, 2, 0, !is_clone, is_clone));
+            assert_eq!(told(0, &[1]).0, 63);
+            assert_eq!(told(1, &[1]).0, 62);
+            assert_eq!(told(1, &[1, 2]).0, 62);
+            assert_eq!(told(2, &[1]).0, 62);
+        }
     }
 
     #[test]

@@ -1,17 +1,35 @@
 // Round trips: a request that is written and then read, and a chain that is read and then written.
 use crate::address::{Address, AddressPair};
+use crate::agreed::Agreed;
 use crate::asking::{Arguments, Ask, LEAST_OUTPUT};
+use crate::cloning::{clone, CloneReply, CloneRequest};
 use crate::outcome::Outcome;
 use crate::reader;
+use crate::request;
 use crate::rules::{RoundTripRules, Rules};
 use crate::show;
 use crate::summary::MAX_KEPT;
+use crate::tables::{IkeRecord, Record, Tables};
 use crate::writer::{self, Written};
 
 /// A program's reader and writer.
 pub trait Program {
     fn read<'a>(&self, first: u8, body: &'a [u8]) -> Outcome<'a>;
     fn write(&self, arguments: &Arguments) -> Written;
+    /// What a request to clone gives back.
+    fn clone(&self, request: &CloneRequest, tables: &mut Tables) -> CloneReply;
+
+    /// The number and the count of payloads of a request to clone that has this chain and in which nothing else can be
+    /// refused: what is told of a chain in the clone's reading.
+    fn in_rekey(&self, first: u8, body: &[u8]) -> (u8, usize) {
+        let mut tables = Tables::empty();
+        let agreed = Agreed { cloning: 1, ..Agreed::NOTHING };
+        tables.ike_mut()[0] = IkeRecord { spi: 7, agreed, ..IkeRecord::FREE };
+        let (body, output) = (body.to_vec(), vec![0x5a; request::LEAST_OUTPUT]);
+        let request = CloneRequest { spi: 7, new_spi: 8, first, body, output };
+        let CloneReply { number, payloads, .. } = self.clone(&request, &mut tables);
+        (number, payloads)
+    }
 }
 
 /// This program.
@@ -24,6 +42,10 @@ impl<R: Rules> Program for Model<'_, R> {
 
     fn write(&self, arguments: &Arguments) -> Written {
         writer::write(arguments, self.0.writer())
+    }
+
+    fn clone(&self, request: &CloneRequest, tables: &mut Tables) -> CloneReply {
+        clone(request, tables, self.0).reply
     }
 }
 
@@ -45,10 +67,12 @@ pub struct Content {
     pub families: [u8; MAX_KEPT],
     pub list: [Address; MAX_KEPT],
     pub cookie: Vec<u8>,
+    /// In the clone's reading, the number and the count of payloads.
+    pub in_rekey: (u8, usize),
 }
 
 impl Content {
-    fn read(outcome: &Outcome) -> Self {
+    fn read(outcome: &Outcome, in_rekey: (u8, usize)) -> Self {
         Content {
             number: outcome.number,
             payloads: outcome.payloads,
@@ -63,18 +87,20 @@ impl Content {
             families: outcome.address_families,
             list: outcome.address_list,
             cookie: outcome.cookie.octets.to_vec(),
+            in_rekey,
         }
     }
 
     /// Of arguments that pass the writer's checks.
     fn asked(arguments: &Arguments, rules: &(impl RoundTripRules + ?Sized)) -> Self {
-        let Ask { update, no_nats, nat_source, nat_destination, no_additional, count } =
+        let Ask { update, no_nats, nat_source, nat_destination, no_additional, count, .. } =
             arguments.ask;
+        let payloads = rules.asked_payloads(arguments);
         let list = rules.asked_list(arguments);
         Content {
             number: 0,
-            payloads: rules.asked_payloads(arguments),
-            unknown: 0,
+            payloads,
+            unknown: rules.asked_unknown(&arguments.ask),
             update: u8::from(update),
             no_additional: u8::from(no_additional),
             no_nats,
@@ -85,6 +111,7 @@ impl Content {
             families: list.map(|address| address.family),
             list,
             cookie: arguments.cookie.clone(),
+            in_rekey: (rules.asked_in_rekey(&arguments.ask), payloads),
         }
     }
 
@@ -103,6 +130,8 @@ impl Content {
             ("additional addresses", self.addresses.to_string()),
             ("families", show::hex(&self.families)),
             ("cookie", show::hex(&self.cookie)),
+            ("number in the clone's reading", self.in_rekey.0.to_string()),
+            ("payloads in the clone's reading", self.in_rekey.1.to_string()),
         ];
         let mut fields = fields.map(|(name, value)| (name.to_string(), value)).to_vec();
         let list = self.list.iter().map(show::address).enumerate();
@@ -120,7 +149,8 @@ pub fn expected(arguments: &Arguments, rules: &impl Rules) -> Option<Content> {
 /// What the program reads of what it writes; none if it doesn't write it.
 pub fn written_and_read(program: &impl Program, arguments: &Arguments) -> Option<Content> {
     let written = program.write(arguments);
-    let read = || Content::read(&program.read(written.first, written.octets()));
+    let (first, octets) = (written.first, written.octets());
+    let read = || Content::read(&program.read(first, octets), program.in_rekey(first, octets));
     (written.number == 0).then(read)
 }
 
@@ -134,6 +164,18 @@ pub fn is_written_again(program: &impl Program, first: u8, body: &[u8]) -> bool 
     written.number == 0 && written.first == first && written.octets() == body
 }
 
+/// Whether the program clones by this chain, which is of one payload, and writes the same one where it is asked for
+/// CLONE_IKE_SA.
+pub fn is_clone_written_again(program: &impl Program, first: u8, body: &[u8]) -> bool {
+    if program.in_rekey(first, body) != (0, 1) {
+        return false;
+    }
+    let nothing = asking_again(&Outcome::default());
+    let ask = Ask { clone: true, ..Ask::default() };
+    let written = program.write(&Arguments { ask, ..nothing });
+    written.number == 0 && written.first == first && written.octets() == body
+}
+
 /// Asks for all that was read, and for nothing else.
 fn asking_again(outcome: &Outcome) -> Arguments {
     Arguments {
@@ -144,6 +186,7 @@ fn asking_again(outcome: &Outcome) -> Arguments {
             nat_destination: outcome.nat_destination.length != 0,
             no_additional: outcome.no_additional != 0,
             count: outcome.addresses as u16,
+            ..Ask::default()
         },
         pair: outcome.no_nats_pair,
         addresses: outcome.address_list,

@@ -1,6 +1,6 @@
 // What a chain without flaws says: its counts, and the notifications that the gateway acts on.
 use crate::address::{Address, AddressOctets, AddressPair};
-use crate::chain::{Chain, Class};
+use crate::chain::{Chain, Class, Exchange};
 use crate::notify::{Notify, NotifyType};
 use crate::rules::ChainRules;
 
@@ -34,6 +34,9 @@ pub struct Summary<'a> {
     /// Of the unknown notifications, the types that tell errors, in order.
     pub errors: Vec<NotifyType>,
     pub update: bool,
+    /// CLONE_IKE_SA_SUPPORTED and CLONE_IKE_SA, where they are known.
+    pub clone_supported: bool,
+    pub clone: bool,
     pub no_additional: bool,
     pub no_nats: Option<NoNatsAllowed<'a>>,
     pub nat_source: Option<Part<'a>>,
@@ -46,7 +49,11 @@ pub struct Summary<'a> {
 }
 
 /// Sums up a chain in which no flaw was found.
-pub fn summarise<'a>(chain: &Chain<'a>, rules: &(impl ChainRules + ?Sized)) -> Summary<'a> {
+pub fn summarise<'a>(
+    chain: &Chain<'a>,
+    exchange: Exchange,
+    rules: &(impl ChainRules + ?Sized),
+) -> Summary<'a> {
     let mut summary = Summary { payloads: rules.count(chain), ..Summary::default() };
     for payload in &chain.payloads {
         match rules.class(payload.payload_type) {
@@ -54,7 +61,7 @@ pub fn summarise<'a>(chain: &Chain<'a>, rules: &(impl ChainRules + ?Sized)) -> S
             Class::Unknown => summary.unknown_payloads += 1,
             Class::Notify => {
                 let notify = rules.notify(payload).expect("a flawed Notify was refused");
-                summary.add(notify, rules);
+                summary.add(notify, exchange, rules);
             }
         }
     }
@@ -72,7 +79,7 @@ impl<'a> Summary<'a> {
         self.addresses > 0 || self.no_additional
     }
 
-    fn add(&mut self, notify: Notify<'a>, rules: &(impl ChainRules + ?Sized)) {
+    fn add(&mut self, notify: Notify<'a>, exchange: Exchange, rules: &(impl ChainRules + ?Sized)) {
         let part = Part { offset: notify.data_offset, octets: notify.data };
         match notify.notify_type {
             NotifyType::NAT_DETECTION_SOURCE_IP => {
@@ -86,6 +93,10 @@ impl<'a> Summary<'a> {
             NotifyType::UPDATE_SA_ADDRESSES => self.update = true,
             NotifyType::COOKIE2 => self.cookie = Some(part),
             NotifyType::NO_NATS_ALLOWED => self.no_nats = Some(rules.no_nats(part)),
+            other if other.is_of_clones() && rules.knows_clones(exchange) => {
+                self.clone_supported |= other == NotifyType::CLONE_IKE_SA_SUPPORTED;
+                self.clone |= other == NotifyType::CLONE_IKE_SA;
+            }
             unknown => self.add_unknown(unknown, rules),
         }
     }

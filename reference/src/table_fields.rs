@@ -30,6 +30,8 @@ fn ike_fields(place: usize, record: &IkeRecord) -> Fields {
     let own = [
         ("SPI", record.spi.to_string()),
         ("MOBIKE", record.agreed.mobike.to_string()),
+        ("cloning", record.agreed.cloning.to_string()),
+        ("peer", record.agreed.peer.to_string()),
         ("pair", show::pair(&record.pair)),
         ("update mark", record.update_mark.to_string()),
         ("list mark", record.list_mark.to_string()),
@@ -38,6 +40,7 @@ fn ike_fields(place: usize, record: &IkeRecord) -> Fields {
         ("check's cookie length", record.check.length.to_string()),
         ("check's cookie", show::hex(&record.check.octets)),
         ("check's ID", record.check.id.to_string()),
+        ("deletion mark", record.deleting.to_string()),
     ];
     let mut fields =
         own.map(|(name, value)| (format!("IKE place {place}, {name}"), value)).to_vec();
@@ -73,13 +76,15 @@ fn show_rule(rule: &Rule) -> String {
 
 pub fn call_line(call: &Call) -> String {
     match call {
-        Call::OpenBoth(Opening { spi, agreed: Agreed { mobike }, pair, child }) => {
-            let pair = show::pair(pair);
-            format!("open IKE {spi} and IPsec {child}, MOBIKE {mobike}, {pair}")
+        Call::OpenBoth(Opening { spi, agreed, pair, child }) => {
+            let (Agreed { mobike, cloning, peer }, pair) = (agreed, show::pair(pair));
+            let agreed = format!("MOBIKE {mobike}, cloning {cloning}, peer {peer}");
+            format!("open IKE {spi} and IPsec {child}, {agreed}, {pair}")
         }
         Call::OpenIpsec { spi, owner } => format!("open IPsec {spi}, owner {owner}"),
         Call::CloseIke { spi } => format!("close IKE {spi}"),
         Call::CloseIpsec { spi } => format!("close IPsec {spi}"),
+        Call::MarkDeletion { spi } => format!("mark IKE {spi} as being deleted"),
         Call::SetPolicy { count, rules } => {
             let rules: Vec<String> = rules.rules.iter().map(show_rule).collect();
             format!("set policy, count {count}: {}", rules.join("; "))

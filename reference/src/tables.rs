@@ -36,6 +36,8 @@ pub struct IkeRecord {
     /// The unknown tally.
     pub unknown: u32,
     pub check: PendingCheck,
+    /// The mark for being deleted; 0 is none.
+    pub deleting: u8,
 }
 
 #[repr(C)]
@@ -76,6 +78,7 @@ impl Record for IkeRecord {
         addresses: [Address::ZERO; MAX_KEPT],
         unknown: 0,
         check: PendingCheck::NONE,
+        deleting: 0,
     };
 
     fn spi(&self) -> u64 {

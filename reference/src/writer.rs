@@ -95,6 +95,7 @@ mod tests {
             nat_destination: true,
             no_additional: false,
             count: 16,
+            ..Ask::default()
         };
         Arguments { pair: AddressPair { family: 6, ..PAIR }, cookie: vec![3; 64], ..asking(ask) }
     }
@@ -186,6 +187,50 @@ mod tests {
             it.nat_destination.push(0);
         };
         assert_eq!(number(unasked), 0);
+    }
+
+    const SUPPORTED: Ask = Ask { clone_supported: true, ..NOTHING };
+    const CLONE: Ask = Ask { clone: true, ..NOTHING };
+    const NOTHING: Ask = Ask {
+        update: false,
+        no_nats: false,
+        nat_source: false,
+        nat_destination: false,
+        no_additional: false,
+        count: 0,
+        clone_supported: false,
+        clone: false,
+    };
+
+    #[test]
+    fn each_of_the_two_of_clones_is_written_alone() {
+        for (ask, low) in [(SUPPORTED, 0x30), (CLONE, 0x31)] {
+            let mut arguments = asking(ask);
+            let octets = vec![0, 0, 0, 8, 0, 0, 0x40, low];
+            assert_eq!(written(&arguments), (0, 41, octets.clone()));
+            arguments.pair.family = 5;
+            arguments.addresses[0].family = 9;
+            (arguments.nat_source, arguments.nat_destination) = (vec![], vec![1; 21]);
+            assert_eq!(written(&arguments), (0, 41, octets));
+            arguments.output.truncate(563);
+            assert_eq!(written(&arguments), (2, 0, vec![]));
+            let beside: [fn(&mut Arguments); 9] = [
+                |it| (it.ask.clone, it.ask.clone_supported) = (true, true),
+                |it| it.ask.update = true,
+                |it| it.ask.no_nats = true,
+                |it| it.ask.nat_source = true,
+                |it| it.ask.nat_destination = true,
+                |it| it.ask.no_additional = true,
+                |it| it.ask.count = 1,
+                |it| it.cookie = vec![1; 8],
+                |it| (it.ask.nat_source, it.ask.nat_destination) = (true, true),
+            ];
+            for change in beside {
+                let mut arguments = asking(ask);
+                change(&mut arguments);
+                assert_eq!(written(&arguments), (1, 0, vec![]));
+            }
+        }
     }
 
     #[test]

@@ -7,6 +7,7 @@
 mod addresses;
 mod assess;
 mod check;
+mod cloning;
 mod handler;
 mod notify;
 mod opening;
@@ -18,6 +19,7 @@ mod writer;
 
 pub use assess::{assess, Assessment};
 pub use check::check;
+pub use cloning::{clone_ike, CloneReply};
 pub use handler::{handle, Reply};
 pub use opening::open;
 pub use policy::acceptable;

@@ -1,8 +1,10 @@
 // The notify types and the headers of Notify payloads.
 pub const UNSUPPORTED_CRITICAL_PAYLOAD: u16 = 1;
 pub const INVALID_SYNTAX: u16 = 7;
+pub const NO_ADDITIONAL_SAS: u16 = 35;
 pub const UNACCEPTABLE_ADDRESSES: u16 = 40;
 pub const UNEXPECTED_NAT_DETECTED: u16 = 41;
+pub const TEMPORARY_FAILURE: u16 = 43;
 /// Types below it tell errors.
 pub const FIRST_STATUS: u16 = 16384;
 pub const NAT_DETECTION_SOURCE_IP: u16 = 16388;
@@ -14,6 +16,8 @@ pub const NO_ADDITIONAL_ADDRESSES: u16 = 16399;
 pub const UPDATE_SA_ADDRESSES: u16 = 16400;
 pub const COOKIE2: u16 = 16401;
 pub const NO_NATS_ALLOWED: u16 = 16402;
+pub const CLONE_IKE_SA_SUPPORTED: u16 = 16432;
+pub const CLONE_IKE_SA: u16 = 16433;
 
 /// The payload type of a Notify.
 pub const NOTIFY: u8 = 41;

@@ -9,12 +9,25 @@ pub struct Reading {
     pub critical: u8,
     pub offset: u16,
     pub ordinal: u16,
+    /// Of a rekey: CLONE_IKE_SA is there.
+    pub clone: bool,
     pub seen: Seen,
 }
 
 /// What was read goes to `reading`, so that it isn't copied.
 #[inline]
 pub fn read(first: u8, body: &[u8], reading: &mut Reading) {
+    read_as::<false>(first, body, reading);
+}
+
+/// The same of a rekey, in which the notifications of cloning are known.
+#[inline]
+pub fn read_rekey(first: u8, body: &[u8], reading: &mut Reading) {
+    read_as::<true>(first, body, reading);
+}
+
+#[inline(always)]
+fn read_as<const REKEY: bool>(first: u8, body: &[u8], reading: &mut Reading) {
     *reading = Reading::default();
     if body.len() > BODY_MOST {
         reading.number = 3;
@@ -32,7 +45,8 @@ pub fn read(first: u8, body: &[u8], reading: &mut Reading) {
             break 61;
         }
         if kind == NOTIFY {
-            let fault = note(&mut reading.seen, payload, body.len().wrapping_sub(rest.len()));
+            let at = body.len().wrapping_sub(rest.len());
+            let fault = note::<REKEY>(&mut reading.seen, &mut reading.clone, payload, at);
             if fault != 0 {
                 break fault;
             }
@@ -58,10 +72,11 @@ pub fn read(first: u8, body: &[u8], reading: &mut Reading) {
 
 /// Takes up the Notify at this offset; gives 0, or the number of what is wrong with it.
 #[inline(always)]
-fn note(seen: &mut Seen, payload: &[u8], at: usize) -> u8 {
+fn note<const REKEY: bool>(seen: &mut Seen, clone: &mut bool, payload: &[u8], at: usize) -> u8 {
     let Some((&[.., spi, high, low], data)) = payload.split_first_chunk::<8>() else { return 62 };
     let kind = u16::from_be_bytes([high, low]);
-    if spi != 0 && (usize::from(spi) > data.len() || is_known(kind)) {
+    let of_cloning = REKEY && matches!(kind, CLONE_IKE_SA_SUPPORTED | CLONE_IKE_SA);
+    if spi != 0 && (usize::from(spi) > data.len() || is_known(kind) || of_cloning) {
         return 62;
     }
     let (size, place) = (data.len(), at.wrapping_add(8) as u16);
@@ -91,6 +106,9 @@ fn note(seen: &mut Seen, payload: &[u8], at: usize) -> u8 {
         NO_NATS_ALLOWED if size != 12 && size != 36 => return 63,
         NO_NATS_ALLOWED if seen.no_nats != 0 => return 64,
         NO_NATS_ALLOWED => (seen.no_nats, seen.no_nats_len) = (place, size as u16),
+        _ if of_cloning && size != 0 => return 63,
+        CLONE_IKE_SA if of_cloning => *clone = true,
+        _ if of_cloning => {}
         unknown => add_unknown(seen, unknown),
     }
     0

@@ -2,7 +2,7 @@
 use super::addresses::{is_address_sound, is_sound};
 use super::notify::*;
 use unmavreth::limits::REQUEST_ROOM;
-use unmavreth::{Draft, Pair};
+use unmavreth::{Ask, Draft, Pair};
 
 #[derive(Default)]
 pub struct Written {
@@ -43,6 +43,12 @@ pub fn write(draft: &Draft<'_>, out: &mut [u8]) -> Written {
     if !draft.cookie.is_empty() {
         pen.put(COOKIE2, draft.cookie);
     }
+    if ask.clone_supported {
+        pen.put(CLONE_IKE_SA_SUPPORTED, &[]);
+    }
+    if ask.clone {
+        pen.put(CLONE_IKE_SA, &[]);
+    }
     pen.end()
 }
 
@@ -58,6 +64,18 @@ fn may_be_asked(draft: &Draft<'_>) -> bool {
         && (!ask.no_additional || listed.is_empty())
         && listed.iter().all(is_address_sound)
         && may_be_sent(draft.cookie.len())
+        && (!(ask.clone_supported || ask.clone) || is_alone(draft))
+}
+
+/// Whether nothing but one of the two notifications of cloning is asked for.
+#[cold]
+fn is_alone(draft: &Draft<'_>) -> bool {
+    let &Ask { update, no_nats, nat_source, no_additional, count, clone_supported, clone, .. } =
+        &draft.ask;
+    !(update || no_nats || nat_source || no_additional)
+        && count == 0
+        && clone_supported != clone
+        && draft.cookie.is_empty()
 }
 
 /// The output, where the next payload goes, and where the last began.

@@ -1,4 +1,4 @@
-// The entries that open and close records: each is passed on to the call that a host links.
+// The entries that open and close records and mark one: each is passed on to the call that a host links.
 use calling::child_in;
 use calling::opening_in;
 use calling::owner_in;
@@ -8,13 +8,14 @@ use given::outcome::numbered;
 use given::reading::Slots;
 use host::calls::unmavreth_close_ike;
 use host::calls::unmavreth_close_ipsec;
+use host::calls::unmavreth_mark_deletion;
 use host::calls::unmavreth_open;
 use host::calls::unmavreth_open_ipsec;
 use octets::limits::IKE_PLACES;
 use policy::rules::Policy;
 use records::ike::IkeRecord;
 use records::ipsec::IpsecRecord;
-ghost use Rattle.acts.specs.Performed.{Performs, openedBy, addedBy, closedBy, childClosedBy};
+ghost use Rattle.acts.specs.Performed.{Performs, openedBy, addedBy, closedBy, childClosedBy, markedBy};
 
 // Opens an IKE record and its first IPsec record.
 pub fn open_entry(
@@ -94,5 +95,25 @@ pub fn close_child_entry(
 {
     let spi = child_in(e);
     let number = unmavreth_close_ipsec(ipsec, spi);
+    numbered(number)
+}
+
+// Marks an IKE record as being deleted.
+pub fn mark_entry(
+    ike: &mut [IkeRecord; IKE_PLACES],
+    ipsec: &mut [IpsecRecord],
+    policy: &mut Policy,
+    window: &[u8],
+    e: Slots,
+    out: &mut [u8],
+) -> Outcome
+    ensures { λ r. ⌜ (
+        let act = markedBy (e .slots) in
+        Performs act (now (ike .entry)) (now (ipsec .entry)) (now (policy .entry))
+        r (now (ike .exit)) (now (ipsec .exit)) (now (policy .exit))
+        ) ⌝ }
+{
+    let marked = spi_in(e);
+    let number = unmavreth_mark_deletion(ike, marked);
     numbered(number)
 }

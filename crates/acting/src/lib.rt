@@ -1,5 +1,6 @@
 // Whatever an entry stands for, by the number of its kind.
 use act_check::check_entry;
+use act_clone::clone_entry;
 use act_policy::policy_entry;
 use act_request::request_entry;
 use act_shown::show_ike;
@@ -7,6 +8,7 @@ use act_shown::show_ipsec;
 use act_tables::add_entry;
 use act_tables::close_child_entry;
 use act_tables::close_entry;
+use act_tables::mark_entry;
 use act_tables::open_entry;
 use given::outcome::Outcome;
 use given::reading::SHOW_IKE;
@@ -32,6 +34,10 @@ const REQUEST: u8 = 4;
 const POLICY: u8 = 5;
 
 const CHECK_RESPONSE: u8 = 6;
+
+const CLONE: u8 = 7;
+
+const DELETION_MARK: u8 = 8;
 
 // Makes the call of an entry; of any other number it shows a record.
 pub fn perform(
@@ -68,6 +74,12 @@ pub fn perform(
     }
     if e.kind == CHECK_RESPONSE {
         return check_entry(ike, ipsec, policy, window, e, out);
+    }
+    if e.kind == CLONE {
+        return clone_entry(ike, ipsec, policy, window, e, out);
+    }
+    if e.kind == DELETION_MARK {
+        return mark_entry(ike, ipsec, policy, window, e, out);
     }
     if e.kind == SHOW_IKE {
         return show_ike(ike, ipsec, policy, window, e, out);

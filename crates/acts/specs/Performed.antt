@@ -2,7 +2,7 @@
 -- exported calls' contracts on what `Given` takes from the slots.
 --   Gateway                 the tables and the policy that calls are made on
 --   Performed, Performs     what is printed and what is left, and that the code gives and leaves it
---   openedBy … checkedBy    of each kind; ikeShownBy, ipsecShownBy: of a record that is shown
+--   openedBy … markedBy     of each kind; ikeShownBy, ipsecShownBy: of a record that is shown
 --   performed               of whatever number
 use Prim.Native.Nat.{ℕ}
 use mathlib.Core.Path.{_≡_}
@@ -15,14 +15,15 @@ use Rattle.records.specs.declared.ike.IkeRecord.{IkeRecord}
 use Rattle.records.specs.declared.ipsec.IpsecRecord.{IpsecRecord}
 use Rattle.policy.specs.Policy.{setPolicy}
 use Rattle.policy.specs.declared.rules.Policy.{Policy}
-use Rattle.tables.specs.Calls.{openBoth, openIpsec, closeIke, closeIpsec}
+use Rattle.tables.specs.Calls.{openBoth, openIpsec, closeIke, closeIpsec, markDeletion}
 use Rattle.answering.specs.Core.{asked}
 use Rattle.checking.specs.Checks.{Request, requestOf}
 use Rattle.records.specs.Pending.{checkOf}
 use Rattle.responder.specs.Handle.{handled}
 use Rattle.routability.specs.Routability.{CheckResponse, checkResponse, checked}
+use Rattle.cloning.specs.Clone.{CloneRequest, cloneRequest, cloned}
 use Rattle.given.specs.Given.{rulesIn, countIn, stringIn}
-use Rattle.calling.specs.Calling.{openingIn, requestIn, responseIn, spiIn, childIn, ownerIn}
+use Rattle.calling.specs.Calling.{openingIn, requestIn, responseIn, cloneIn, spiIn, childIn, ownerIn}
 use Rattle.given.specs.Outcome.{numberedBy, repliedBy, shownOf}
 use Rattle.given.specs.declared.outcome.Outcome.{Outcome}
 
@@ -100,6 +101,22 @@ checkedBy s slots g =
     let a = checked (g .ike) (g .ipsec) (responseBy s slots) in
     gives (numberedBy (a .told .number)) (gateway (a .ike) (a .ipsec) (g .policy))
 
+-- a clone request with so much room for its response; of what is told of it the number is printed
+abbrev pub cloneBy : List ℕ → List ℕ → ℕ → CloneRequest
+cloneBy s slots room =
+    let q = cloneIn slots in
+    cloneRequest (q .spi) (q .«new_spi») (q .first) (stringIn s (q .body .at) (q .body .size)) room
+
+abbrev pub clonedBy : List ℕ → List ℕ → ℕ → Gateway → Performed
+clonedBy s slots room g =
+    let a = cloned (g .ike) (cloneBy s slots room) in
+    gives (numberedBy (a .reply .number)) (gateway (a .ike) (g .ipsec) (g .policy))
+
+abbrev pub markedBy : List ℕ → Gateway → Performed
+markedBy slots g =
+    let a = markDeletion (g .ike) (spiIn slots) in
+    gives (numberedBy (a .number)) (gateway (a .ike) (g .ipsec) (g .policy))
+
 abbrev pub ikeShownBy : List ℕ → Gateway → Performed
 ikeShownBy slots g =
     let x = getD (g .ike) (spiIn slots) noIke in
@@ -118,4 +135,6 @@ performed kind s slots room =
     (cond (eqb kind 3) (childClosedBy slots)
     (cond (eqb kind 4) (handledBy s slots room)
     (cond (eqb kind 5) (policySetBy s slots)
-    (cond (eqb kind 6) (checkedBy s slots) (cond (eqb kind 254) (ikeShownBy slots) (ipsecShownBy slots))))))))
+    (cond (eqb kind 6) (checkedBy s slots)
+    (cond (eqb kind 7) (clonedBy s slots room)
+    (cond (eqb kind 8) (markedBy slots) (cond (eqb kind 254) (ikeShownBy slots) (ipsecShownBy slots))))))))))

@@ -11,6 +11,7 @@ use replying::reply::Reply;
 use replying::reply::answer_to;
 use replying::reply::error_reply;
 use replying::reply::unchanged;
+use responding::respond::Response;
 use responding::respond::put_error;
 use responding::respond::respond_decided;
 use responding::respond::wants_nats;
@@ -21,29 +22,37 @@ ghost use lib.ListN.{length};
 ghost use Rattle.octets.specs.Limits.{bodyMost, natOctets, responseRoom};
 ghost use Rattle.writing.specs.Notify.{placed, chained};
 ghost use Rattle.reader.specs.Chain.{reading};
+ghost use Rattle.responding.specs.Put.{Responds};
 ghost use Rattle.responding.specs.Respond.{toldOf};
 ghost use Rattle.replying.specs.Reply.{errorReply};
 ghost use Rattle.answering.specs.Core.{chainError, coreAnswer, coreResponse};
 ghost use Rattle.answering.specs.Packet.{askedBy};
 
-// A malformed chain, of any of the numbers 61 to 65, or an unknown critical payload: the error, and nothing else.
-pub fn refuse_chain(r: Reading, out: &mut [u8]) -> Reply
+// The error for a malformed chain, of any of the numbers 61 to 65, or for an unknown critical payload, and nothing else.
+pub fn put_chain_error(r: Reading, out: &mut [u8]) -> Response
     requires { ⌜ responseRoom ≤ length (now out) ⌝ }
-    ensures { λ p. ⌜ p ≡ errorReply (r .number) (r .offset) (r .ordinal) (toldOf (chainError r)) ⌝ }
-    ensures { λ _. ⌜ now (out .exit) ≡ placed (now (out .entry)) 0 (chained (chainError r) 0) ⌝ }
+    ensures { λ p. ⌜ Responds (chainError r) (now (out .entry)) (now (out .exit)) p ⌝ }
 {
     let none = [0u8; 0];
     let critical = [r.critical];
     if r.number == number_of(Number::UnknownCritical) {
-        let response = put_error(
+        return put_error(
             out,
             NotifyType::UNSUPPORTED_CRITICAL_PAYLOAD,
             &critical,
             &none,
         );
-        return error_reply(r.number, r.offset, r.ordinal, response);
     }
-    let response = put_error(out, NotifyType::INVALID_SYNTAX, &none, &none);
+    put_error(out, NotifyType::INVALID_SYNTAX, &none, &none)
+}
+
+// A chain that is refused: the error, and what is told of it.
+pub fn refuse_chain(r: Reading, out: &mut [u8]) -> Reply
+    requires { ⌜ responseRoom ≤ length (now out) ⌝ }
+    ensures { λ p. ⌜ p ≡ errorReply (r .number) (r .offset) (r .ordinal) (toldOf (chainError r)) ⌝ }
+    ensures { λ _. ⌜ now (out .exit) ≡ placed (now (out .entry)) 0 (chained (chainError r) 0) ⌝ }
+{
+    let response = put_chain_error(r, out);
     error_reply(r.number, r.offset, r.ordinal, response)
 }
 

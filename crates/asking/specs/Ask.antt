@@ -1,10 +1,12 @@
 -- Trusted. What a host asks for, from the octets that it gives.
 --
 --   Ask          which notifications a request is to have, and how many addresses
---   AskOctets    the same as a host gives it; `askOf` is what that means
+--   CloneAsk     which of the two notifications of a clone it is to have
+--   AskOctets    both as a host gives them; `askOf` and `cloneAskOf` are what that means
 use Rattle.octets.specs.Flags.{isYes}
 use Rattle.asking.specs.declared.ask.Ask.{Ask}
 use Rattle.asking.specs.declared.ask.AskOctets.{AskOctets}
+use Rattle.asking.specs.declared.ask.CloneAsk.{CloneAsk}
 
 -- 00, demand 1: "asks nothing of its caller": every octet that a host gives for yes or no is one of them.
 abbrev pub askOf : AskOctets → Ask
@@ -17,3 +19,7 @@ askOf a =
       «no_additional» = isYes (a .«no_additional»);
       count = a .count;
     }
+
+-- 02, E8: "CLONE_IKE_SA_SUPPORTED (16432) and CLONE_IKE_SA (16433)".
+abbrev pub cloneAskOf : AskOctets → CloneAsk
+cloneAskOf a = record { supported = isYes (a .«clone_supported»); clone = isYes (a .clone) }

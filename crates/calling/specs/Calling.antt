@@ -1,7 +1,7 @@
 -- Trusted. What the slots of an entry give to its call, for any slots; of an entry that was read it is what its values
 -- say (`Performing` in replays/specs/Same.antt).
 --   pairIn, openingIn, requestIn   a pair, an opening, a request
---   responseIn                     the response to a check
+--   responseIn, cloneIn            the response to a check, a clone request
 --   spiIn, childIn, ownerIn        the SPI that leads an entry, of an IKE or an IPsec record, and an owner's
 use Prim.Native.Nat.{ℕ, _%_, _^_}
 use mathlib.Core.List.{List}
@@ -12,6 +12,7 @@ use Rattle.given.specs.Given.{addressIn}
 use Rattle.given.specs.declared.reading.Span.{Span}
 use Rattle.calling.specs.declared.Given.{Given}
 use Rattle.calling.specs.declared.GivenResponse.{GivenResponse}
+use Rattle.calling.specs.declared.GivenClone.{GivenClone}
 
 module _ (s slots : List ℕ) where
   abbrev pub pairIn : Pair
@@ -24,11 +25,16 @@ module _ (s slots : List ℕ) where
         «destination_port» = getD slots 6 0 % 2 ^ 16;
       }
 
+  -- the peer and whether cloning is agreed stand behind the IPsec SPI
   abbrev pub openingIn : Opening
   openingIn =
       record {
         spi = getD slots 0 0;
-        agreed = record { mobike = getD slots 1 0 % 2 ^ 8 };
+        agreed = record {
+          mobike = getD slots 1 0 % 2 ^ 8;
+          cloning = getD slots 9 0 % 2 ^ 8;
+          peer = getD slots 8 0 % 2 ^ 32;
+        };
         pair = pairIn;
         child = getD slots 7 0 % 2 ^ 32;
       }
@@ -53,6 +59,15 @@ responseIn slots =
     record {
       spi = getD slots 0 0;
       id = getD slots 1 0 % 2 ^ 32;
+      first = getD slots 2 0 % 2 ^ 8;
+      body = record { at = getD slots 3 0; size = getD slots 4 0 };
+    }
+
+abbrev pub cloneIn : List ℕ → GivenClone
+cloneIn slots =
+    record {
+      spi = getD slots 0 0;
+      «new_spi» = getD slots 1 0;
       first = getD slots 2 0 % 2 ^ 8;
       body = record { at = getD slots 3 0; size = getD slots 4 0 };
     }

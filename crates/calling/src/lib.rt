@@ -7,6 +7,7 @@ use records::ike::Agreed;
 use tables::calls::Opening;
 ghost use mathlib.Core.Path.{_≡_};
 ghost use Rattle.calling.specs.Calling.{pairIn, openingIn, spiIn, childIn, ownerIn, requestIn, responseIn};
+ghost use Rattle.calling.specs.Calling.{cloneIn};
 
 // A request as an entry gives it.
 pub struct Given {
@@ -26,6 +27,14 @@ pub struct Given {
 pub struct GivenResponse {
     pub spi: u64,
     pub id: u32,
+    pub first: u8,
+    pub body: Span,
+}
+
+// A clone request, as an entry gives it.
+pub struct GivenClone {
+    pub spi: u64,
+    pub new_spi: u64,
     pub first: u8,
     pub body: Span,
 }
@@ -51,6 +60,8 @@ pub fn opening_in(s: &[u8], e: Slots) -> Opening
     let pair = pair_in(s, e);
     let agreed = Agreed {
         mobike: (e.slots[1] % 0x100) as u8,
+        cloning: (e.slots[9] % 0x100) as u8,
+        peer: (e.slots[8] % 0x1_0000_0000) as u32,
     };
     Opening {
         spi: e.slots[0],
@@ -132,6 +143,22 @@ pub fn response_in(e: Slots) -> GivenResponse
         spi: e.slots[0],
         id: (e.slots[1] % 0x1_0000_0000) as u32,
         first: (e.slots[2] % 0x100) as u8,
+        body,
+    }
+}
+
+pub fn clone_in(e: Slots) -> GivenClone
+    ensures { λ r. ⌜ r ≡ cloneIn (e .slots) ⌝ }
+{
+    let body = Span {
+        at: e.slots[3],
+        size: e.slots[4],
+    };
+    let first = (e.slots[2] % 0x100) as u8;
+    GivenClone {
+        spi: e.slots[0],
+        new_spi: e.slots[1],
+        first,
         body,
     }
 }

@@ -3,7 +3,7 @@ use mathlib.Core.Path.{refl}
 use native.Mathlib.Omega.{arith}
 use Rattle.entries.specs.Slots.{Enough, Widest}
 use Rattle.entries.specs.declared.kind.Kind.the-variants.{OpenBoth, AddIpsec, CloseIke, CloseIpsec, Request}
-use Rattle.entries.specs.declared.kind.Kind.the-variants.{Policy, CheckResponse}
+use Rattle.entries.specs.declared.kind.Kind.the-variants.{Policy, CheckResponse, Clone, MarkDeletion}
 
 pub widest : Widest
 widest = record { enough = enough; needed = refl }
@@ -16,3 +16,5 @@ widest = record { enough = enough; needed = refl }
     enough Request = omega arith
     enough Policy = omega arith
     enough CheckResponse = omega arith
+    enough Clone = omega arith
+    enough MarkDeletion = omega arith

@@ -19,7 +19,7 @@ use Rattle.fields.specs.declared.refusal.Refusal.the-variants.{Cut, UnknownKind
 use Rattle.entries.specs.Kinds.{kindNumber, fieldsOf}
 use Rattle.entries.specs.declared.kind.Kind.{Kind}
 use Rattle.entries.specs.declared.kind.Kind.the-variants.{OpenBoth, AddIpsec, CloseIke, CloseIpsec, Request}
-use Rattle.entries.specs.declared.kind.Kind.the-variants.{Policy, CheckResponse}
+use Rattle.entries.specs.declared.kind.Kind.the-variants.{Policy, CheckResponse, Clone, MarkDeletion}
 use Rattle.entries.specs.declared.kind.Known.{Known}
 use Rattle.entries.specs.declared.kind.Known.the-variants as known
 use Rattle.entries.specs.declared.step.EntryStep.{EntryStep}
@@ -43,7 +43,9 @@ kindOf n =
     (cond (eqb n 2) (known.Is CloseIke)
     (cond (eqb n 3) (known.Is CloseIpsec)
     (cond (eqb n 4) (known.Is Request)
-    (cond (eqb n 5) (known.Is Policy) (cond (eqb n 6) (known.Is CheckResponse) known.Unknown))))))
+    (cond (eqb n 5) (known.Is Policy)
+    (cond (eqb n 6) (known.Is CheckResponse)
+    (cond (eqb n 7) (known.Is Clone) (cond (eqb n 8) (known.Is MarkDeletion) known.Unknown))))))))
 
 abbrev pub asEntry : (k : Kind) → Reading (Value (fieldsOf k)) → Reading Entry
 asEntry k (read v slots next) = read (record { kind = k; values = v }) slots next

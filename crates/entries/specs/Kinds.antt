@@ -1,7 +1,7 @@
 -- Trusted. The kinds of entries of a trace and the fields of each (02, E3): "An entry is kind (0 open both, 1 add
 -- IPsec, 2 close IKE, 3 close IPsec, 4 request, 5 policy) and its fields in document 01's order, lists led by their
 -- count (at most 16), octet strings by their length (at most 4,096), addresses bare; later table calls and fields join
--- at the end as named": the response to a check is kind 6 (02, E6).
+-- at the end as named": the response to a check is kind 6 (02, E6), a clone request 7 and the deletion mark 8 (02, E8).
 --   kindNumber k   the number of a kind
 --   fieldsOf k     its fields; a new field is a line at the end, a new kind a line in each
 use Prim.Native.Nat.{ℕ}
@@ -9,7 +9,7 @@ use mathlib.Core.List.{List, [], _∷_, _++_}
 use Rattle.fields.specs.Fields.{Field, bits, address, string, listOf, _then_, inOrder}
 use Rattle.entries.specs.declared.kind.Kind.{Kind}
 use Rattle.entries.specs.declared.kind.Kind.the-variants.{OpenBoth, AddIpsec, CloseIke, CloseIpsec, Request}
-use Rattle.entries.specs.declared.kind.Kind.the-variants.{Policy, CheckResponse}
+use Rattle.entries.specs.declared.kind.Kind.the-variants.{Policy, CheckResponse, Clone, MarkDeletion}
 
 abbrev pub kindNumber : Kind → ℕ
 kindNumber OpenBoth = 0
@@ -19,6 +19,8 @@ kindNumber CloseIpsec = 3
 kindNumber Request = 4
 kindNumber Policy = 5
 kindNumber CheckResponse = 6
+kindNumber Clone = 7
+kindNumber MarkDeletion = 8
 
 -- 01: "A pair is, in this order, family, source, destination, source port, destination port"; "Addresses travel as 16
 -- octets each".
@@ -46,7 +48,8 @@ ruleFields =
 
 abbrev pub fieldsOf : Kind → Field
 -- 01: "32 IKE records: local SPI (64 bits, not 0), MOBIKE agreed or not, the address pair"; then the IPsec SPI
-fieldsOf OpenBoth = inOrder (bits 64 ∷ bits 1 ∷ pairFields ++ (bits 32 ∷ []))
+-- E8: "The IKE record gains, at opening, a 32-bit peer number and whether cloning is agreed"
+fieldsOf OpenBoth = inOrder (bits 64 ∷ bits 1 ∷ pairFields ++ (bits 32 ∷ bits 32 ∷ bits 1 ∷ []))
 -- 01: "IPsec records: SPI (32 bits, not 0), owning IKE SPI"
 fieldsOf AddIpsec = inOrder (bits 32 ∷ bits 64 ∷ [])
 fieldsOf CloseIke = inOrder (bits 64 ∷ [])
@@ -59,3 +62,7 @@ fieldsOf Request =
 fieldsOf Policy = listOf (inOrder ruleFields) then inOrder []
 -- E6: "a response (SPI, ID, first type, body)"
 fieldsOf CheckResponse = inOrder (bits 64 ∷ bits 32 ∷ bits 8 ∷ string ∷ [])
+-- E8: "a CREATE_CHILD_SA request given as an IKE rekey (SPI, new SPI, first type, body)"
+fieldsOf Clone = inOrder (bits 64 ∷ bits 64 ∷ bits 8 ∷ string ∷ [])
+-- E8: "a mark for being deleted, set by a call"
+fieldsOf MarkDeletion = inOrder (bits 64 ∷ [])

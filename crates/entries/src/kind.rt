@@ -11,6 +11,8 @@ pub enum Kind {
     Request,
     Policy,
     CheckResponse,
+    Clone,
+    MarkDeletion,
 }
 
 pub enum Known {
@@ -42,6 +44,12 @@ pub fn kind_of(n: u64) -> Known
     if n == 6 {
         return Known::Is(Kind::CheckResponse);
     }
+    if n == 7 {
+        return Known::Is(Kind::Clone);
+    }
+    if n == 8 {
+        return Known::Is(Kind::MarkDeletion);
+    }
     Known::Unknown
 }
 
@@ -56,5 +64,7 @@ pub fn kind_number(kind: Kind) -> u8
         Kind::Request => 4,
         Kind::Policy => 5,
         Kind::CheckResponse => 6,
+        Kind::Clone => 7,
+        Kind::MarkDeletion => 8,
     }
 }

@@ -26,7 +26,7 @@ use Rattle.entries.specs.Entries.{Entry, entryFits, entryOctets, kindOf, asEntr
 use Rattle.entry_laws.specs.RoundTrips.{EntryReads, EntryTold, Entries}
 use Rattle.entries.specs.declared.kind.Kind.{Kind}
 use Rattle.entries.specs.declared.kind.Kind.the-variants.{OpenBoth, AddIpsec, CloseIke, CloseIpsec, Request}
-use Rattle.entries.specs.declared.kind.Kind.the-variants.{Policy, CheckResponse}
+use Rattle.entries.specs.declared.kind.Kind.the-variants.{Policy, CheckResponse, Clone, MarkDeletion}
 use Rattle.entries.specs.declared.kind.Known.{Known}
 use Rattle.entries.specs.declared.kind.Known.the-variants as known
 
@@ -57,6 +57,8 @@ kind-narrow? CloseIpsec = refl
 kind-narrow? Request = refl
 kind-narrow? Policy = refl
 kind-narrow? CheckResponse = refl
+kind-narrow? Clone = refl
+kind-narrow? MarkDeletion = refl
 
 pub of-kind : (k : Kind) → RoundTrips (fieldsOf k)
 of-kind k = each-field (fieldsOf k) (is-narrow (fieldsOf k) (kind-narrow? k))
@@ -70,6 +72,8 @@ kind-back CloseIpsec = refl
 kind-back Request = refl
 kind-back Policy = refl
 kind-back CheckResponse = refl
+kind-back Clone = refl
+kind-back MarkDeletion = refl
 
 number-small : (k : Kind) → kindNumber k < 2 ^ 64
 number-small OpenBoth = omega arith
@@ -79,6 +83,8 @@ number-small CloseIpsec = omega arith
 number-small Request = omega arith
 number-small Policy = omega arith
 number-small CheckResponse = omega arith
+number-small Clone = omega arith
+number-small MarkDeletion = omega arith
 
 -- ---- one entry
 reads-entry : (e : Entry) (s : List ℕ) (at : ℕ) (rest : List ℕ) → entryFits e ≡ true → drop at s ≡ entryOctets e ++ rest
@@ -111,7 +117,8 @@ kind-was n k =
     (pick n 1 AddIpsec k _ refl
     (pick n 2 CloseIke k _ refl
     (pick n 3 CloseIpsec k _ refl (pick n 4 Request k _ refl
-    (pick n 5 Policy k _ refl (pick n 6 CheckResponse k _ refl (λ e. absurd (not-known e))))))))
+    (pick n 5 Policy k _ refl (pick n 6 CheckResponse k _ refl
+    (pick n 7 Clone k _ refl (pick n 8 MarkDeletion k _ refl (λ e. absurd (not-known e))))))))))
 
 told-as : {s : List ℕ} {at : ℕ} {e e' : Entry} {slots slots' : List ℕ} {next next' : ℕ} → e ≡ e' → slots ≡ slots'
     → next ≡ next'

@@ -21,7 +21,7 @@ use Rattle.entries.specs.Entries.{Entry, kindOf, asEntry, ofKind, afterKind, en
 use Rattle.entry_laws.specs.Sight.{entryMost, entrySight, InSight}
 use Rattle.entries.specs.declared.kind.Kind.{Kind}
 use Rattle.entries.specs.declared.kind.Kind.the-variants.{OpenBoth, AddIpsec, CloseIke, CloseIpsec, Request}
-use Rattle.entries.specs.declared.kind.Kind.the-variants.{Policy, CheckResponse}
+use Rattle.entries.specs.declared.kind.Kind.the-variants.{Policy, CheckResponse, Clone, MarkDeletion}
 use Rattle.entries.specs.declared.kind.Known.{Known}
 use Rattle.entries.specs.declared.kind.Known.the-variants as known
 use Rattle.entry_laws.proofs.RoundTrips.{kind-was}
@@ -35,6 +35,8 @@ each-kind CloseIpsec = omega arith
 each-kind Request = omega arith
 each-kind Policy = omega arith
 each-kind CheckResponse = omega arith
+each-kind Clone = omega arith
+each-kind MarkDeletion = omega arith
 
 exactly : 1 + sight (fieldsOf Request) ≡ entrySight
 unfolding octetsOf groups
@@ -52,6 +54,8 @@ below CloseIpsec = omega arith
 below Request = omega arith
 below Policy = omega arith
 below CheckResponse = omega arith
+below Clone = omega arith
+below MarkDeletion = omega arith
 
 -- a known kind has one octet
 kind-octet : (n : ℕ) (k : Kind) → kindOf n ≡ known.Is k → length (octetsOf n) ≡ 1

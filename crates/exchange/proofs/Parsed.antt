@@ -45,24 +45,24 @@ AllOctets [] = Unit {0}
 AllOctets (x ∷ xs) = Octets (x .octets) × AllOctets xs
 
 -- what a Notify with its kind, number and data's length was read from
-record ReadFrom (first : ℕ) (body : List ℕ) (at size : ℕ) (kind : NotifyKind) (number len : ℕ) : Type 0 where
-  type : first ≡ notifyPayload
-  whole : size ≡ be16 body (at + 2)
-  header : 8 ≤ size
-  known : kind ≡ kindOf number
-  named : number ≡ be16 body (at + 6)
-  spi : spiFits kind (getD body (at + 5) 0) ≡ true
-  data-len : len ≡ size - 8 - getD body (at + 5) 0
+pub record ReadFrom (first : ℕ) (body : List ℕ) (at size : ℕ) (kind : NotifyKind) (number len : ℕ) : Type 0 where
+  pub type : first ≡ notifyPayload
+  pub whole : size ≡ be16 body (at + 2)
+  pub header : 8 ≤ size
+  pub known : kind ≡ kindOf number
+  pub named : number ≡ be16 body (at + 6)
+  pub spi : spiFits kind (getD body (at + 5) 0) ≡ true
+  pub data-len : len ≡ size - 8 - getD body (at + 5) 0
 
 module _ (first : ℕ) (body : List ℕ) (at : ℕ) where
   -- what is told of a Notify that was found
-  abbrev Told : Found → Type 0
+  abbrev pub Told : Found → Type 0
   Told (Faulty f) = Unit {0}
   Told (Payload size Skipped) = Unit {0}
   Told (Payload size UnknownPayload) = Unit {0}
   Told (Payload size (Notify kind number len)) = ReadFrom first body at size kind number len
 
-  told : Told (payloadAt first body at)
+  pub told : Told (payloadAt first body at)
   unfolding payloadAt sized notifyAt
   told =
       let size = be16 body (at + 2) in
@@ -89,12 +89,12 @@ module _ (first : ℕ) (body : List ℕ) (at : ℕ) where
       (λ e. chosen Told (leb 128 (getD body (at + 1) 0)) (λ e. tt) (λ e. tt)))))
 
 -- the octets of a Notify whose sizes are as its octets say
-notify-of : (next h l nh nl : ℕ) (octets : List ℕ) → l < 256 → nl < 256 → notifyHeader + length octets ≡ h * 256 + l
+pub notify-of : (next h l nh nl : ℕ) (octets : List ℕ) → l < 256 → nl < 256 → notifyHeader + length octets ≡ h * 256 + l
     → notifyOctets next (nh * 256 + nl) octets ≡ next ∷ 0 ∷ h ∷ l ∷ 0 ∷ 0 ∷ nh ∷ nl ∷ octets
 unfolding notifyOctets
 notify-of next h l nh nl octets sl sn e = rw (e, high h l sl, low h l sl, high nh nl sn, low nh nl sn)
 
-eight : (body : List ℕ) (at : ℕ) → at + notifyHeader ≤ length body
+pub eight : (body : List ℕ) (at : ℕ) → at + notifyHeader ≤ length body
     → drop at body
     ≡ getD body at 0 ∷ getD body (at + 1) 0 ∷ getD body (at + 2) 0 ∷ getD body (at + 3) 0
     ∷ getD body (at + 4) 0 ∷ getD body (at + 5) 0 ∷ getD body (at + 6) 0 ∷ getD body (at + 7) 0 ∷ drop

@@ -22,11 +22,12 @@ use records::ipsec::IpsecRecord;
 use tables::calls::Opening;
 use tables::calls::both_opening;
 use tables::calls::ike_closing;
+use tables::calls::ike_marking;
 use tables::calls::ipsec_closing;
 use tables::calls::ipsec_opening;
 ghost use mathlib.Core.Path.{_≡_};
 ghost use Rattle.policy.specs.Policy.{acceptable, setPolicy};
-ghost use Rattle.tables.specs.Calls.{openBoth, openIpsec, closeIke, closeIpsec};
+ghost use Rattle.tables.specs.Calls.{openBoth, openIpsec, closeIke, closeIpsec, markDeletion};
 
 // Opens an IKE record and its first IPsec record, each at the lowest free place of its table, or neither.
 #[no_mangle]
@@ -106,6 +107,21 @@ pub extern "C" fn unmavreth_close_ipsec(ipsec: &mut [IpsecRecord], spi: u32) -> 
     let place = ipsec_place(ipsec, spi);
     let c = ipsec_closing(size, spi, place);
     ipsec_store(ipsec, c.place, c.entry);
+    c.number
+}
+
+// Marks an IKE record as being deleted, whatever its mark was; only closing it takes the mark away.
+#[no_mangle]
+pub extern "C" fn unmavreth_mark_deletion(ike: &mut [IkeRecord; IKE_PLACES], spi: u64) -> u8
+    ensures { λ r. ⌜ (
+        let marked = markDeletion (now (ike .entry)) spi in
+        (r ≡ marked .number) × (now (ike .exit) ≡ marked .ike)
+        ) ⌝ }
+{
+    let place = ike_place(ike, spi);
+    let entry = ike_at(ike, place);
+    let c = ike_marking(spi, place, entry);
+    ike_store(ike, c.place, c.entry);
     c.number
 }
 

@@ -2,6 +2,7 @@
 pub mod calls;
 pub mod chain;
 pub mod check;
+pub mod clone;
 pub mod handler;
 pub mod redirects;
 pub mod responses;

@@ -5,15 +5,18 @@ use address::address::octets_of;
 use address::pair::Pair;
 use asking::ask::AskOctets;
 use asking::ask::ask_of;
+use asking::ask::clone_ask_of;
+use clone_requests::write::write_any;
 use requests::request::Written;
 ghost use Rattle.address.specs.Address.{familiesOf, octetsOf};
-ghost use Rattle.asking.specs.Ask.{askOf};
+ghost use Rattle.asking.specs.Ask.{askOf, cloneAskOf};
 ghost use Rattle.asking.specs.Draft.{draft};
-ghost use Rattle.requests.specs.Written.{WrittenAs};
+ghost use Rattle.clone_requests.specs.WrittenAny.{WrittenAnyAs};
 
 // Writes the request that is asked for to the start of `out`, which must have room for the longest one whatever is
 // asked (`REQUEST_ROOM`, 564 octets); each yes or no in `ask` is an octet, of which 0 is no. Asking for everything
-// writes 21 Notify payloads, which a peer may refuse: see `requests::request::write`.
+// writes 21 Notify payloads, which a peer may refuse: see `requests::request::write`. CLONE_IKE_SA_SUPPORTED and
+// CLONE_IKE_SA are each written only alone.
 #[no_mangle]
 pub extern "C" fn unmavreth_write(
     ask: AskOctets,
@@ -30,14 +33,16 @@ pub extern "C" fn unmavreth_write(
         let nat-source = now («nat_source» .entry) in
         let nat-destination = now («nat_destination» .entry) in
         let q = draft (askOf ask) pair families octets nat-source nat-destination (now (cookie .entry)) in
-        WrittenAs q (now (out .entry)) r (now (out .exit))
+        WrittenAnyAs (cloneAskOf ask) q (now (out .entry)) r (now (out .exit))
         ) ⌝ }
 {
     let wanted = ask_of(ask);
+    let asked = clone_ask_of(ask);
     let list = addresses.list;
     let families = families_of(list);
     let octets = octets_of(list);
-    requests::request::write(
+    write_any(
+        asked,
         wanted,
         pair,
         families,

@@ -2,8 +2,9 @@
 --     counts, finds-ipsec, reads-ipsec, stores-ipsec      a `&mut [IpsecRecord]` to `ipsec_count`, to `ipsec_place`, to
 --                      `ipsec_at`, and for good to `ipsec_store`.        counts-read      a `&[IpsecRecord]` for good to
 --                      `ipsec_count`
---     finds-ike, reads-ike, stores-ike       a `&mut [IkeRecord; IKE_PLACES]` to `ike_place`, to `ike_at`, and for good
---                      to `ike_store`.        changes-ike      the same to `ike_change`, beside a `&[u8]`
+--     finds-ike, counts-peers, reads-ike, stores-ike       a `&mut [IkeRecord; IKE_PLACES]` to `ike_place`, to
+--                      `ike_peers`, to `ike_at`, and for good to `ike_store`.        changes-ike      the same to
+--                      `ike_change`, beside a `&[u8]`
 --     reads-lent, stores-policy      a `&mut Policy` to `policy_of`, and for good to `policy_store`.        asks-policy      a `&Policy` to
 --                      `accepts_if`.        reads-rules      a `&[Rule; 16]` to `rules_of`
 -- Assumes `Given`, and that the table of calls is monotone under a frame.
@@ -14,7 +15,7 @@ use mathlib.Core.Bool.{_&&_}
 use mir.Syntax.{Opd as Operand}
 use denote.Struct.Laws as LL
 use Rattle.octets.specs.Limits.{ikePlaces}
-use Rattle.octets.specs.Lists.{placeOf}
+use Rattle.octets.specs.Lists.{placeOf, howMany}
 use Rattle.address.specs.declared.pair.Pair.{Pair}
 use Rattle.address.proofs.pair.Pair as P
 use Rattle.address.proofs.pair.Pair.Laws as P′
@@ -23,7 +24,7 @@ use Rattle.policy.specs.declared.rules.Policy.{Policy}
 use Rattle.policy.specs.declared.rules.Rule.{Rule}
 use Rattle.policy.proofs.rules.Policy as Y
 use Rattle.policy.proofs.rules.Policy.Laws as Y′
-use Rattle.records.specs.Records.{ikeSpi, ipsecSpi, noIke, noIpsec}
+use Rattle.records.specs.Records.{ikeSpi, ipsecSpi, noIke, noIpsec, ofPeer}
 use Rattle.records.specs.declared.check.PendingCheck.{PendingCheck}
 use Rattle.records.specs.declared.ike.IkeRecord.{IkeRecord}
 use Rattle.records.specs.declared.ipsec.IpsecRecord.{IpsecRecord}
@@ -46,6 +47,8 @@ use Rattle.lent_ike.proofs.ike.ike_at as at
 use Rattle.lent_ike.proofs.ike.ike_at.Symbol as at-def
 use Rattle.lent_ike.proofs.ike.ike_change as change
 use Rattle.lent_ike.proofs.ike.ike_change.Symbol as change-def
+use Rattle.lent_ike.proofs.ike.ike_peers as peers
+use Rattle.lent_ike.proofs.ike.ike_peers.Symbol as peers-def
 use Rattle.lent_ike.proofs.ike.ike_place as home
 use Rattle.lent_ike.proofs.ike.ike_place.Symbol as home-def
 use Rattle.lent_ike.proofs.ike.ike_store as put
@@ -122,6 +125,21 @@ module _ {M : Type 1} {𝓤 : URA M} {H : Heap 𝓤} {A : Atoms 𝓤} {K : Type 
         ∷ []) (uint-makes 𝓤 H A W w64, tt) (k, tt) (uint-vals w64 k, tt) ((refl, fits), tt) ikePlaces tt (λ ν δ long.
         calls-for t fm home.ended (home.clauses 𝓤 H A at-mem run) known (((ν ∷ [], tt), (fullShare, tt), tt, (renamed δ x, (k, tt)), (ptr-vals x, (uint-vals w64 k, tt))), tt) (id⊢ 𝓤 _) (os _ _)
         (uint-vals w64) (uint-tells w64) (placeOf ikeSpi k (x .now)) (λ r ws. id⊢ 𝓤 _) (λ is. ref-over t tt Ike.Q x $ s long (is .1)))
+
+    pub counts-peers : Triple 𝓤 (C peers-def.name) (Told 𝓤 H A peers.ended (peers.clauses 𝓤 H A at-mem run)) → (k : ℕ)
+        → k < 2 ^ 32
+        → ((i j : Item 𝓤) → Opds K W (i ∷ j ∷ Γ) E ops (vptr (x .ptr .0) (x .ptr .1) ∷ vint w32 k ∷ []))
+        → (howMany (ofPeer k) (x .now) < 2 ^ 64
+        → Seq K W (‵ (MutRef erased κ Ike.Q .own x (ptr-vals x)) ∷ ‵ (flft κ q) ∷ Γ)
+        (lands C Λ E d (vint w64 (howMany (ofPeer k) (x .now))) rest p))
+        → Seq K W (‵ (MutRef erased κ Ike.Q .own x (ptr-vals x)) ∷ ‵ (flft κ q) ∷ Γ)
+        (runs C Λ E (seq (call peers-def.name ops d) rest) p)
+    counts-peers known k fits os s =
+        lent-ref t tt Ike.Q x (u32 ∷ []) (uint-makes 𝓤 H A W w32, tt) (k, tt) (uint-vals w32 k, tt) ((refl, fits), tt)
+        (λ ν δ. calls-for t fm peers.ended (peers.clauses 𝓤 H A at-mem run) known
+        (((ν ∷ [], tt), (fullShare, tt), tt, (renamed δ x, (k, tt)), (ptr-vals x, (uint-vals w32 k, tt))), tt)
+        (id⊢ 𝓤 _) (os _ _) (uint-vals w64) (uint-tells w64) (howMany (ofPeer k) (x .now)) (λ r ws. id⊢ 𝓤 _)
+        (λ is. ref-over t tt Ike.Q x $ s (is .1)))
 
     pub reads-ike : Triple 𝓤 (C at-def.name) (Told 𝓤 H A at.ended (at.clauses 𝓤 H A at-mem run)) → (i : ℕ) → i < 2 ^ 64 → ((j k : Item 𝓤) → Opds K W (j ∷ k ∷ Γ) E ops (vptr (x .ptr .0) (x .ptr .1) ∷ vint w64 i ∷ []))
         → (Is Ike.R (getD (x .now) i noIke) (Ike.rec-vals (getD (x .now) i noIke)) → Seq K W (‵ (MutRef erased κ Ike.Q .own x (ptr-vals x)) ∷ ‵ (flft κ q) ∷ Γ) (lands C Λ E d (Ike.rec-val (getD (x .now) i noIke)) rest p)) → Seq K W (‵ (MutRef erased κ Ike.Q .own x (ptr-vals x)) ∷ ‵ (flft κ q) ∷ Γ) (runs C Λ E (seq (call at-def.name ops d) rest) p)

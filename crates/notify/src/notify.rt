@@ -39,9 +39,13 @@ impl NotifyType {
 
     pub const INVALID_SYNTAX: u16 = 7;
 
+    pub const NO_ADDITIONAL_SAS: u16 = 35;
+
     pub const UNACCEPTABLE_ADDRESSES: u16 = 40;
 
     pub const UNEXPECTED_NAT_DETECTED: u16 = 41;
+
+    pub const TEMPORARY_FAILURE: u16 = 43;
 
     // The types below this one are errors, the others give a status.
     pub const FIRST_STATUS: u16 = 16384;
@@ -63,6 +67,11 @@ impl NotifyType {
     pub const COOKIE2: u16 = 16401;
 
     pub const NO_NATS_ALLOWED: u16 = 16402;
+
+    // Known in a clone request alone: `kind` knows neither, so that every other chain tallies them.
+    pub const CLONE_IKE_SA_SUPPORTED: u16 = 16432;
+
+    pub const CLONE_IKE_SA: u16 = 16433;
 
     // The one classification that reader, responder and the assessment of responses share.
     pub fn kind(self) -> NotifyKind

@@ -2,6 +2,7 @@
 --
 --   bodyMost                     the longest body that is read
 --   ikePlaces, ipsecPlaces       places of the two tables
+--   peerRecordsMost              a peer with so many IKE records gets no clone
 --   addressesMost, rulesMost     places of a list of addresses, and of the policy
 --   addressOctets                an address as it travels, of either family
 --   ip4Octets, ip6Octets         an address in a payload
@@ -25,6 +26,10 @@ ikePlaces = 32
 -- "128 IPsec records"
 abbrev pub ipsecPlaces : ℕ
 ipsecPlaces = 128
+
+-- 02, E8: "42 peer has 4 records or more"
+abbrev pub peerRecordsMost : ℕ
+peerRecordsMost = 4
 
 -- "up to 16 additional addresses"; "The first 16 are kept"
 abbrev pub addressesMost : ℕ

@@ -1,11 +1,11 @@
 -- Trusted. Tests over the elements of a list, the place of an element, and the first elements of a list.
 --
---   all, any     every element passes a test, some element does
+--   all, any     every element passes a test, some element does; `howMany` do
 --   placeOf      the lowest place whose element has a key
 --   allBelow     a test holds of every number below another
 --   sameOctets   two lists begin with the same n octets
 --   firstOf      the first n elements of a list of so many places; firstOnly: of a list of addresses
-use Prim.Native.Nat.{ℕ, zero, suc, _-_}
+use Prim.Native.Nat.{ℕ, zero, suc, _+_, _-_}
 use mathlib.Core.List.{List, [], _∷_, _++_}
 use mathlib.Core.Bool.{Bool, true, false, cond, _&&_, _||_}
 use lib.Dec.{eqb}
@@ -22,6 +22,11 @@ module _ {A : Type 0} (f : A → Bool) where
   abbrev pub any : List A → Bool
   any [] = false
   any (x ∷ xs) = f x || any xs
+
+  -- so many elements pass
+  abbrev pub howMany : List A → ℕ
+  howMany [] = 0
+  howMany (x ∷ xs) = cond (f x) 1 0 + howMany xs
 
 -- the lowest place whose key is k; the list's length where there is none
 module _ {A : Type 0} (key : A → ℕ) (k : ℕ) where

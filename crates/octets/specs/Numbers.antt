@@ -2,7 +2,8 @@
 -- 61 (chain lengths), 62 (Notify lengths or SPI), 63 (data size), 64 (repeated or contradictory notification), and 65
 -- (octets after the end)"; E6: "14 (no pending check, or another ID)"; and E7: "30 malformed ..., 31 a middle IKE_AUTH
 -- response, or a nonce outside IKE_SA_INIT, 32 nonce missing or different, 33 time in seconds before the last accepted
--- one's, 34 five accepted ones less than 300 seconds before it".
+-- one's, 34 five accepted ones less than 300 seconds before it"; and E8: "40 support not agreed", "44 no CLONE_IKE_SA
+-- there, 41 being deleted or table full ..., 42 peer has 4 records or more".
 --
 --   Number     an enum, as `octets/src/number.rt` declares it: a name for each number
 --   numberOf   the number for it
@@ -16,6 +17,8 @@ use Rattle.octets.specs.declared.number.Number.the-variants.{UnknownCrit
 use Rattle.octets.specs.declared.number.Number.the-variants.{Full, SpiInUse, BadPolicy, CheckNotPending}
 use Rattle.octets.specs.declared.number.Number.the-variants.{BadRedirect, WrongExchange, WrongNonce}
 use Rattle.octets.specs.declared.number.Number.the-variants.{TimeBeforeLast, TooManyRedirects}
+use Rattle.octets.specs.declared.number.Number.the-variants.{CloningNotAgreed, CannotCloneNow}
+use Rattle.octets.specs.declared.number.Number.the-variants.{PeerAtLimit, NoCloneRequest}
 
 abbrev pub numberOf : Number → ℕ
 numberOf Done = 0
@@ -41,3 +44,7 @@ numberOf WrongExchange = 31
 numberOf WrongNonce = 32
 numberOf TimeBeforeLast = 33
 numberOf TooManyRedirects = 34
+numberOf CloningNotAgreed = 40
+numberOf CannotCloneNow = 41
+numberOf PeerAtLimit = 42
+numberOf NoCloneRequest = 44

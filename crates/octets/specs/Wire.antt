@@ -5,6 +5,7 @@
 --   firstKnownPayload, lastKnownPayload    payload types in between are known
 --   criticalBit                            a payload's flags, if it is critical, are at least this
 --   firstStatus                            notify types below this are errors
+--   cloneIkeSaSupported, cloneIkeSa        the notify types of 02, E8, known in a clone request alone
 --   the others                             the notify types of 01's table, and its errors, under the RFC's names
 use Prim.Native.Nat.{ℕ}
 
@@ -50,19 +51,32 @@ cookie2 = 16401
 abbrev pub noNatsAllowed : ℕ
 noNatsAllowed = 16402
 
+-- 02, E8: "CLONE_IKE_SA_SUPPORTED (16432) and CLONE_IKE_SA (16433)" of RFC 7791.
+abbrev pub cloneIkeSaSupported : ℕ
+cloneIkeSaSupported = 16432
+
+abbrev pub cloneIkeSa : ℕ
+cloneIkeSa = 16433
+
 -- Error types: "INVALID_SYNTAX (7)", "UNSUPPORTED_CRITICAL_PAYLOAD (1)", "UNEXPECTED_NAT_DETECTED (41)",
--- "UNACCEPTABLE_ADDRESSES (40)"; "any other type below 16384".
+-- "UNACCEPTABLE_ADDRESSES (40)"; "any other type below 16384". 02, E8: "TEMPORARY_FAILURE, 43", "NO_ADDITIONAL_SAS, 35".
 abbrev pub unsupportedCriticalPayload : ℕ
 unsupportedCriticalPayload = 1
 
 abbrev pub invalidSyntax : ℕ
 invalidSyntax = 7
 
+abbrev pub noAdditionalSas : ℕ
+noAdditionalSas = 35
+
 abbrev pub unacceptableAddresses : ℕ
 unacceptableAddresses = 40
 
 abbrev pub unexpectedNatDetected : ℕ
 unexpectedNatDetected = 41
+
+abbrev pub temporaryFailure : ℕ
+temporaryFailure = 43
 
 abbrev pub firstStatus : ℕ
 firstStatus = 16384

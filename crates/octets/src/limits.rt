@@ -7,6 +7,8 @@ pub const IKE_PLACES: usize = 32;
 
 pub const IPSEC_PLACES: usize = 128;
 
+pub const PEER_RECORDS_MOST: usize = 4;
+
 pub const ADDRESSES_MOST: usize = 16;
 
 pub const RULES_MOST: usize = 16;

@@ -27,6 +27,10 @@ pub enum Number {
     WrongNonce,
     TimeBeforeLast,
     TooManyRedirects,
+    CloningNotAgreed,
+    CannotCloneNow,
+    PeerAtLimit,
+    NoCloneRequest,
 }
 
 // As it is told.
@@ -57,5 +61,9 @@ pub fn number_of(n: Number) -> u8
         Number::WrongNonce => 32,
         Number::TimeBeforeLast => 33,
         Number::TooManyRedirects => 34,
+        Number::CloningNotAgreed => 40,
+        Number::CannotCloneNow => 41,
+        Number::PeerAtLimit => 42,
+        Number::NoCloneRequest => 44,
     }
 }

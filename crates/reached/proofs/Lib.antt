@@ -8,6 +8,10 @@ pub mod Lists
 pub mod Checks
 pub mod Requests
 pub mod Responses
+pub mod Cloned
+pub mod Marked
 pub mod Reached
 pub mod PairMoves
+pub mod Deletion
+pub mod Alone
 pub mod Undone

@@ -1,30 +1,41 @@
 -- Openings keep tables well-formed.
-use Prim.Native.Nat.{ℕ, _<_}
-use mathlib.Core.Path.{_≡_, sym, _∙_}
+use Prim.Native.Nat.{ℕ, _<_, _≤_}
+use mathlib.Core.Path.{_≡_}
 use mathlib.Core.Logic.{⊎-elim}
 use mathlib.Core.Bool.{true}
 use native.Mathlib.Omega.{arith}
 use lib.ListN.{length, getD, set, length-set}
+use Rattle.octets.specs.Flags.{isYes, zeroOrOne}
 use Rattle.octets.specs.Lists.{placeOf}
-use Rattle.octets.proofs.Places.{place-has}
+use Rattle.octets.proofs.Small.{chosen}
 use Rattle.address.specs.Address.{pairFits}
-use Rattle.records.specs.Records.{ikeSpi, ipsecSpi, noIke, newIpsec, noIpsec}
+use Rattle.address.specs.declared.pair.Pair.{Pair}
+use Rattle.records.specs.Records.{ikeSpi, ipsecSpi, settled, freshIke, noIke, newIpsec, noIpsec}
+use Rattle.records.specs.declared.ike.Agreed.{Agreed}
 use Rattle.tables.specs.Opening.{ikeOf, childOf}
 use Rattle.tables.specs.Tables.{Tables}
 use Rattle.tables.specs.Opened.{BothOpened}
 use Rattle.tables.specs.declared.calls.Opening.{Opening}
 use Rattle.tables.proofs.Lookup.{finds-opened}
 use Rattle.tables.proofs.Cases.{IpsecOpened, both-or-neither, open-ipsec-cases}
-use Rattle.reached.specs.WellFormed.{IkeBounds, WellFormed}
+use Rattle.reached.specs.WellFormed.{peerNumbers, AgreedBounds, IkeBounds, WellFormed}
 use Rattle.reached.specs.Reached.{opensBoth, opensIpsec, afterCall}
 use Rattle.reached.proofs.Checks.{none-bounds}
 use Rattle.reached.proofs.Consistent.{opened}
-use Rattle.reached.proofs.Stored.{Keeps, still-there, owned-stored}
+use Rattle.reached.proofs.Stored.{Keeps, held, owned-beside, owned-stored}
 
--- a new record has no marks, an empty list, no tally and no check
-new-bounds : (o : Opening) → pairFits (o .pair) ≡ true → IkeBounds (ikeOf o)
-new-bounds o e =
+zero-or-one : (n : ℕ) → zeroOrOne n ≤ 1
+zero-or-one n = chosen (λ (x : ℕ). x ≤ 1) (isYes n) (λ e. omega arith) (λ e. omega arith)
+
+settled-bounds : (a : Agreed) → a .peer < peerNumbers → AgreedBounds (settled a)
+settled-bounds a l = record { mobike = zero-or-one (a .mobike); cloning = zero-or-one (a .cloning); peer = l }
+
+-- a new record and a clone have no marks, an empty list, no tally and no check
+pub fresh-bounds : (spi : ℕ) (a : Agreed) (p : Pair) → AgreedBounds a → pairFits p ≡ true
+    → IkeBounds (freshIke spi a p)
+fresh-bounds spi a p b e =
     record {
+      agreed = b;
       pair = e;
       update-mark = omega arith;
       list-mark = omega arith;
@@ -33,12 +44,14 @@ new-bounds o e =
           (omega arith);
       tally = omega arith;
       check = none-bounds;
+      deleting = omega arith;
     }
 
 module _ (t : Tables) (w : WellFormed t) where
-  opened-both : (o : Opening) → BothOpened (t .ike) (t .ipsec) o → WellFormed (afterCall t (opensBoth o))
+  opened-both : (o : Opening) → o .agreed .peer < peerNumbers → BothOpened (t .ike) (t .ipsec) o
+      → WellFormed (afterCall t (opensBoth o))
   unfolding afterCall
-  opened-both o b =
+  opened-both o typed b =
       let p = placeOf ikeSpi 0 (t .ike) in
       let q = placeOf ipsecSpi 0 (t .ipsec) in
       let found = finds-opened ikeSpi noIke (t .ike) (ikeOf o) (b .room) (b .new) in
@@ -46,17 +59,12 @@ module _ (t : Tables) (w : WellFormed t) where
       rw (found, length-set (t .ike) p (ikeOf o)) (b .room) in
       rw (b .is)
       (record {
-        ikes = opened ikeSpi noIke (t .ike) (w .ikes) p (ikeOf o) (b .named) (b .new) (new-bounds o (b .fits));
+        ikes = opened ikeSpi noIke (t .ike) (w .ikes) p (ikeOf o) (b .named) (b .new)
+            (fresh-bounds (o .spi) (settled (o .agreed)) (o .pair) (settled-bounds (o .agreed) typed) (b .fits));
         ipsecs = opened ipsecSpi noIpsec (t .ipsec) (w .ipsecs) q (childOf o) (b .child-named) (b .child-new)
             (record { pair = b .fits });
         owned =
-            owned-stored (set (t .ike) p (ikeOf o)) (t .ipsec) q (childOf o)
-            (λ j l n.
-            let old = w .owned j l n in (
-              old .0,
-              still-there (t .ike) (getD (t .ipsec) j noIpsec .owner) p (ikeOf o) (old .1)
-                  (λ e. old .0 (sym e ∙ place-has ikeSpi 0 (t .ike) noIke (b .room))),
-            ))
+            owned-stored (set (t .ike) p (ikeOf o)) (t .ipsec) q (childOf o) (owned-beside t w (ikeOf o) (b .room))
             (λ n. (b .named, there));
       })
 
@@ -67,21 +75,18 @@ module _ (t : Tables) (w : WellFormed t) where
       let p = placeOf ikeSpi owner (t .ike) in
       let new = newIpsec spi owner (getD (t .ike) p noIke .pair) in
       let q = placeOf ipsecSpi 0 (t .ipsec) in
-      let owns =
-      w .ikes .bounded p (o .owner-there) (λ z. o .owner-named
-      (sym (place-has ikeSpi owner (t .ike) noIke (o .owner-there)) ∙ z)) in
       rw (o .is)
       (record {
         ikes = w .ikes;
         ipsecs = opened ipsecSpi noIpsec (t .ipsec) (w .ipsecs) q new (o .named) (o .new)
-            (record { pair = owns .pair });
+            (record { pair = held t w owner (o .owner-named) (o .owner-there) .fits .pair });
         owned = owned-stored (t .ike) (t .ipsec) q new (w .owned) (λ n. (o .owner-named, o .owner-there));
       })
 
-pub opens-both-keeps : (o : Opening) → Keeps (λ (t : Tables). afterCall t (opensBoth o))
+pub opens-both-keeps : (o : Opening) → o .agreed .peer < peerNumbers → Keeps (λ (t : Tables). afterCall t (opensBoth o))
 unfolding afterCall
-opens-both-keeps o t w =
-    ⊎-elim (opened-both t w o) (λ e. rw (e .same, e .child-same) w) (both-or-neither (t .ike) (t .ipsec) o)
+opens-both-keeps o typed t w =
+    ⊎-elim (opened-both t w o typed) (λ e. rw (e .same, e .child-same) w) (both-or-neither (t .ike) (t .ipsec) o)
 
 pub opens-ipsec-keeps : (spi owner : ℕ) → Keeps (λ (t : Tables). afterCall t (opensIpsec spi owner))
 unfolding afterCall

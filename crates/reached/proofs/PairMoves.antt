@@ -23,7 +23,7 @@ use Rattle.initiator.specs.Response.{outcomeNumber}
 use Rattle.initiator.specs.declared.response.Assessment.{Assessment}
 use Rattle.initiator.specs.declared.response.Outcome.the-variants.{Accepted}
 use Rattle.reached.specs.Reached.{Call, opensBoth, opensIpsec, closesIke, closesIpsec, requests, checks}
-use Rattle.reached.specs.Reached.{afterCall}
+use Rattle.reached.specs.Reached.{clones, marksDeletion, afterCall}
 use Rattle.reached.specs.PairMoves.{Closes, itself, owner, check, Becomes, kept, closed, moved}
 use Rattle.reached.specs.PairMoves.{PairsMoveByChecks, RequestsMoveNone}
 
@@ -113,6 +113,8 @@ module _ (t : Tables) (j : ℕ) (used : getD (t .ipsec) j noIpsec .spi ≡ 0 →
       ⊎-elim (λ e. rw e (kept refl)) (λ o. rw (o .is) (dropped spi (o .there))) (close-ipsec-cases (t .ipsec) spi)
   becomes (requests policy q) = rw (requests-move-none t policy q) (kept refl)
   becomes (checks q) = of-response q (laws.way t q)
+  becomes (clones q) = kept refl
+  becomes (marksDeletion spi) = kept refl
 
 pub pairs-move-by-checks : PairsMoveByChecks
 pairs-move-by-checks t c j used = becomes t j used c

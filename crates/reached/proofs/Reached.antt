@@ -7,6 +7,7 @@ use Rattle.records.specs.Records.{ikeSpi, ipsecSpi, noIke, noIpsec}
 use Rattle.tables.specs.Tables.{Tables}
 use Rattle.reached.specs.WellFormed.{IkeBounds, IpsecBounds, WellFormed}
 use Rattle.reached.specs.Reached.{empty, Call, opensBoth, opensIpsec, closesIke, closesIpsec, requests, checks}
+use Rattle.reached.specs.Reached.{clones, marksDeletion}
 use Rattle.reached.specs.Reached.{afterCall, afterAll, Typed, StaysWellFormed, Reached}
 use Rattle.reached.proofs.Consistent.{all-free}
 use Rattle.reached.proofs.Stored.{Keeps}
@@ -14,15 +15,19 @@ use Rattle.reached.proofs.Opens.{opens-both-keeps, opens-ipsec-keeps}
 use Rattle.reached.proofs.Closes.{closes-ike-keeps, closes-ipsec-keeps}
 use Rattle.reached.proofs.Requests.{requests-keeps}
 use Rattle.reached.proofs.Responses.{checks-keeps}
+use Rattle.reached.proofs.Cloned.{clones-keeps}
+use Rattle.reached.proofs.Marked.{marks-deletion-keeps}
 
 -- A law for each call.
 keeps : (c : Call) → Typed c → Keeps (λ (t : Tables). afterCall t c)
-keeps (opensBoth o) typed = opens-both-keeps o
+keeps (opensBoth o) typed = opens-both-keeps o typed
 keeps (opensIpsec spi owner) typed = opens-ipsec-keeps spi owner
 keeps (closesIke spi) typed = closes-ike-keeps spi
 keeps (closesIpsec spi) typed = closes-ipsec-keeps spi
 keeps (requests policy q) typed = requests-keeps policy q typed
 keeps (checks q) typed = checks-keeps q
+keeps (clones q) typed = clones-keeps q
+keeps (marksDeletion spi) typed = marks-deletion-keeps spi
 
 pub stays-well-formed : StaysWellFormed
 unfolding afterAll

@@ -1,6 +1,6 @@
 -- Requests keep tables well-formed.
 use Prim.Native.Nat.{ℕ, _<_, _≤_, min}
-use mathlib.Core.Path.{_≡_, refl, sym, _∙_}
+use mathlib.Core.Path.{_≡_, refl}
 use mathlib.Core.Logic.{⊎-elim}
 use mathlib.Core.List.{List}
 use mathlib.Core.Bool.{Bool, true, false, cond}
@@ -9,13 +9,11 @@ use borrow.Author.Tests.{eqb-false, ltb-true, not-true}
 use lib.ListN.{length, getD}
 use Rattle.octets.specs.Limits.{addressesMost}
 use Rattle.octets.proofs.Small.{chosen}
-use Rattle.octets.proofs.Places.{place-has}
 use Rattle.address.specs.Address.{noAddress, pairFits}
 use Rattle.address.specs.declared.address.Address.{Address}
 use Rattle.address.specs.declared.pair.Pair.{Pair}
 use Rattle.values.specs.Values.{addressesIn}
 use Rattle.policy.specs.declared.rules.Policy.{Policy}
-use Rattle.records.specs.Records.{ikeSpi, noIke}
 use Rattle.tables.specs.Tables.{Tables}
 use Rattle.records.specs.declared.ike.Marks.{Marks}
 use Rattle.checking.specs.Checks.{Request}
@@ -27,7 +25,7 @@ use Rattle.reached.specs.WellFormed.{isFamily, CheckBounds, IkeBounds, W
 use Rattle.reached.specs.Reached.{LentWith, requests, afterCall}
 use Rattle.reached.proofs.Checks.{check-bounds}
 use Rattle.reached.proofs.Lists.{families-known}
-use Rattle.reached.proofs.Stored.{Keeps, ike-changed}
+use Rattle.reached.proofs.Stored.{Keeps, Held, held, ike-changed}
 
 abbrev Families : ℕ → List Address → Type 0
 Families n addresses = (i : ℕ) → i < n → isFamily (getD addresses i noAddress .family) ≡ true
@@ -37,22 +35,18 @@ module _ (policy : Policy) (q : Request) (typed : LentWith q) (t : Tables) (w : 
     there : place t q < length (t .ike)
     there = ltb-true _ _ (passed _ _ _ q passes .found)
 
-    named : entry t q .spi ≡ 0 → ⊥
-    named z =
-        eqb-false (q .spi) 0 (not-true _ (passed _ _ _ q passes .named))
-        (sym (place-has ikeSpi (q .spi) (t .ike) noIke there) ∙ z)
+    meant-held : Held (t .ike) (q .spi)
+    meant-held = held t w (q .spi) (eqb-false (q .spi) 0 (not-true _ (passed _ _ _ q passes .named))) there
 
     pair-fits : pairFits (q .asks .pair) ≡ true
     pair-fits = passed _ _ _ q passes .pair
 
-    held : IkeBounds (entry t q)
-    held = w .ikes .bounded (place t q) there named
-
   module _ (u l : Bool) (m : Marks) (c : Changes policy t q u l m) where
     in-bounds : IkeBounds (entryBy q (entry t q) u l m)
     in-bounds =
-        let old = held (c .passes) in
+        let old = meant-held (c .passes) .fits in
         record {
+          agreed = old .agreed;
           pair = chosen (λ (p : Pair). pairFits p ≡ true) u (λ e. pair-fits (c .passes)) (λ e. old .pair);
           update-mark =
               ⊎-elim (λ e. omega (arith, old .update-mark)) (λ e. omega (arith, e .1, typed .id)) (c .update-mark);
@@ -61,6 +55,7 @@ module _ (policy : Policy) (q : Request) (typed : LentWith q) (t : Tables) (w : 
           families = listed (old .families) l;
           tally = c .tally;
           check = chosen CheckBounds u (λ e. lent) (λ e. old .check);
+          deleting = old .deleting;
         }
       where
         lent : CheckBounds (q .asks .check)
@@ -74,8 +69,9 @@ module _ (policy : Policy) (q : Request) (typed : LentWith q) (t : Tables) (w : 
 
     changed : WellFormed (afterRequest policy q t)
     changed =
+        let named = meant-held (c .passes) .named in
         rw (c .is)
-        (ike-changed t w (place t q) (entryBy q (entry t q) u l m) (there (c .passes)) (named (c .passes)) refl in-bounds)
+        (ike-changed t w (place t q) (entryBy q (entry t q) u l m) (there (c .passes)) named refl in-bounds)
 
   kept : Way policy t q → WellFormed (afterRequest policy q t)
   kept (stays e) = rw e w

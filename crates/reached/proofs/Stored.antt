@@ -1,6 +1,6 @@
--- What keeps tables well-formed, of any call: a record changed in its place, every IPsec record changed, and how owners
--- stay.
-use Prim.Native.Nat.{ℕ, _<_}
+-- What keeps tables well-formed, of any call: a record changed in its place, one stored in a free place, every IPsec
+-- record changed, and how owners stay.
+use Prim.Native.Nat.{ℕ, _<_, _≤_}
 use mathlib.Core.Path.{_≡_, sym, ap, _∙_}
 use mathlib.Core.List.{List, map}
 use native.Mathlib.Omega.{arith}
@@ -10,7 +10,7 @@ use lib.Seq.{getD-set-same, getD-set-other}
 use Rattle.octets.specs.Lists.{placeOf}
 use Rattle.octets.proofs.Places.{at-most, place-has, store-same}
 use Rattle.records.specs.Records.{ikeSpi, ipsecSpi, noIke, noIpsec}
-use Rattle.tables.specs.Tables.{Tables, tables}
+use Rattle.tables.specs.Tables.{Tables, tables, meant}
 use Rattle.records.specs.declared.ike.IkeRecord.{IkeRecord}
 use Rattle.records.specs.declared.ipsec.IpsecRecord.{IpsecRecord}
 use Rattle.reached.specs.WellFormed.{IkeBounds, IpsecBounds, Owned, WellFormed}
@@ -51,7 +51,35 @@ module _ (ike : List IkeRecord) (ipsec : List IpsecRecord) (p : ℕ) (y : IpsecR
           let same : getD (set ipsec p y) j noIpsec ≡ getD ipsec j noIpsec = getD-set-other ipsec p j y noIpsec e in
           rw same (old j inside (λ z. n (ap ipsecSpi same ∙ z)))
 
+-- the record that an SPI means is in use and in its bounds
+pub record Held (ike : List IkeRecord) (spi : ℕ) : Type 0 where
+  pub named : meant ike spi .spi ≡ 0 → ⊥
+  pub fits : IkeBounds (meant ike spi)
+
 module _ (t : Tables) (w : WellFormed t) where
+  pub held : (spi : ℕ) → (spi ≡ 0 → ⊥) → placeOf ikeSpi spi (t .ike) < length (t .ike) → Held (t .ike) spi
+  held spi named there =
+      let n : meant (t .ike) spi .spi ≡ 0 → ⊥ = λ z. named (sym (place-has ikeSpi spi (t .ike) noIke there) ∙ z) in
+      record { named = n; fits = w .ikes .bounded (placeOf ikeSpi spi (t .ike)) there n }
+
+  -- a record stored in a free place leaves every owner where it is
+  pub owned-beside : (y : IkeRecord) → placeOf ikeSpi 0 (t .ike) < length (t .ike)
+      → Owned (set (t .ike) (placeOf ikeSpi 0 (t .ike)) y) (t .ipsec)
+  owned-beside y room j l n =
+      let old = w .owned j l n in (
+        old .0,
+        still-there (t .ike) (getD (t .ipsec) j noIpsec .owner) (placeOf ikeSpi 0 (t .ike)) y (old .1)
+            (λ e. old .0 (sym e ∙ place-has ikeSpi 0 (t .ike) noIke room)),
+      )
+
+  -- every owner has an IKE record, so no IPsec record names an SPI that none has
+  pub owned-by-none : (spi : ℕ) → length (t .ike) ≤ placeOf ikeSpi spi (t .ike) → (j : ℕ) → j < length (t .ipsec)
+      → (getD (t .ipsec) j noIpsec .spi ≡ 0 → ⊥) → getD (t .ipsec) j noIpsec .owner ≡ spi → ⊥
+  owned-by-none spi new j l n e =
+      let there = w .owned j l n .1 in
+      let same = ap (λ (k : ℕ). placeOf ikeSpi k (t .ike)) e in
+      omega arith
+
   -- an IKE record changed in its place, with its SPI and in its bounds
   pub ike-changed : (p : ℕ) (y : IkeRecord) → p < length (t .ike) → (y .spi ≡ 0 → ⊥)
       → y .spi ≡ getD (t .ike) p noIke .spi → IkeBounds y

@@ -1,9 +1,8 @@
 -- Closing what was just opened gives back the tables that it was opened in, if calls reach these from empty ones.
 use Prim.Native.Nat.{ℕ, zero, suc, _<_}
-use mathlib.Core.Path.{_≡_, refl, ap, _∙_}
+use mathlib.Core.Path.{_≡_, refl, _∙_}
 use mathlib.Core.Logic.{⊎-elim}
 use mathlib.Core.List.{List, [], _∷_, map}
-use native.Mathlib.Omega.{arith}
 use borrow.Author.Tests.{eqb-true, eqb-false, eq-eqb, ne-eqb, lt-ltb}
 use lib.Dec.{eqb}
 use lib.ListN.{length, getD, set, length-set, length-map, List·getD-map}
@@ -24,6 +23,7 @@ use Rattle.tables.proofs.Cases.{both-or-neither}
 use Rattle.reached.specs.WellFormed.{Cleared, WellFormed}
 use Rattle.reached.specs.Reached.{afterAll, empty}
 use Rattle.reached.specs.Undone.{ClosingUndoes}
+use Rattle.reached.proofs.Stored.{owned-by-none}
 use Rattle.reached.proofs.Reached.{reached}
 
 map-set : {A : Type 0} (f : A → A) (xs : List A) (i : ℕ) (x : A) → map f (set xs i x) ≡ set (map f xs) i (f x)
@@ -51,18 +51,14 @@ module _ (t : Tables) (w : WellFormed t) (o : Opening) (b : BothOpened (t .ike) 
   abbrev q : ℕ
   q = placeOf ipsecSpi 0 (t .ipsec)
 
-  -- every owner has an IKE record, so none of the IPsec records names the new SPI
+  -- none of the IPsec records names the new SPI
   none-released : map (released (o .spi)) (t .ipsec) ≡ t .ipsec
   none-released =
       ext-getD noIpsec (map (released (o .spi)) (t .ipsec)) (t .ipsec) (length-map (t .ipsec) (released (o .spi)))
       (λ i l.
       List·getD-map (released (o .spi)) (t .ipsec) i noIpsec
       ∙ unreleased (o .spi) (getD (t .ipsec) i noIpsec)
-      (λ n e.
-      let there = w .owned i (rw (← length-map (t .ipsec) (released (o .spi))) l) n .1 in
-      let new = b .new in
-      let same = ap (λ (k : ℕ). placeOf ikeSpi k (t .ike)) e in
-      omega arith))
+      (owned-by-none t w (o .spi) (b .new) i (rw (← length-map (t .ipsec) (released (o .spi))) l)))
 
   undone : closeIke (set (t .ike) p (ikeOf o)) (set (t .ipsec) q (childOf o)) (o .spi) ≡ tablesAnswer 0 (t .ike)
       (t .ipsec)

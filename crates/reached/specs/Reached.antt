@@ -13,13 +13,14 @@ use Rattle.order.specs.Order.{All}
 use Rattle.policy.specs.declared.rules.Policy.{Policy}
 use Rattle.records.specs.Pending.{checkOf}
 use Rattle.records.specs.Records.{noIke, noIpsec}
-use Rattle.tables.specs.Calls.{openBoth, openIpsec, closeIke, closeIpsec}
+use Rattle.tables.specs.Calls.{openBoth, openIpsec, closeIke, closeIpsec, markDeletion}
 use Rattle.tables.specs.Tables.{Tables, tables}
 use Rattle.tables.specs.declared.calls.Opening.{Opening}
 use Rattle.checking.specs.Checks.{Request}
 use Rattle.responder.specs.Handle.{afterRequest}
 use Rattle.routability.specs.Routability.{CheckResponse, afterResponse}
-use Rattle.reached.specs.WellFormed.{messageIds, WellFormed}
+use Rattle.cloning.specs.Clone.{CloneRequest, afterClone}
+use Rattle.reached.specs.WellFormed.{messageIds, peerNumbers, WellFormed}
 
 abbrev pub empty : Tables
 empty = tables (replicate ikePlaces noIke) (replicate ipsecPlaces noIpsec)
@@ -32,6 +33,8 @@ pub data Call : Type 0 where
   closesIpsec : ℕ → Call
   requests : Policy → Request → Call
   checks : CheckResponse → Call
+  clones : CloneRequest → Call
+  marksDeletion : ℕ → Call
 
 -- the tables after a call, whatever number it gives
 unfoldable pub afterCall : Tables → Call → Tables
@@ -45,6 +48,8 @@ afterCall t (closesIke spi) =
 afterCall t (closesIpsec spi) = tables (t .ike) (closeIpsec (t .ipsec) spi .ipsec)
 afterCall t (requests policy q) = afterRequest policy q t
 afterCall t (checks q) = afterResponse q t
+afterCall t (clones q) = tables (afterClone q (t .ike)) (t .ipsec)
+afterCall t (marksDeletion spi) = tables (markDeletion (t .ike) spi .ike) (t .ipsec)
 
 unfoldable pub afterAll : Tables → List Call → Tables
 unfolding afterCall
@@ -59,14 +64,16 @@ pub record LentWith (q : Request) : Type 0 where
   pub check-id-fits : check-id < messageIds
   pub check : q .asks .check ≡ checkOf cookie check-id
 
--- What the types of the exported arguments fix: a message ID has 32 bits.
+-- What the types of the exported arguments fix: a message ID and a peer number have 32 bits.
 abbrev pub Typed : Call → Type 0
-Typed (opensBoth o) = Unit {0}
+Typed (opensBoth o) = o .agreed .peer < peerNumbers
 Typed (opensIpsec spi owner) = Unit {0}
 Typed (closesIke spi) = Unit {0}
 Typed (closesIpsec spi) = Unit {0}
 Typed (requests policy q) = LentWith q
 Typed (checks q) = Unit {0}
+Typed (clones q) = Unit {0}
+Typed (marksDeletion spi) = Unit {0}
 
 -- Whatever calls are made on well-formed tables, and so on empty ones.
 abbrev pub StaysWellFormed : Type 0

@@ -3,8 +3,10 @@
 --   Distinct, Cleared, EachInUse      what holds of a table's places
 --   Consistent                        all of it, of a table of so many places
 --   messageIds                        how many message IDs there are
+--   peerNumbers                       how many peer numbers there are
 --   isFamily                          4 or 6
 --   CheckBounds                       the bounds of a pending check
+--   AgreedBounds                      the bounds of what was agreed at an opening
 --   IkeBounds, IpsecBounds            the bounds of a record in use
 --   Owned                             every IPsec record has an owner
 --   WellFormed                        both tables
@@ -22,6 +24,7 @@ use Rattle.records.specs.Pending.{cookieSized}
 use Rattle.records.specs.Records.{ikeSpi, ipsecSpi, noIke, noIpsec}
 use Rattle.tables.specs.Tables.{Tables}
 use Rattle.records.specs.declared.check.PendingCheck.{PendingCheck}
+use Rattle.records.specs.declared.ike.Agreed.{Agreed}
 use Rattle.records.specs.declared.ike.IkeRecord.{IkeRecord}
 use Rattle.records.specs.declared.ipsec.IpsecRecord.{IpsecRecord}
 
@@ -54,6 +57,10 @@ isFamily family = not (eqb (widthOf family) 0)
 abbrev pub messageIds : ℕ
 messageIds = 4294967296
 
+-- 02, E8: "a 32-bit peer number"
+abbrev pub peerNumbers : ℕ
+peerNumbers = 4294967296
+
 -- 02, E6: "a cookie of 8 to 64 octets and the ID of our request", or none. 01: "Places past a list's count ...; in a
 -- list newly kept or given they are 0", so with the octets past the cookie's; of no check the ID is 0 too.
 pub record CheckBounds (c : PendingCheck) : Type 0 where
@@ -63,10 +70,18 @@ pub record CheckBounds (c : PendingCheck) : Type 0 where
   pub no-id : c .length ≡ 0 → c .id ≡ 0
   pub id : c .id < messageIds
 
+-- What is agreed at an opening, and kept by a clone: a yes is stored as 1.
+pub record AgreedBounds (a : Agreed) : Type 0 where
+  pub mobike : a .mobike ≤ 1
+  pub cloning : a .cloning ≤ 1
+  pub peer : a .peer < peerNumbers
+
 -- What 01 says of an IKE record in use: its pair passed check 1, so its family is 4 or 6; "an update mark and a list
 -- mark (each none or a message ID of 32 bits ...)", kept as 0 or the ID and one; "up to 16 additional addresses", each
--- of family 4 or 6; "an unknown tally that stays at 4,294,967,295 once there".
+-- of family 4 or 6; "an unknown tally that stays at 4,294,967,295 once there". 02, E8: "a mark for being deleted", of
+-- which a yes is stored as 1.
 pub record IkeBounds (r : IkeRecord) : Type 0 where
+  pub agreed : AgreedBounds (r .agreed)
   pub pair : pairFits (r .pair) ≡ true
   pub update-mark : r .«update_mark» ≤ messageIds
   pub list-mark : r .«list_mark» ≤ messageIds
@@ -74,6 +89,7 @@ pub record IkeBounds (r : IkeRecord) : Type 0 where
   pub families : (i : ℕ) → i < r .count → isFamily (getD (r .addresses) i noAddress .family) ≡ true
   pub tally : r .unknown ≤ tallyMost
   pub check : CheckBounds (r .check)
+  pub deleting : r .deleting ≤ 1
 
 pub record IpsecBounds (r : IpsecRecord) : Type 0 where
   pub pair : pairFits (r .pair) ≡ true

@@ -16,7 +16,7 @@ use Rattle.findings.proofs.Counts.{one}
 use Rattle.reader.specs.declared.read.Reading.{Reading}
 use Rattle.reader.proofs.Whole.{read-whole}
 
-whole-scan : (s : Seen) (ch : Chain) → scanned s ch .outcome ≡ Whole
+pub whole-scan : (s : Seen) (ch : Chain) → scanned s ch .outcome ≡ Whole
     → scanned s ch .seen .tally .payloads ≡ s .tally .payloads + count ch
 unfolding scanned
 whole-scan s ends e = omega arith

@@ -27,7 +27,7 @@ pub record OfEach (P : ℕ → Type 0) : Type 0 where
   pub critical : P (numberOf UnknownCritical)
 
 module _ (P : ℕ → Type 0) (each : OfEach P) where
-  fault-of : (f : Fault) → P (numberOf (faultNumber f))
+  pub fault-of : (f : Fault) → P (numberOf (faultNumber f))
   fault-of ChainLength = each .chain-length
   fault-of NotifyShape = each .notify
   fault-of DataSize = each .data-size

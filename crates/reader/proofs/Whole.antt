@@ -19,7 +19,7 @@ use Rattle.reader.specs.Chain.{Scan, Chain, Outcome, Whole, Broken, chai
 use Rattle.reader.specs.Chain.{answer, refused, reading}
 
 -- no fault has the number 0
-faults-told : (f : Fault) → 1 ≤ numberOf (faultNumber f)
+pub faults-told : (f : Fault) → 1 ≤ numberOf (faultNumber f)
 faults-told ChainLength = omega arith
 faults-told NotifyShape = omega arith
 faults-told DataSize = omega arith
@@ -27,7 +27,7 @@ faults-told Conflict = omega arith
 faults-told Leftover = omega arith
 faults-told (Critical t) = omega arith
 
-told-whole : (ch : Chain) (o : Outcome) (s : Seen) → answer ch o s .number ≡ numberOf Done
+pub told-whole : (ch : Chain) (o : Outcome) (s : Seen) → answer ch o s .number ≡ numberOf Done
     → stopped o s ≡ stopped Whole (answer ch o s .seen)
 told-whole ch Whole s e = refl
 told-whole ch (Broken f at) s e = absurd (omega (arith, faults-told f))

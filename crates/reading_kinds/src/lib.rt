@@ -4,8 +4,10 @@ pub mod tables;
 use crate::tables::ADD_IPSEC;
 use crate::tables::AFTER_RULES;
 use crate::tables::CHECK_RESPONSE;
+use crate::tables::CLONE;
 use crate::tables::CLOSE_IKE;
 use crate::tables::CLOSE_IPSEC;
+use crate::tables::DELETION_MARK;
 use crate::tables::OPEN_BOTH;
 use crate::tables::REQUEST;
 use crate::tables::RULE;
@@ -32,5 +34,7 @@ pub fn read_fields(kind: Kind, s: &[u8], at: usize, slots: &mut [u64]) -> Step
         Kind::Request => read_table(s, at, &REQUEST, slots, 0),
         Kind::Policy => read_listed(s, at, &RULE, RULE_SLOTS, &AFTER_RULES, slots, 0),
         Kind::CheckResponse => read_table(s, at, &CHECK_RESPONSE, slots, 0),
+        Kind::Clone => read_table(s, at, &CLONE, slots, 0),
+        Kind::MarkDeletion => read_table(s, at, &DELETION_MARK, slots, 0),
     }
 }

@@ -7,7 +7,7 @@ use fields::codes::BITS_64;
 use fields::codes::STRING;
 use fields::codes::YES_NO;
 
-pub const OPEN_BOTH: [u8; 8] = [
+pub const OPEN_BOTH: [u8; 10] = [
     BITS_64, // IKE SPI
     YES_NO, // MOBIKE agreed
     BITS_8, // family
@@ -16,6 +16,8 @@ pub const OPEN_BOTH: [u8; 8] = [
     BITS_16, // source port
     BITS_16, // destination port
     BITS_32, // IPsec SPI
+    BITS_32, // peer
+    YES_NO, // cloning agreed
 ];
 
 pub const ADD_IPSEC: [u8; 2] = [
@@ -66,4 +68,15 @@ pub const CHECK_RESPONSE: [u8; 4] = [
     BITS_32, // the response's ID
     BITS_8, // its first type
     STRING, // its body
+];
+
+pub const CLONE: [u8; 4] = [
+    BITS_64, // SPI of the IKE record that is cloned
+    BITS_64, // SPI of its clone
+    BITS_8, // the request's first type
+    STRING, // its body
+];
+
+pub const DELETION_MARK: [u8; 1] = [
+    BITS_64, // SPI of the IKE record that is being deleted
 ];

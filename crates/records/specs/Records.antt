@@ -2,15 +2,18 @@
 --
 --   ikeSpi, ipsecSpi        a record's key
 --   settled, noneAgreed     what is agreed, as it is stored; of a free place
---   newIke, newIpsec        a record as it is opened
+--   newIke, newIpsec        a record as it is opened; `freshIke` with what is agreed as it stands
+--   cloneOf                 a clone of a record
 --   noIke, noIpsec          a free place
 --   released, follows       an IPsec record after its owner is closed, after it moves
 --   marksIn                 what of a record a request is decided by
 --   rewritten               a record with all that a request may change in it
 --   remarked, relisted      a record with other marks (and pair and check), with another list
 --   unchecked               a record whose check has ended
+--   deletionMarked          a record that is being deleted
+--   ofPeer                  a record in use has a peer number
 use Prim.Native.Nat.{ℕ}
-use mathlib.Core.Bool.{Bool, cond}
+use mathlib.Core.Bool.{Bool, cond, _&&_, not}
 use mathlib.Core.List.{List}
 use lib.Dec.{eqb}
 use lib.ListN.{replicate}
@@ -34,17 +37,18 @@ ipsecSpi r = r .spi
 
 -- What is agreed at an opening, as it is stored; and of a place that is free.
 abbrev pub settled : Agreed → Agreed
-settled a = record { mobike = zeroOrOne (a .mobike) }
+settled a = record { mobike = zeroOrOne (a .mobike); cloning = zeroOrOne (a .cloning); peer = a .peer }
 
 abbrev pub noneAgreed : Agreed
-noneAgreed = record { mobike = 0 }
+noneAgreed = record { mobike = 0; cloning = 0; peer = 0 }
 
--- 01: "A new IKE record has no marks, an empty list, tally 0." It has no pending check (02, E6) either.
-abbrev pub newIke : ℕ → Agreed → Pair → IkeRecord
-newIke spi agreed pair =
+-- 01: "A new IKE record has no marks, an empty list, tally 0." It has no pending check (02, E6) and no deletion mark
+-- (E8) either.
+abbrev pub freshIke : ℕ → Agreed → Pair → IkeRecord
+freshIke spi agreed pair =
     record {
       spi = spi;
-      agreed = settled agreed;
+      agreed = agreed;
       pair = pair;
       «update_mark» = 0;
       «list_mark» = 0;
@@ -52,7 +56,15 @@ newIke spi agreed pair =
       addresses = replicate addressesMost noAddress;
       unknown = 0;
       check = noCheck;
+      deleting = 0;
     }
+
+abbrev pub newIke : ℕ → Agreed → Pair → IkeRecord
+newIke spi agreed pair = freshIke spi (settled agreed) pair
+
+-- E8: "The clone has a new SPI, the same pair, peer and agreements, no marks, an empty list, tally 0, no pending check".
+abbrev pub cloneOf : ℕ → IkeRecord → IkeRecord
+cloneOf spi r = freshIke spi (r .agreed) (r .pair)
 
 -- 01: "A place is free when its SPI is 0; closing sets all its fields to 0 or none."
 abbrev pub noIke : IkeRecord
@@ -97,6 +109,7 @@ rewritten pair updateMark listMark count addresses unknown check r =
       addresses = addresses;
       unknown = unknown;
       check = check;
+      deleting = r .deleting;
     }
 
 -- the record with these marks and this tally; and, where it moves, "the IKE record ... take[s] the packet's pair" and
@@ -115,3 +128,23 @@ relisted count addresses r =
 abbrev pub unchecked : IkeRecord → IkeRecord
 unchecked r =
     rewritten (r .pair) (r .«update_mark») (r .«list_mark») (r .count) (r .addresses) (r .unknown) noCheck r
+
+-- E8: "a mark for being deleted, set by a call". A yes is stored as 1.
+abbrev pub deletionMarked : IkeRecord → IkeRecord
+deletionMarked r =
+    record {
+      spi = r .spi;
+      agreed = r .agreed;
+      pair = r .pair;
+      «update_mark» = r .«update_mark»;
+      «list_mark» = r .«list_mark»;
+      count = r .count;
+      addresses = r .addresses;
+      unknown = r .unknown;
+      check = r .check;
+      deleting = 1;
+    }
+
+-- E8: "peer has 4 records or more": those in use with its number, being deleted or not.
+abbrev pub ofPeer : ℕ → IkeRecord → Bool
+ofPeer peer r = not (eqb (r .spi) 0) && eqb (r .agreed .peer) peer

@@ -1,4 +1,4 @@
-// IKE records: a new one, a closed one, and what a request or the end of a check changes in one.
+// IKE records: a new one, a clone, a closed one, and what a request, the end of a check or a deletion mark changes in one.
 use crate::check::PendingCheck;
 use crate::check::no_check;
 use address::address::Address;
@@ -7,12 +7,16 @@ use octets::flag::zero_or_one;
 use octets::limits::ADDRESS_OCTETS;
 use octets::limits::ADDRESSES_MOST;
 ghost use mathlib.Core.Path.{_≡_};
-ghost use Rattle.records.specs.Records.{settled, newIke, noIke, marksIn, remarked, relisted, unchecked};
+ghost use Rattle.records.specs.Records.{settled, freshIke, newIke, noIke, cloneOf, marksIn, remarked, relisted};
+ghost use Rattle.records.specs.Records.{unchecked, deletionMarked};
 
 // What is agreed when a record is opened; no request changes it. Yes or no is an octet, 0 or any other.
 #[repr(C)]
 pub struct Agreed {
     pub mobike: u8,
+    pub cloning: u8,
+    // The host's number for the peer, which its clones share.
+    pub peer: u32,
 }
 
 // A place is free when its SPI is 0. A mark is the least message ID that exceeds it: 0 for none, and the ID and one for
@@ -28,6 +32,8 @@ pub struct IkeRecord {
     pub addresses: [Address; ADDRESSES_MOST],
     pub unknown: u32,
     pub check: PendingCheck,
+    // The deletion mark: 0, or any other while the IKE SA is being deleted.
+    pub deleting: u8,
 }
 
 // What a request is decided by in its record, and changes there whether it moves or not. Decisions go by these alone,
@@ -45,12 +51,14 @@ pub fn settle(given: Agreed) -> Agreed
 {
     Agreed {
         mobike: zero_or_one(given.mobike),
+        cloning: zero_or_one(given.cloning),
+        peer: given.peer,
     }
 }
 
 // A record with no marks, an empty list, no tally and no check.
-pub fn new_ike(spi: u64, agreed: Agreed, pair: Pair) -> IkeRecord
-    ensures { λ r. ⌜ r ≡ newIke spi agreed pair ⌝ }
+pub fn fresh_ike(spi: u64, agreed: Agreed, pair: Pair) -> IkeRecord
+    ensures { λ r. ⌜ r ≡ freshIke spi agreed pair ⌝ }
 {
     let none = Address {
         family: 0,
@@ -58,7 +66,7 @@ pub fn new_ike(spi: u64, agreed: Agreed, pair: Pair) -> IkeRecord
     };
     IkeRecord {
         spi,
-        agreed: settle(agreed),
+        agreed,
         pair,
         update_mark: 0,
         list_mark: 0,
@@ -66,7 +74,16 @@ pub fn new_ike(spi: u64, agreed: Agreed, pair: Pair) -> IkeRecord
         addresses: [none; ADDRESSES_MOST],
         unknown: 0,
         check: no_check(),
+        deleting: 0,
     }
+}
+
+// A record as it is opened.
+pub fn new_ike(spi: u64, agreed: Agreed, pair: Pair) -> IkeRecord
+    ensures { λ r. ⌜ r ≡ newIke spi agreed pair ⌝ }
+{
+    let stored = settle(agreed);
+    fresh_ike(spi, stored, pair)
 }
 
 // A place that is closed.
@@ -80,8 +97,21 @@ pub fn no_ike() -> IkeRecord
         source_port: 0,
         destination_port: 0,
     };
-    let agreed = Agreed { mobike: 0 };
+    let agreed = Agreed {
+        mobike: 0,
+        cloning: 0,
+        peer: 0,
+    };
     new_ike(0, agreed, pair)
+}
+
+// The clone of a record under another SPI.
+pub fn clone_of(spi: u64, original: IkeRecord) -> IkeRecord
+    ensures { λ r. ⌜ r ≡ cloneOf spi original ⌝ }
+{
+    let agreed = original.agreed;
+    let pair = original.pair;
+    fresh_ike(spi, agreed, pair)
 }
 
 pub fn marks_of(entry: IkeRecord) -> Marks
@@ -133,5 +163,14 @@ pub fn uncheck(entry: IkeRecord) -> IkeRecord
 {
     let mut new = entry;
     new.check = no_check();
+    new
+}
+
+// The record, marked as being deleted.
+pub fn mark_deletion(entry: IkeRecord) -> IkeRecord
+    ensures { λ r. ⌜ r ≡ deletionMarked entry ⌝ }
+{
+    let mut new = entry;
+    new.deleting = 1;
     new
 }

@@ -1,7 +1,8 @@
--- The arguments of an opening, a request and the response to a check, as taken from the slots, are those of the entry.
+-- The arguments of an opening, a request, the response to a check and a clone request, as taken from the slots, are
+-- those of the entry.
 -- Assumes nothing.
 use Prim.Native.Nat.{ℕ, _+_}
-use mathlib.Core.Path.{_≡_}
+use mathlib.Core.Path.{_≡_, sym, _∙_}
 use mathlib.Core.Bool.{true}
 use mathlib.Core.List.{List, _++_}
 use native.Mathlib.Omega.{arith}
@@ -17,8 +18,9 @@ use Rattle.answering.specs.Core.{asked}
 use Rattle.checking.specs.Checks.{requestOf}
 use Rattle.records.specs.Pending.{checkOf}
 use Rattle.routability.specs.Routability.{checkResponse}
-use Rattle.acts.specs.Performed.{requestBy, responseBy}
-use Rattle.replays.specs.Calls.{pairOf, openingOf, requestFrom, responseFrom}
+use Rattle.cloning.specs.Clone.{cloneRequest}
+use Rattle.acts.specs.Performed.{requestBy, responseBy, cloneBy}
+use Rattle.replays.specs.Calls.{pairOf, openingOf, requestFrom, responseFrom, cloneFrom}
 use Rattle.replays.proofs.Taken.{lent, told, then-fits, number-taken, address-taken, string-taken}
 
 -- a pair, and whatever follows it
@@ -58,11 +60,20 @@ module _ (w behind slots : List ℕ) where
       let from-port = then-fits _ _ _ _ (destination .1) in
       let to-port = then-fits _ _ _ _ (from-port .1) in
       let child = then-fits _ _ _ _ (to-port .1) in
+      let peer = then-fits _ _ _ _ (child .1) in
+      let cloning = then-fits _ _ _ _ (peer .1) in
       let given = lent slots in
       let p1 = number-taken w behind given _ 1 (simp getD-drop (told slots 1)) 8 _ (agreed .0) (omega arith) in
       let p7 = number-taken w behind given _ 7 (simp getD-drop (told slots 7)) 32 _ (child .0) (omega arith) in
+      let p8 = number-taken w behind given _ 8 (simp getD-drop (told slots 8)) 32 _ (peer .0) (omega arith) in
+      let p9 = number-taken w behind given _ 9 (simp getD-drop (told slots 9)) 8 _ (cloning .0) (omega arith) in
       let pair = pair-taken _ (agreed .1) in
-      λ i. record { spi = told slots 0 i; agreed = record { mobike = p1 i }; pair = pair i; child = p7 i }
+      λ i. record {
+        spi = told slots 0 i;
+        agreed = record { mobike = p1 i; cloning = p9 i; peer = p8 i };
+        pair = pair i;
+        child = p7 i;
+      }
 
   pub request-taken : fitsIn (fieldsOf kind.Request) w slots ≡ true
       → requestBy (w ++ behind) (lent slots) responseRoom ≡ requestFrom (valueIn (fieldsOf kind.Request) w slots)
@@ -112,3 +123,18 @@ module _ (w behind slots : List ℕ) where
       let p3 =
       string-taken w behind given _ 3 (simp getD-drop (told slots 3)) (simp getD-drop (told slots 4)) (body .0) in
       λ i. checkResponse (told slots 0 i) (p1 i) (p2 i) (p3 i)
+
+  pub clone-taken : fitsIn (fieldsOf kind.Clone) w slots ≡ true
+      → cloneBy (w ++ behind) (lent slots) responseRoom ≡ cloneFrom (valueIn (fieldsOf kind.Clone) w slots)
+  unfolding valueIn
+  clone-taken h =
+      let spi = then-fits _ _ _ _ h in
+      let new-spi = then-fits _ _ _ _ (spi .1) in
+      let first = then-fits _ _ _ _ (new-spi .1) in
+      let body = then-fits _ _ _ _ (first .1) in
+      let given = lent slots in
+      let p1 = told slots 1 ∙ sym (getD-drop 1 slots 0 0) in
+      let p2 = number-taken w behind given _ 2 (simp getD-drop (told slots 2)) 8 _ (first .0) (omega arith) in
+      let p3 =
+      string-taken w behind given _ 3 (simp getD-drop (told slots 3)) (simp getD-drop (told slots 4)) (body .0) in
+      λ i. cloneRequest (told slots 0 i) (p1 i) (p2 i) (p3 i) responseRoom

@@ -8,11 +8,12 @@ use lib.Seq.{getD-drop}
 use Rattle.octets.specs.Limits.{responseRoom}
 use Rattle.policy.specs.Policy.{setPolicy}
 use Rattle.policy.specs.declared.rules.Rule.{Rule}
-use Rattle.tables.specs.Calls.{openBoth, openIpsec, closeIke, closeIpsec}
+use Rattle.tables.specs.Calls.{openBoth, openIpsec, closeIke, closeIpsec, markDeletion}
 use Rattle.tables.specs.declared.calls.Opening.{Opening}
 use Rattle.checking.specs.Checks.{Request}
 use Rattle.responder.specs.Handle.{handled}
 use Rattle.routability.specs.Routability.{CheckResponse, checked}
+use Rattle.cloning.specs.Clone.{CloneRequest, cloned}
 use Rattle.fields.specs.Fields.{Value}
 use Rattle.fields.specs.Slots.{valueIn, fitsIn}
 use Rattle.entries.specs.Kinds.{kindNumber, fieldsOf}
@@ -26,7 +27,7 @@ use Rattle.replays.specs.Calls.{calledAs, empty}
 use Rattle.replays.specs.Replay.{replayed}
 use Rattle.replays.specs.Same.{Performing, Replays, allRead}
 use Rattle.replays.proofs.Taken.{lent, told, then-fits, number-taken}
-use Rattle.replays.proofs.Arguments.{opening-taken, request-taken, response-taken}
+use Rattle.replays.proofs.Arguments.{opening-taken, request-taken, response-taken, clone-taken}
 use Rattle.replays.proofs.Rules.{rules-taken}
 use Rattle.replays.proofs.Sizes.{empty-sized}
 use Rattle.replays.proofs.Runs.{runs}
@@ -74,6 +75,16 @@ acts-as kind.CheckResponse w behind slots g h =
     let a = checked (g .ike) (g .ipsec) q in
     gives (numberedBy (a .told .number)) (gateway (a .ike) (a .ipsec) (g .policy)))
     (response-taken w behind slots h)
+acts-as kind.Clone w behind slots g h =
+    ap (λ (q : CloneRequest).
+    let a = cloned (g .ike) q in
+    gives (numberedBy (a .reply .number)) (gateway (a .ike) (g .ipsec) (g .policy)))
+    (clone-taken w behind slots h)
+acts-as kind.MarkDeletion w behind slots g h =
+    ap (λ (spi : ℕ).
+    let a = markDeletion (g .ike) spi in
+    gives (numberedBy (a .number)) (gateway (a .ike) (g .ipsec) (g .policy)))
+    (told slots 0)
 
 pub performing : Performing
 performing w behind at e slots next g o q =

@@ -2,6 +2,7 @@
 use Prim.Native.Nat.{ℕ}
 use mathlib.Core.Path.{_≡_, refl}
 use mathlib.Core.Bool.{Bool, true, false}
+use mathlib.Core.Logic.{⊎-elim}
 use lib.Dec.{eqb}
 use lib.ListN.{length, length-set, length-map, length-replicate}
 use Rattle.octets.specs.Limits.{ikePlaces, ipsecPlaces}
@@ -9,20 +10,23 @@ use Rattle.octets.specs.Checks.{firstFailed}
 use Rattle.records.specs.Records.{noIke, noIpsec}
 use Rattle.tables.specs.Calls.{openingChecks, addingChecks, closingChecks, hasIke, hasIpsec}
 use Rattle.tables.specs.declared.calls.Opening.{Opening}
-use Rattle.tables.specs.Calls.{openBoth, openIpsec, closeIke, closeIpsec}
+use Rattle.tables.specs.Calls.{openBoth, openIpsec, closeIke, closeIpsec, markDeletion}
 use Rattle.tables.specs.Tables.{meant}
+use Rattle.tables.proofs.Cases.{mark-deletion-cases}
 use Rattle.checking.specs.Checks.{Request}
 use Rattle.responder.specs.Handle.{earlyNumber, handled}
 use Rattle.initiator.specs.Response.{outcomeNumber, noOutcome}
 use Rattle.initiator.specs.declared.response.Assessment.{Assessment}
 use Rattle.initiator.specs.declared.response.Outcome.the-variants.{Close, Accepted}
 use Rattle.routability.specs.Routability.{CheckResponse, checkTold, checked}
+use Rattle.cloning.specs.Clone.{CloneRequest, cloned}
+use Rattle.cloning.proofs.Cloned.{clone-cases}
 use Rattle.fields.specs.Fields.{Value}
 use Rattle.entries.specs.Kinds.{fieldsOf}
 use Rattle.entries.specs.declared.kind.Kind.{Kind}
 use Rattle.entries.specs.declared.kind.Kind.the-variants as kind
 use Rattle.acts.specs.Performed.{Gateway, gateway}
-use Rattle.replays.specs.Calls.{openingOf, requestFrom, responseFrom, calledAs, empty}
+use Rattle.replays.specs.Calls.{openingOf, requestFrom, responseFrom, cloneFrom, calledAs, empty}
 
 pub record Sized (g : Gateway) : Type 0 where
   pub ikes : length (g .ike) ≡ ikePlaces
@@ -106,6 +110,21 @@ module _ (g : Gateway) (q : CheckResponse) (h : Sized g) where
           rw (e, f, k) (record { ikes = rw length-set (h .ikes); ipsecs = rw length-map (h .ipsecs) })
       go false e false f false k = rw (e, f, k) (record { ikes = rw length-set (h .ikes); ipsecs = h .ipsecs })
 
+-- a clone is stored, a record is marked, or the table stays
+cloned-sized : (g : Gateway) (q : CloneRequest) → Sized g
+    → Sized (gateway (cloned (g .ike) q .ike) (g .ipsec) (g .policy))
+cloned-sized g q h =
+    ⊎-elim (λ m. record { ikes = rw (m .same) (h .ikes); ipsecs = h .ipsecs })
+    (λ m. record { ikes = rw (m .is, length-set) (h .ikes); ipsecs = h .ipsecs })
+    (clone-cases (g .ike) q)
+
+marked-sized : (g : Gateway) (spi : ℕ) → Sized g
+    → Sized (gateway (markDeletion (g .ike) spi .ike) (g .ipsec) (g .policy))
+marked-sized g spi h =
+    ⊎-elim (λ e. record { ikes = rw e (h .ikes); ipsecs = h .ipsecs })
+    (λ m. record { ikes = rw (m .is, length-set) (h .ikes); ipsecs = h .ipsecs })
+    (mark-deletion-cases (g .ike) spi)
+
 pub called-sized : (k : Kind) (v : Value (fieldsOf k)) (g : Gateway) → Sized g → Sized (calledAs k v g .after)
 called-sized kind.OpenBoth v g h = opened g (openingOf v) h
 called-sized kind.AddIpsec v g h = added g (v .0) (v .1 .0) h
@@ -114,3 +133,5 @@ called-sized kind.CloseIpsec v g h = child-closed g (v .0) h
 called-sized kind.Request v g h = answered g (requestFrom v) h
 called-sized kind.Policy v g h = record { ikes = h .ikes; ipsecs = h .ipsecs }
 called-sized kind.CheckResponse v g h = responded g (responseFrom v) h
+called-sized kind.Clone v g h = cloned-sized g (cloneFrom v) h
+called-sized kind.MarkDeletion v g h = marked-sized g (v .0) h

@@ -13,12 +13,13 @@ use Rattle.records.specs.Records.{noIke, noIpsec}
 use Rattle.policy.specs.Policy.{setPolicy, noRule}
 use Rattle.policy.specs.declared.rules.Rule.{Rule}
 use Rattle.policy.specs.declared.rules.Policy.{Policy}
-use Rattle.tables.specs.Calls.{openBoth, openIpsec, closeIke, closeIpsec}
+use Rattle.tables.specs.Calls.{openBoth, openIpsec, closeIke, closeIpsec, markDeletion}
 use Rattle.tables.specs.declared.calls.Opening.{Opening}
 use Rattle.answering.specs.Core.{asked}
 use Rattle.checking.specs.Checks.{Request, requestOf}
 use Rattle.responder.specs.Handle.{handled}
 use Rattle.routability.specs.Routability.{CheckResponse, checkResponse, checked}
+use Rattle.cloning.specs.Clone.{CloneRequest, cloneRequest, cloned}
 use Rattle.fields.specs.Fields.{Value, inOrder}
 use Rattle.entries.specs.Kinds.{fieldsOf, ruleFields}
 use Rattle.entries.specs.Entries.{Entry}
@@ -50,11 +51,12 @@ behindPair v = v .1 .1 .1 .1 .1
 
 abbrev pub openingOf : Value (fieldsOf kind.OpenBoth) → Opening
 openingOf v =
+    let more = behindPair (v .1 .1) in
     record {
       spi = v .0;
-      agreed = record { mobike = v .1 .0 };
+      agreed = record { mobike = v .1 .0; cloning = more .1 .1 .0; peer = more .1 .0 };
       pair = pairOf (v .1 .1);
-      child = behindPair (v .1 .1) .0;
+      child = more .0;
     }
 
 -- "A request is given as SPI, ID, packet's pair, the two NAT values, first type, body", and with it the cookie and the
@@ -70,6 +72,10 @@ requestFrom v =
 -- 02, E6: "a response (SPI, ID, first type, body)"
 abbrev pub responseFrom : Value (fieldsOf kind.CheckResponse) → CheckResponse
 responseFrom v = checkResponse (v .0) (v .1 .0) (v .1 .1 .0) (v .1 .1 .1 .0)
+
+-- 02, E8: "a CREATE_CHILD_SA request given as an IKE rekey (SPI, new SPI, first type, body)"; the output is the same
+abbrev pub cloneFrom : Value (fieldsOf kind.Clone) → CloneRequest
+cloneFrom v = cloneRequest (v .0) (v .1 .0) (v .1 .1 .0) (v .1 .1 .1 .0) responseRoom
 
 abbrev pub ruleOf : Value (inOrder ruleFields) → Rule
 ruleOf v =
@@ -109,6 +115,12 @@ calledAs kind.Policy v g =
 calledAs kind.CheckResponse v g =
     let a = checked (g .ike) (g .ipsec) (responseFrom v) in
     gives (numberedBy (a .told .number)) (gateway (a .ike) (a .ipsec) (g .policy))
+calledAs kind.Clone v g =
+    let a = cloned (g .ike) (cloneFrom v) in
+    gives (numberedBy (a .reply .number)) (gateway (a .ike) (g .ipsec) (g .policy))
+calledAs kind.MarkDeletion v g =
+    let a = markDeletion (g .ike) (v .0) in
+    gives (numberedBy (a .number)) (gateway (a .ike) (g .ipsec) (g .policy))
 
 abbrev pub called : Entry → Gateway → Performed
 called e g = calledAs (e .kind) (e .values) g

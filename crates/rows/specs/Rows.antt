@@ -89,7 +89,7 @@ pub record Row : Type 0 where
   pub result : Result
 
 abbrev agreed : Agreed
-agreed = record { mobike = 1 }
+agreed = record { mobike = 1; cloning = 0; peer = 0 }
 
 -- a record of SPI 7 for which MOBIKE was agreed, with this mark
 abbrev recordWith : ℕ → IkeRecord

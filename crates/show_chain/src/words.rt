@@ -29,8 +29,10 @@ pub fn notify_name(t: u16) {
     match t {
         NotifyType::UNSUPPORTED_CRITICAL_PAYLOAD => text(b"UNSUPPORTED_CRITICAL_PAYLOAD"),
         NotifyType::INVALID_SYNTAX => text(b"INVALID_SYNTAX"),
+        NotifyType::NO_ADDITIONAL_SAS => text(b"NO_ADDITIONAL_SAS"),
         NotifyType::UNACCEPTABLE_ADDRESSES => text(b"UNACCEPTABLE_ADDRESSES"),
         NotifyType::UNEXPECTED_NAT_DETECTED => text(b"UNEXPECTED_NAT_DETECTED"),
+        NotifyType::TEMPORARY_FAILURE => text(b"TEMPORARY_FAILURE"),
         NotifyType::NAT_DETECTION_SOURCE_IP => text(b"NAT_DETECTION_SOURCE_IP"),
         NotifyType::NAT_DETECTION_DESTINATION_IP => text(b"NAT_DETECTION_DESTINATION_IP"),
         NotifyType::MOBIKE_SUPPORTED => text(b"MOBIKE_SUPPORTED"),
@@ -40,6 +42,8 @@ pub fn notify_name(t: u16) {
         NotifyType::UPDATE_SA_ADDRESSES => text(b"UPDATE_SA_ADDRESSES"),
         NotifyType::COOKIE2 => text(b"COOKIE2"),
         NotifyType::NO_NATS_ALLOWED => text(b"NO_NATS_ALLOWED"),
+        NotifyType::CLONE_IKE_SA_SUPPORTED => text(b"CLONE_IKE_SA_SUPPORTED"),
+        NotifyType::CLONE_IKE_SA => text(b"CLONE_IKE_SA"),
         _ => type_number(t as usize),
     }
 }

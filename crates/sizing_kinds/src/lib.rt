@@ -4,8 +4,10 @@ use fields::room::Room;
 use reading_kinds::tables::ADD_IPSEC;
 use reading_kinds::tables::AFTER_RULES;
 use reading_kinds::tables::CHECK_RESPONSE;
+use reading_kinds::tables::CLONE;
 use reading_kinds::tables::CLOSE_IKE;
 use reading_kinds::tables::CLOSE_IPSEC;
+use reading_kinds::tables::DELETION_MARK;
 use reading_kinds::tables::OPEN_BOTH;
 use reading_kinds::tables::REQUEST;
 use reading_kinds::tables::RULE;
@@ -31,5 +33,7 @@ pub fn fields_room(kind: Kind, slots: &[u64], source: &[u8], room: Room) -> Room
         Kind::Request => table_room(&REQUEST, slots, 0, source, room),
         Kind::Policy => listed_room(&RULE, RULE_SLOTS, &AFTER_RULES, slots, 0, source, room),
         Kind::CheckResponse => table_room(&CHECK_RESPONSE, slots, 0, source, room),
+        Kind::Clone => table_room(&CLONE, slots, 0, source, room),
+        Kind::MarkDeletion => table_room(&DELETION_MARK, slots, 0, source, room),
     }
 }

@@ -11,10 +11,10 @@ use Rattle.octets.specs.Lists.{placeOf}
 use Rattle.octets.specs.Checks.{firstFailed}
 use Rattle.octets.proofs.Checks.{all-passed}
 use Rattle.octets.proofs.Small.{both, neither}
-use Rattle.records.specs.Records.{ikeSpi, ipsecSpi, noIke, newIpsec, noIpsec, released}
-use Rattle.tables.specs.Calls.{ipsecAnswer, tablesAnswer, hasIke, hasIpsec, listFits}
-use Rattle.tables.specs.Calls.{openingChecks, addingChecks, closingChecks}
-use Rattle.tables.specs.Calls.{openBoth, openIpsec, closeIke, closeIpsec}
+use Rattle.records.specs.Records.{ikeSpi, ipsecSpi, noIke, newIpsec, noIpsec, released, deletionMarked}
+use Rattle.tables.specs.Calls.{ikeAnswer, ipsecAnswer, tablesAnswer, hasIke, hasIpsec, listFits}
+use Rattle.tables.specs.Calls.{openingChecks, addingChecks, closingChecks, markingChecks}
+use Rattle.tables.specs.Calls.{openBoth, openIpsec, closeIke, closeIpsec, markDeletion}
 use Rattle.tables.specs.Opened.{BothOpened, NeitherOpened, BothOrNeither}
 use Rattle.records.specs.declared.ike.IkeRecord.{IkeRecord}
 use Rattle.records.specs.declared.ipsec.IpsecRecord.{IpsecRecord}
@@ -119,6 +119,30 @@ module _ (ipsec : List IpsecRecord) (spi : ℕ) where
           let p = all-passed (closingChecks ipsec spi (hasIpsec spi ipsec)) refl (eqb-true number 0 e) in
           inr (record {
             named = eqb-false spi 0 (neither (not (listFits ipsec)) (eqb spi 0) (p .0) .1);
+            there = ltb-true _ _ (not-false _ (p .1 .0));
+            is = rw e;
+          })
+
+module _ (ike : List IkeRecord) (spi : ℕ) where
+  pub record DeletionMarked : Type 0 where
+    pub named : spi ≡ 0 → ⊥
+    pub there : placeOf ikeSpi spi ike < length ike
+    pub is : markDeletion ike spi
+        ≡ ikeAnswer 0 (set ike (placeOf ikeSpi spi ike) (deletionMarked (getD ike (placeOf ikeSpi spi ike) noIke)))
+
+  pub mark-deletion-cases : (markDeletion ike spi .ike ≡ ike) ⊎ DeletionMarked
+  unfolding markDeletion
+  mark-deletion-cases = go (eqb number 0) refl
+    where
+      number : ℕ
+      number = firstFailed (markingChecks ike spi)
+
+      go : (b : Bool) → eqb number 0 ≡ b → (markDeletion ike spi .ike ≡ ike) ⊎ DeletionMarked
+      go false e = inl (rw e)
+      go true e =
+          let p = all-passed (markingChecks ike spi) refl (eqb-true number 0 e) in
+          inr (record {
+            named = eqb-false spi 0 (p .0);
             there = ltb-true _ _ (not-false _ (p .1 .0));
             is = rw e;
           })

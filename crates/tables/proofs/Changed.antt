@@ -11,12 +11,12 @@ use lib.ListN.{length, getD, set}
 use lib.Seq.{set-out}
 use Rattle.octets.specs.Limits.{ikePlaces}
 use Rattle.octets.specs.Lists.{placeOf}
-use Rattle.records.specs.Records.{ikeSpi, ipsecSpi, noIke, newIpsec, noIpsec, released}
+use Rattle.records.specs.Records.{ikeSpi, ipsecSpi, noIke, newIpsec, noIpsec, released, deletionMarked}
 use Rattle.tables.specs.Opening.{ikeOf, childOf}
-use Rattle.tables.specs.Calls.{TablesAnswer, ipsecAnswer, tablesAnswer, hasIpsec, openingFits}
-use Rattle.tables.specs.Calls.{openBoth, openIpsec, closeIke, closeIpsec}
+use Rattle.tables.specs.Calls.{TablesAnswer, ikeAnswer, ipsecAnswer, tablesAnswer, hasIpsec, openingFits}
+use Rattle.tables.specs.Calls.{openBoth, openIpsec, closeIke, closeIpsec, markDeletion}
 use Rattle.tables.specs.Changes.{badList, badAdding, addingNumber, closingNumber, bothNumber}
-use Rattle.tables.specs.Changes.{bothOpening, ipsecOpening, ikeClosing, ipsecClosing}
+use Rattle.tables.specs.Changes.{bothOpening, ipsecOpening, ikeClosing, ipsecClosing, ikeMarking}
 use Rattle.tables.specs.declared.calls.Opening.{Opening}
 use Rattle.records.specs.declared.ike.IkeRecord.{IkeRecord}
 use Rattle.records.specs.declared.ipsec.IpsecRecord.{IpsecRecord}
@@ -96,6 +96,29 @@ module _ (ike : List IkeRecord) (long : length ike ≡ ikePlaces) where
             × (cond b (map (released spi) ipsec) ipsec ≡ r .ipsec)
         go true e = (eqb-true number 0 e, refl, refl)
         go false e = (refl, unstored ike ikePlaces noIke long, refl)
+
+  pub marks-deletion : (spi : ℕ)
+      → let place = placeOf ikeSpi spi ike in
+      let c = ikeMarking spi place (getD ike place noIke) in
+      let r = markDeletion ike spi in
+      (c .number ≡ r .number) × (set ike (c .place) (c .entry) ≡ r .ike)
+  unfolding markDeletion ikeMarking
+  marks-deletion spi = rw long (go (eqb number 0) refl)
+    where
+      place : ℕ
+      place = placeOf ikeSpi spi ike
+
+      number : ℕ
+      number = closingNumber (eqb spi 0) (ltb place ikePlaces)
+
+      marked : IkeRecord
+      marked = deletionMarked (getD ike place noIke)
+
+      go : (b : Bool) → eqb number 0 ≡ b
+          → let r = cond b (ikeAnswer 0 (set ike place marked)) (ikeAnswer number ike) in
+          (number ≡ r .number) × (set ike (cond b place ikePlaces) marked ≡ r .ike)
+      go true e = (eqb-true number 0 e, refl)
+      go false e = (refl, unstored ike ikePlaces marked long)
 
 pub closes-ipsec : (ipsec : List IpsecRecord) (spi : ℕ)
     → let c = ipsecClosing (length ipsec) spi (placeOf ipsecSpi spi ipsec) in

@@ -1,7 +1,7 @@
--- Trusted. The table calls of 01 ("Tables", "The numbers given back") and E1: their numbers, in the order of their
+-- Trusted. The table calls of 01 ("Tables", "The numbers given back"), E1 and E8: their numbers, in the order of their
 -- checks, and the tables after them.
 --
---   ipsecAnswer, tablesAnswer   a number and one table, a number and both
+--   ikeAnswer, ipsecAnswer      a number and one table; `tablesAnswer`: and both
 --   hasIke, hasIpsec            a table has a record with an SPI; with 0: it has a free place
 --   listFits, openingFits       what is lent, and what is given to open, is no bad argument
 --   openingChecks, openBoth     an IKE record and its first IPsec record are opened
@@ -9,6 +9,7 @@
 --   closingChecks               of either closing
 --   ikeClosed, ownedClosed      the tables after an IKE record is closed, by a call or by a check
 --   closeIke, closeIpsec        a record is closed
+--   markDeletion                an IKE record is marked as being deleted
 use Prim.Native.Nat.{ℕ}
 use mathlib.Core.List.{List, [], _∷_, map}
 use mathlib.Core.Bool.{Bool, cond, _&&_, _||_, not}
@@ -19,13 +20,17 @@ use Rattle.octets.specs.declared.number.Number.the-variants.{BadArgument, NoSuc
 use Rattle.octets.specs.Checks.{Check, _gives_, firstFailed}
 use Rattle.octets.specs.Lists.{placeOf}
 use Rattle.address.specs.Address.{pairFits}
-use Rattle.records.specs.Records.{ikeSpi, ipsecSpi, noIke, newIpsec, noIpsec, released}
+use Rattle.records.specs.Records.{ikeSpi, ipsecSpi, noIke, newIpsec, noIpsec, released, deletionMarked}
 use Rattle.tables.specs.Opening.{ikeOf, childOf}
 use Rattle.tables.specs.declared.calls.Opening.{Opening}
 use Rattle.records.specs.declared.ike.IkeRecord.{IkeRecord}
 use Rattle.records.specs.declared.ipsec.IpsecRecord.{IpsecRecord}
 
 -- What a call comes to: its number, and the tables after it.
+pub record IkeAnswer : Type 0 where
+  pub number : ℕ
+  pub ike : List IkeRecord
+
 pub record IpsecAnswer : Type 0 where
   pub number : ℕ
   pub ipsec : List IpsecRecord
@@ -34,6 +39,9 @@ pub record TablesAnswer : Type 0 where
   pub number : ℕ
   pub ike : List IkeRecord
   pub ipsec : List IpsecRecord
+
+abbrev pub ikeAnswer : ℕ → List IkeRecord → IkeAnswer
+ikeAnswer number ike = record { number = number; ike = ike }
 
 abbrev pub ipsecAnswer : ℕ → List IpsecRecord → IpsecAnswer
 ipsecAnswer number ipsec = record { number = number; ipsec = ipsec }
@@ -118,3 +126,13 @@ unfoldable pub closeIpsec : List IpsecRecord → ℕ → IpsecAnswer
 closeIpsec ipsec spi =
     let number = firstFailed (closingChecks ipsec spi (hasIpsec spi ipsec)) in
     cond (eqb number 0) (ipsecAnswer 0 (set ipsec (placeOf ipsecSpi spi ipsec) noIpsec)) (ipsecAnswer number ipsec)
+
+-- E8: "a mark for being deleted, set by a call (checks 1, 4)".
+abbrev pub markingChecks : List IkeRecord → ℕ → List Check
+markingChecks ike spi = eqb spi 0 gives BadArgument ∷ not (hasIke spi ike) gives NoSuchRecord ∷ []
+
+unfoldable pub markDeletion : List IkeRecord → ℕ → IkeAnswer
+markDeletion ike spi =
+    let number = firstFailed (markingChecks ike spi) in
+    let place = placeOf ikeSpi spi ike in
+    cond (eqb number 0) (ikeAnswer 0 (set ike place (deletionMarked (getD ike place noIke)))) (ikeAnswer number ike)

@@ -8,7 +8,7 @@ use Rattle.octets.specs.Limits.{ikePlaces, ipsecPlaces}
 use Rattle.octets.specs.declared.number.Number.the-variants.{BadArgument, NoSuchRecord, Full, SpiInUse}
 use Rattle.octets.specs.Checks.{_gives_, firstFailed}
 use Rattle.address.specs.declared.pair.Pair.{Pair}
-use Rattle.records.specs.Records.{noIke, newIpsec, noIpsec}
+use Rattle.records.specs.Records.{noIke, newIpsec, noIpsec, deletionMarked}
 use Rattle.tables.specs.Opening.{ikeOf, childOf}
 use Rattle.tables.specs.Calls.{openingFits}
 use Rattle.records.specs.declared.ike.IkeRecord.{IkeRecord}
@@ -87,3 +87,7 @@ ikeClosing size spi place = ikeChange (closingNumber (badList size spi) (ltb pla
 
 unfoldable pub ipsecClosing : ℕ → ℕ → ℕ → IpsecChange
 ipsecClosing size spi place = ipsecChange size (closingNumber (badList size spi) (ltb place size)) place noIpsec
+
+-- 02, E8: "checks 1, 4"
+unfoldable pub ikeMarking : ℕ → ℕ → IkeRecord → IkeChange
+ikeMarking spi place entry = ikeChange (closingNumber (eqb spi 0) (ltb place ikePlaces)) place (deletionMarked entry)

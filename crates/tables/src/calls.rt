@@ -7,6 +7,7 @@ use octets::number::Number;
 use octets::number::number_of;
 use records::ike::Agreed;
 use records::ike::IkeRecord;
+use records::ike::mark_deletion;
 use records::ike::new_ike;
 use records::ike::no_ike;
 use records::ipsec::IpsecRecord;
@@ -18,7 +19,7 @@ ghost use Rattle.octets.specs.Numbers.{numberOf};
 ghost use Rattle.tables.specs.Opening.{ikeOf, childOf};
 ghost use Rattle.tables.specs.Calls.{openingFits};
 ghost use Rattle.tables.specs.Changes.{badList, badAdding, addingNumber, closingNumber, bothNumber};
-ghost use Rattle.tables.specs.Changes.{bothOpening, ipsecOpening, ikeClosing, ipsecClosing};
+ghost use Rattle.tables.specs.Changes.{bothOpening, ipsecOpening, ikeClosing, ipsecClosing, ikeMarking};
 
 // What is given to open an IKE record and its first IPsec record, whose SPI is `child`.
 #[repr(C)]
@@ -70,7 +71,7 @@ pub fn adding_number(bad: bool, owned: bool, taken: bool, room: bool) -> Number
     }
 }
 
-// The number of a closing: a bad argument, no such record, or 0.
+// The number of a closing, and of a deletion mark: a bad argument, no such record, or 0.
 pub fn closing_number(bad: bool, there: bool) -> Number
     ensures { λ r. ⌜ numberOf r ≡ closingNumber bad there ⌝ }
 {
@@ -247,5 +248,17 @@ pub fn ipsec_closing(size: usize, spi: u32, place: usize) -> IpsecChange
         number,
         place: place_if(number, place, size),
         entry,
+    }
+}
+
+// Marking an IKE record as being deleted; `place` is the lowest with its SPI, and `entry` the record there.
+pub fn ike_marking(spi: u64, place: usize, entry: IkeRecord) -> IkeChange
+    ensures { λ r. ⌜ r ≡ ikeMarking spi place entry ⌝ }
+{
+    let number = number_of(closing_number(spi == 0, place < IKE_PLACES));
+    IkeChange {
+        number,
+        place: place_if(number, place, IKE_PLACES),
+        entry: mark_deletion(entry),
     }
 }

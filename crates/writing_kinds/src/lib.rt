@@ -4,8 +4,10 @@ use entries::kind::Kind;
 use reading_kinds::tables::ADD_IPSEC;
 use reading_kinds::tables::AFTER_RULES;
 use reading_kinds::tables::CHECK_RESPONSE;
+use reading_kinds::tables::CLONE;
 use reading_kinds::tables::CLOSE_IKE;
 use reading_kinds::tables::CLOSE_IPSEC;
+use reading_kinds::tables::DELETION_MARK;
 use reading_kinds::tables::OPEN_BOTH;
 use reading_kinds::tables::REQUEST;
 use reading_kinds::tables::RULE;
@@ -31,5 +33,7 @@ pub fn put_fields(out: &mut [u8], at: usize, kind: Kind, slots: &[u64], source: 
         Kind::Request => put_table(out, at, &REQUEST, slots, 0, source),
         Kind::Policy => put_listed(out, at, &RULE, RULE_SLOTS, &AFTER_RULES, slots, 0, source),
         Kind::CheckResponse => put_table(out, at, &CHECK_RESPONSE, slots, 0, source),
+        Kind::Clone => put_table(out, at, &CLONE, slots, 0, source),
+        Kind::MarkDeletion => put_table(out, at, &DELETION_MARK, slots, 0, source),
     }
 }

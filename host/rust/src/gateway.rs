@@ -1,7 +1,9 @@
 //! The tables and the policy of one gateway, owned together.
-use crate::layout::{Assessment, IkeRecord, IpsecRecord, Opening, Pair, Policy, Reply, Rule};
+use crate::layout::{
+    Assessment, CloneReply, IkeRecord, IpsecRecord, Opening, Pair, Policy, Reply, Rule,
+};
 use crate::limits::{IKE_PLACES, IPSEC_PLACES, RULES_MOST};
-use crate::{CheckResponse, Number, Request};
+use crate::{CheckResponse, CloneRequest, Number, Request};
 
 /// A gateway's tables and policy, empty at first. A host that keeps them elsewhere lends them to the
 /// functions of this crate, to which each call here is handed.
@@ -45,6 +47,11 @@ impl Gateway {
         crate::close_ipsec(&mut self.ipsec[..], spi)
     }
 
+    /// As [`mark_deletion`](crate::mark_deletion).
+    pub fn mark_deletion(&mut self, spi: u64) -> Number {
+        crate::mark_deletion(&mut self.ike, spi)
+    }
+
     /// As [`set_policy`](crate::set_policy), with all of these rules; over [`RULES_MOST`] of them are refused
     /// there.
     pub fn set_policy(&mut self, rules: &[Rule]) -> Number {
@@ -71,6 +78,11 @@ impl Gateway {
     pub fn check(&mut self, response: &CheckResponse<'_>) -> Assessment {
         crate::check(&mut self.ike, &mut self.ipsec[..], response)
     }
+
+    /// As [`clone_ike`](crate::clone_ike).
+    pub fn clone_ike(&mut self, request: &CloneRequest<'_>, out: &mut [u8]) -> CloneReply {
+        crate::clone_ike(&mut self.ike, request, out)
+    }
 }
 
 /// Looking at records, such as for a host that is to move the SAs of its kernel.
@@ -83,6 +95,12 @@ impl Gateway {
     /// The IPsec record with this SPI, likewise.
     pub fn ipsec_record(&self, spi: u32) -> Option<&IpsecRecord> {
         self.ipsec.iter().find(|record| spi != 0 && record.spi == spi)
+    }
+
+    /// The IKE records in use with this peer number: at
+    /// [`PEER_RECORDS_MOST`](crate::limits::PEER_RECORDS_MOST) of them a clone of one is refused.
+    pub fn of_peer(&self, peer: u32) -> impl Iterator<Item = &IkeRecord> {
+        self.ike.iter().filter(move |record| record.spi != 0 && record.agreed.peer == peer)
     }
 
     /// The IPsec records in use that this IKE record owns: exactly those that an accepted check moves.

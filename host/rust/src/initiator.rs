@@ -24,7 +24,8 @@ pub struct Draft<'a> {
 /// octets whatever is asked for; the octets past the length stay as they were.
 ///
 /// Numbers, in the order of the checks: [`BadArgument`](Number::BadArgument) for something bad among
-/// what is asked for, [`OutputTooShort`](Number::OutputTooShort), [`Done`](Number::Done). A refusal
+/// what is asked for, or [`clone`](Ask::clone) or [`clone_supported`](Ask::clone_supported) with anything
+/// else, [`OutputTooShort`](Number::OutputTooShort), [`Done`](Number::Done). A refusal
 /// writes nothing.
 ///
 /// A request for everything has 21 Notify payloads. A peer may refuse that many: strongSwan 5.9.8

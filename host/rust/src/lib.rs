@@ -25,7 +25,7 @@
 //! // The responder's end: one IKE SA with one IPsec SA, and where peers may move to.
 //! let old = Pair::ipv4(([203, 0, 113, 5], 4500), ([192, 0, 2, 1], 4500));
 //! let mut gateway = Gateway::new();
-//! let agreed = Agreed { mobike: true.into() };
+//! let agreed = Agreed { mobike: true.into(), ..Agreed::NONE };
 //! let opening = Opening { spi: 7, agreed, pair: old, child: 70 };
 //! assert_eq!(gateway.open(&opening), Number::Done);
 //! let rule = Rule::ipv4(([198, 51, 100, 0], 24), ([192, 0, 2, 0], 24));
@@ -78,6 +78,7 @@
 #![deny(missing_docs)]
 #![deny(unsafe_op_in_unsafe_fn)]
 
+mod cloning;
 mod gateway;
 /// What a host does around the calls.
 ///
@@ -99,17 +100,21 @@ pub mod trace;
 mod version;
 mod words;
 
+pub use cloning::{
+    clone_ike, write_clone, write_clone_supported, CloneRequest, CLONE_IKE_SA,
+    CLONE_IKE_SA_SUPPORTED,
+};
 pub use gateway::Gateway;
 pub use initiator::{assess, write, Draft};
 pub use layout::{
-    Address, Agreed, Ask, Assessment, Flag, IkeRecord, IpsecRecord, Offsets, Opening, Pair,
-    PendingCheck, Policy, Reading, Reply, Rule, Seen, Tally, Written,
+    Address, Agreed, Ask, Assessment, CloneReply, Flag, IkeRecord, IpsecRecord, Offsets, Opening,
+    Pair, PendingCheck, Policy, Reading, Reply, Rule, Seen, Tally, Written,
 };
 pub use numbers::{Effect, Number, Outcome};
 pub use policy::{acceptable, set_policy};
 pub use raw::INTERFACE;
 pub use reader::{addresses, cookie, nat_value, no_nats, read};
-pub use records::{close_ike, close_ipsec, open, open_ipsec};
+pub use records::{close_ike, close_ipsec, mark_deletion, open, open_ipsec};
 pub use responder::{handle, Request};
 pub use routability::{check, write_check, CheckResponse};
 pub use version::interface;

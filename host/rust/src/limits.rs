@@ -6,6 +6,8 @@ pub const BODY_MOST: usize = 4096;
 pub const IKE_PLACES: usize = 32;
 /// The places of the list of IPsec records; a list of any other length is a bad argument.
 pub const IPSEC_PLACES: usize = 128;
+/// IKE records of one peer; none of them is cloned once there are as many.
+pub const PEER_RECORDS_MOST: usize = 4;
 /// The additional addresses that are kept, or written.
 pub const ADDRESSES_MOST: usize = 16;
 /// The rules of the policy.

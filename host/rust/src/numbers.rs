@@ -8,7 +8,7 @@ pub enum Number {
     Done,
     /// 1: a family other than 4 or 6, an IPv4 tail that isn't zero, an SPI of 0, an IPsec list not of
     /// 128 records, a NAT value not of 20 octets, a cookie to send not of 0 or 8 to 64 octets, or one for a
-    /// check not of 8 to 64.
+    /// check not of 8 to 64; a notification of cloning asked for with anything else.
     BadArgument,
     /// 2: the output is under 128 octets, 564 for the writer, 513 for the data of a redirect, or shorter than
     /// the entry of a trace.
@@ -60,6 +60,14 @@ pub enum Number {
     TimeBeforeLast,
     /// 34: five redirects were accepted less than 300 seconds before.
     TooManyRedirects,
+    /// 40: cloning was not agreed.
+    CloningNotAgreed,
+    /// 41: the IKE SA to clone is being deleted, or all places are in use.
+    CannotCloneNow,
+    /// 42: the peer of the IKE SA to clone has four IKE records or more.
+    PeerAtLimit,
+    /// 44: the request has no CLONE_IKE_SA.
+    NoCloneRequest,
     /// A number that no call gives.
     Other(u8),
 }
@@ -113,6 +121,10 @@ impl From<u8> for Number {
             32 => Number::WrongNonce,
             33 => Number::TimeBeforeLast,
             34 => Number::TooManyRedirects,
+            40 => Number::CloningNotAgreed,
+            41 => Number::CannotCloneNow,
+            42 => Number::PeerAtLimit,
+            44 => Number::NoCloneRequest,
             other => Number::Other(other),
         }
     }
@@ -147,6 +159,10 @@ impl From<Number> for u8 {
             Number::WrongNonce => 32,
             Number::TimeBeforeLast => 33,
             Number::TooManyRedirects => 34,
+            Number::CloningNotAgreed => 40,
+            Number::CannotCloneNow => 41,
+            Number::PeerAtLimit => 42,
+            Number::NoCloneRequest => 44,
             Number::Other(other) => other,
         }
     }

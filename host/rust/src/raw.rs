@@ -1,9 +1,9 @@
 //! The C interface of `libunmavreth.a`. A start and a count are those of memory that the caller lends for
 //! the call; nothing lent for writing may overlap anything else that is lent.
 use crate::layout::{
-    AddressList, Ask, Assessment, DataWritten, EntryRead, EntryWritten, GatewayRead, IkeRecord,
-    IpsecRecord, Offsets, Opening, Pair, Part, Policy, Reading, RedirectDecision, Reply, Rule,
-    Written,
+    AddressList, Ask, Assessment, CloneReply, DataWritten, EntryRead, EntryWritten, GatewayRead,
+    IkeRecord, IpsecRecord, Offsets, Opening, Pair, Part, Policy, Reading, RedirectDecision, Reply,
+    Rule, Written,
 };
 use crate::limits::{ENTRY_SLOTS, IKE_PLACES, REDIRECTS_MOST, RULES_MOST};
 
@@ -23,7 +23,7 @@ macro_rules! interface {
         static LINKED: unsafe extern "C" fn() -> u32 = $named;
     };
 }
-interface!(3, unmavreth_interface_3);
+interface!(4, unmavreth_interface_4);
 
 extern "C" {
     pub(crate) fn unmavreth_interface() -> u32;
@@ -106,6 +106,8 @@ extern "C" {
 
     pub(crate) fn unmavreth_close_ipsec(ipsec: *mut IpsecRecord, records: usize, spi: u32) -> u8;
 
+    pub(crate) fn unmavreth_mark_deletion(ike: *mut [IkeRecord; IKE_PLACES], spi: u64) -> u8;
+
     pub(crate) fn unmavreth_set_policy(
         policy: *mut Policy,
         count: u16,
@@ -147,6 +149,17 @@ extern "C" {
         body: *const u8,
         body_size: usize,
     ) -> Assessment;
+
+    pub(crate) fn unmavreth_clone(
+        ike: *mut [IkeRecord; IKE_PLACES],
+        spi: u64,
+        new_spi: u64,
+        first: u8,
+        body: *const u8,
+        body_size: usize,
+        out: *mut u8,
+        out_size: usize,
+    ) -> CloneReply;
 
     pub(crate) fn unmavreth_read_entry(trace: *const u8, trace_size: usize, at: usize)
         -> EntryRead;

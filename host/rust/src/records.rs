@@ -5,7 +5,7 @@ use crate::{raw, Number};
 
 /// Opens an IKE record and its first IPsec record: both, each at the lowest free place of its table, or
 /// neither. The IKE record has no marks, no additional addresses and tally 0, and owns the IPsec record,
-/// which has the same pair.
+/// which has the same pair. How many records the peer has is not asked.
 ///
 /// Numbers, in the order of the checks: [`BadArgument`](Number::BadArgument) for a list not of 128
 /// records, an SPI of 0 or a pair that isn't one of its family; [`SpiInUse`](Number::SpiInUse) for the
@@ -60,4 +60,16 @@ pub fn close_ike(ike: &mut [IkeRecord; IKE_PLACES], ipsec: &mut [IpsecRecord], s
 pub fn close_ipsec(ipsec: &mut [IpsecRecord], spi: u32) -> Number {
     // SAFETY: as in `open_ipsec`.
     unsafe { raw::unmavreth_close_ipsec(ipsec.as_mut_ptr(), ipsec.len(), spi) }.into()
+}
+
+/// Marks an IKE record as being deleted, for a host that begins to delete the IKE SA: it is not cloned any
+/// more. The mark stays until the record is closed.
+///
+/// Numbers, in the order of the checks: [`BadArgument`](Number::BadArgument) for an SPI of 0,
+/// [`NoSuchRecord`](Number::NoSuchRecord), [`Done`](Number::Done), also where it has the mark already. A
+/// refusal leaves the table.
+#[inline]
+pub fn mark_deletion(ike: &mut [IkeRecord; IKE_PLACES], spi: u64) -> Number {
+    // SAFETY: the table is lent for the call and to nothing else.
+    unsafe { raw::unmavreth_mark_deletion(ike, spi) }.into()
 }

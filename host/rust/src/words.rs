@@ -33,6 +33,10 @@ impl Number {
             Number::WrongNonce => "a redirect without the nonce that was sent",
             Number::TimeBeforeLast => "a time before the last accepted redirect's",
             Number::TooManyRedirects => "five accepted redirects within 300 seconds before",
+            Number::CloningNotAgreed => "cloning not agreed",
+            Number::CannotCloneNow => "the IKE SA to clone is being deleted, or all places in use",
+            Number::PeerAtLimit => "the peer has four IKE records or more",
+            Number::NoCloneRequest => "no CLONE_IKE_SA in the request",
             Number::BadChainLength => "a payload cut short or of a length that cannot be",
             Number::BadNotify => "a Notify of a length or with an SPI that cannot be",
             Number::BadDataSize => "notification data of a wrong size",
@@ -99,8 +103,10 @@ pub fn notify_words(notify_type: u16) -> Option<&'static str> {
     Some(match notify_type {
         1 => "UNSUPPORTED_CRITICAL_PAYLOAD",
         7 => "INVALID_SYNTAX",
+        35 => "NO_ADDITIONAL_SAS",
         40 => "UNACCEPTABLE_ADDRESSES",
         41 => "UNEXPECTED_NAT_DETECTED",
+        43 => "TEMPORARY_FAILURE",
         16388 => "NAT_DETECTION_SOURCE_IP",
         16389 => "NAT_DETECTION_DESTINATION_IP",
         16396 => "MOBIKE_SUPPORTED",
@@ -110,6 +116,8 @@ pub fn notify_words(notify_type: u16) -> Option<&'static str> {
         16400 => "UPDATE_SA_ADDRESSES",
         16401 => "COOKIE2",
         16402 => "NO_NATS_ALLOWED",
+        16432 => "CLONE_IKE_SA_SUPPORTED",
+        16433 => "CLONE_IKE_SA",
         _ => return None,
     })
 }

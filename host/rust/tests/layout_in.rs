@@ -57,6 +57,10 @@ fn an_ask_asks_for_each() {
     let asked = Ask { count: 2, ..none };
     let both = [notify(IP4, &[10, 0, 0, 1]), notify(IP6, &octets(1))];
     assert_eq!(written(&draft(asked, &[])), chain(&both).1);
+    let asked = Ask { clone_supported: true, ..none };
+    assert_eq!(written(&draft(asked, &[])), chain(&[notify(CLONE_SUPPORTED, &[])]).1);
+    let asked = Ask { clone: true, ..none };
+    assert_eq!(written(&draft(asked, &[])), chain(&[notify(CLONE, &[])]).1);
     for one in [Ask { nat_source: true, ..none }, Ask { nat_destination: true, ..none }] {
         assert_eq!(write(&draft(one, &[]), &mut [0; 564]).number(), Number::BadArgument);
     }
@@ -155,6 +159,27 @@ fn each_field_of_a_record_matters() {
     assert_eq!(told(|record| record.spi = 1 << 40).0, Number::NoSuchRecord);
 }
 
+/// Those that a clone asks, and what it takes along.
+#[test]
+fn each_field_of_an_original_matters() {
+    let told = |change: fn(&mut IkeRecord)| {
+        let (mut gateway, came) = (gateway(), chain(&[notify(CLONE, &[])]));
+        gateway.ike[0].agreed = Agreed { cloning: Flag::YES, peer: 0x0102_0304, ..AGREED };
+        for at in 2..5 {
+            gateway.ike[at] = IkeRecord { spi: at as u64, ..gateway.ike[0] };
+        }
+        change(&mut gateway.ike[0]);
+        let reply = gateway.clone_ike(&clone_request(&came), &mut [0; 128]);
+        (reply.number(), gateway.ike[5].agreed.peer)
+    };
+    assert_eq!(told(|_| ()), (Number::PeerAtLimit, 0));
+    assert_eq!(told(|record| record.agreed.peer ^= 1), (Number::Done, 0x0102_0305));
+    assert_eq!(told(|record| record.agreed.peer ^= 1 << 31), (Number::Done, 0x8102_0304));
+    assert_eq!(told(|record| record.agreed.cloning = Flag::NO).0, Number::CloningNotAgreed);
+    assert_eq!(told(|record| record.deleting = Flag::YES).0, Number::CannotCloneNow);
+    assert_eq!(told(|record| record.spi = 1 << 40).0, Number::NoSuchRecord);
+}
+
 #[test]
 fn each_field_of_a_check_matters() {
     let cookie: [u8; 64] = std::array::from_fn(|at| at as u8 + 1);
@@ -196,8 +221,13 @@ fn each_field_of_an_opening_is_kept() {
     let spi = 0x0102_0304_0506_0708;
     let both = (IkeRecord { spi, ..ike }, IpsecRecord { owner: spi, ..ipsec });
     assert_eq!(opened(Opening { spi, ..opening }), both);
-    let agreed = Agreed { mobike: Flag::YES };
-    assert_eq!(opened(Opening { agreed, ..opening }), (IkeRecord { agreed, ..ike }, ipsec));
+    for agreed in [
+        Agreed { mobike: Flag::YES, ..Agreed::NONE },
+        Agreed { cloning: Flag::YES, ..Agreed::NONE },
+        Agreed { peer: 0x1122_3344, ..Agreed::NONE },
+    ] {
+        assert_eq!(opened(Opening { agreed, ..opening }), (IkeRecord { agreed, ..ike }, ipsec));
+    }
     let pair = Pair::ipv6((octets(1), 0x1234), (octets(101), 0x5678));
     let both = (IkeRecord { pair, ..ike }, IpsecRecord { pair, ..ipsec });
     assert_eq!(opened(Opening { pair, ..opening }), both);

@@ -2,8 +2,8 @@
 mod common;
 use common::*;
 use unmavreth::{
-    assess, read, Address, Agreed, Effect, Flag, IkeRecord, IpsecRecord, Number, Offsets, Opening,
-    Outcome, Pair, PendingCheck, Request, Seen, Tally,
+    assess, read, Address, Agreed, CloneRequest, Effect, Flag, IkeRecord, IpsecRecord, Number,
+    Offsets, Opening, Outcome, Pair, PendingCheck, Request, Seen, Tally,
 };
 
 /// A chain with every kind of notification that may stand together, errors and unknown ones.
@@ -140,7 +140,7 @@ fn every_field_of_a_record_and_a_reply() {
     assert_eq!(reply.cookie(&came.1), COOKIE);
     let record = IkeRecord {
         spi: 7,
-        agreed: Agreed { mobike: Flag::YES },
+        agreed: AGREED,
         pair: NEW,
         update_mark: 0x0a0b_0c0e,
         list_mark: 0x0a0b_0c0e,
@@ -148,6 +148,7 @@ fn every_field_of_a_record_and_a_reply() {
         addresses: std::array::from_fn(|at| Address::ipv4([10, 0, 0, at as u8 + 1])),
         unknown: 1,
         check: kept(&CHECK),
+        deleting: Flag::NO,
     };
     assert_eq!(gateway.ike[0], record);
     let others = [
@@ -189,7 +190,7 @@ fn every_field_of_opened_records() {
     let mut expected = gateway.clone();
     let pair = Pair::ipv6(([1; 16], 2), ([3; 16], 4));
     let owner = 0x0102_0304_0506_0708;
-    let agreed = Agreed { mobike: Flag::YES };
+    let agreed = Agreed { mobike: Flag::YES, cloning: Flag::YES, peer: 0x0a0b_0c0d };
     let opening = Opening { spi: owner, agreed, pair, child: 0x1122_3344 };
     assert_eq!(gateway.open(&opening), Number::Done);
     expected.ike[2] = IkeRecord { spi: owner, agreed, pair, ..IkeRecord::FREE };
@@ -207,7 +208,7 @@ fn the_lowest_free_places_are_opened() {
     let mut expected = gateway.clone();
     gateway.ike[0] = IkeRecord {
         spi: 0,
-        agreed: Agreed { mobike: Flag::YES },
+        agreed: Agreed { mobike: Flag::YES, cloning: Flag::YES, peer: 4 },
         pair: OLD,
         update_mark: 5,
         list_mark: 6,
@@ -215,9 +216,10 @@ fn the_lowest_free_places_are_opened() {
         addresses: [Address::ipv4([10, 0, 0, 1]); 16],
         unknown: 7,
         check: kept(&CHECK),
+        deleting: Flag::YES,
     };
     gateway.ipsec[1].spi = 0;
-    let agreed = Agreed { mobike: Flag::NO };
+    let agreed = Agreed::NONE;
     assert_eq!(gateway.open(&Opening { agreed, ..OPENING }), Number::Done);
     expected.ike[0] = IkeRecord { spi: 9, agreed, pair: NEW, ..IkeRecord::FREE };
     expected.ipsec[1] = IpsecRecord { spi: 90, owner: 9, pair: NEW };
@@ -242,4 +244,26 @@ fn every_field_of_an_assessment() {
     assert_eq!((assessed.number(), assessed.outcome()), (Number::BadChainLength, Outcome::None));
     assert_eq!((assessed.payloads(), assessed.tally()), (0, 0));
     assert_eq!((assessed.offset(), assessed.ordinal()), (4, 1));
+}
+
+#[test]
+fn every_field_of_a_clone_and_its_reply() {
+    let mut gateway = gateway();
+    gateway.ike[0].agreed = Agreed { mobike: Flag::YES, cloning: Flag::YES, peer: 0x0a0b_0c0d };
+    let mut expected = gateway.clone();
+    let came = chain(&[bare(33), bare(40), notify(CLONE, &[])]);
+    let spi = 0x0102_0304_0506_0708;
+    let mut out = [9; 128];
+    let reply = gateway.clone_ike(&CloneRequest { new_spi: spi, ..clone_request(&came) }, &mut out);
+    assert_eq!((reply.number(), reply.first(), reply.length()), (Number::Done, 41, 8));
+    assert_eq!((reply.payloads(), reply.offset(), reply.ordinal()), (3, 0, 0));
+    assert_eq!(reply.response(&out), chain(&[notify(CLONE, &[])]).1);
+    let (agreed, pair) = (expected.ike[0].agreed, expected.ike[0].pair);
+    expected.ike[2] = IkeRecord { spi, agreed, pair, ..IkeRecord::FREE };
+    assert_eq!(gateway, expected);
+    let came = chain(&[bare(33), bare(40), notify(CLONE, &[1])]);
+    let reply = gateway.clone_ike(&clone_request(&came), &mut out);
+    assert_eq!((reply.number(), reply.first(), reply.length()), (Number::BadDataSize, 41, 8));
+    assert_eq!((reply.payloads(), reply.offset(), reply.ordinal()), (0, 8, 2));
+    assert_eq!(gateway, expected);
 }

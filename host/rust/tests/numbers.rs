@@ -19,7 +19,8 @@ fn any_octet_has_a_meaning() {
     for octet in 0..=255 {
         let number = Number::from(octet);
         assert_eq!(u8::from(number), octet);
-        let given = matches!(octet, 0..=5 | 7..=12 | 14 | 20..=22 | 30..=34 | 61..=65);
+        let given =
+            matches!(octet, 0..=5 | 7..=12 | 14 | 20..=22 | 30..=34 | 40..=42 | 44 | 61..=65);
         assert_eq!(number == Number::Other(octet), !given);
         assert_eq!(number.is_malformed(), (61..=65).contains(&octet));
         assert_eq!(number.is_done(), octet == 0);
@@ -148,11 +149,11 @@ fn flag(octet: u8) -> Flag {
 fn any_octet_but_0_is_yes() {
     let came = chain(&[notify(UPDATE, &[])]);
     for octet in 0..=255 {
-        let (is_set, given) = (octet != 0, Agreed { mobike: flag(octet) });
+        let (is_set, given) = (octet != 0, Agreed { mobike: flag(octet), ..Agreed::NONE });
         assert_eq!(given.mobike.is_set(), is_set);
         let mut gateway = gateway();
         assert_eq!(gateway.open(&Opening { agreed: given, ..OPENING }), Number::Done);
-        assert_eq!(gateway.ike[2].agreed, Agreed { mobike: is_set.into() });
+        assert_eq!(gateway.ike[2].agreed, Agreed { mobike: is_set.into(), ..Agreed::NONE });
         let number = if is_set { Number::Done } else { Number::MobikeNotAgreed };
         let request = Request { spi: 9, ..request(&came) };
         assert_eq!(gateway.handle(&request, &mut [0; 128]).number(), number);
@@ -163,7 +164,7 @@ fn any_octet_but_0_is_yes() {
 fn a_record_keeps_what_is_agreed() {
     let came = chain(&[notify(UPDATE, &[]), notify(NO_ADDITIONAL, &[])]);
     for octet in [1, 2, 255] {
-        let agreed = Agreed { mobike: flag(octet) };
+        let agreed = Agreed { mobike: flag(octet), cloning: flag(octet), peer: u32::MAX };
         let mut gateway = gateway();
         gateway.ike[0].agreed = agreed;
         let reply = gateway.handle(&request(&came), &mut [0; 128]);
@@ -334,6 +335,10 @@ fn writing() {
     refused(&Draft { cookie: &[1; 65], ..draft }, 564, Number::BadArgument);
     draft.ask.count = 17;
     refused(&draft, 564, Number::BadArgument);
+    let none = Ask::default();
+    for clone in [Ask { clone: true, ..none }, Ask { clone_supported: true, ..none }] {
+        refused(&Draft { ask: clone, ..Draft::default() }, 563, Number::OutputTooShort);
+    }
     refused(&Draft::default(), 564, Number::Done);
 }
 

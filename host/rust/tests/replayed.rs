@@ -24,6 +24,8 @@ fn made(gateway: &mut Gateway, entry: &Entry) -> String {
         Entry::CloseIke { spi } => gateway.close_ike(*spi),
         Entry::CloseIpsec { spi } => gateway.close_ipsec(*spi),
         Entry::CheckResponse(response) => gateway.check(response).number(),
+        Entry::Clone(request) => gateway.clone_ike(request, &mut [0; RESPONSE_ROOM]).number(),
+        Entry::MarkDeletion { spi } => gateway.mark_deletion(*spi),
         Entry::Policy(policy) => gateway.set_policy(&policy.rules[..usize::from(policy.count)]),
         Entry::Request(request) => {
             let reply = gateway.handle(request, &mut [0; RESPONSE_ROOM]);

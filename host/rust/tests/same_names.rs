@@ -2,11 +2,12 @@
 use unmavreth::limits::*;
 use unmavreth::redirect::{self, Exchange};
 use unmavreth::trace::Kind;
-use unmavreth::Number;
+use unmavreth::{Number, CLONE_IKE_SA, CLONE_IKE_SA_SUPPORTED};
 
 const HEADER: &str = include_str!("../../include/unmavreth.h");
 const LIMITS: &str = include_str!("../../../crates/octets/src/limits.rt");
 const NUMBERS: &str = include_str!("../../../crates/octets/src/number.rt");
+const NOTIFY: &str = include_str!("../../../crates/notify/src/notify.rt");
 const REFUSALS: &str = include_str!("../../../crates/fields/src/refusal.rt");
 const FIELDS: &str = include_str!("../../../crates/fields/src/codes.rt");
 const ENTRIES: &str = include_str!("../../../crates/entries/src/lib.rt");
@@ -28,6 +29,7 @@ fn limits() {
         ("BODY_MOST", BODY_MOST),
         ("IKE_PLACES", IKE_PLACES),
         ("IPSEC_PLACES", IPSEC_PLACES),
+        ("PEER_RECORDS_MOST", PEER_RECORDS_MOST),
         ("ADDRESSES_MOST", ADDRESSES_MOST),
         ("RULES_MOST", RULES_MOST),
         ("ADDRESS_OCTETS", ADDRESS_OCTETS),
@@ -75,7 +77,8 @@ fn in_capitals(name: &str) -> String {
 
 #[test]
 fn numbers() {
-    for octet in (0..=5).chain(7..=12).chain([14]).chain(20..=22).chain(30..=34).chain(61..=65) {
+    let refusals = [14, 20, 21, 22, 30, 31, 32, 33, 34, 40, 41, 42, 44, 61, 62, 63, 64, 65];
+    for octet in (0..=5).chain(7..=12).chain(refusals) {
         let name = format!("{:?}", Number::from(octet));
         let (words, whose) =
             if !(20..=22).contains(&octet) { (NUMBERS, "Number") } else { (REFUSALS, "Refusal") };
@@ -87,7 +90,7 @@ fn numbers() {
 
 #[test]
 fn kinds_of_entries() {
-    for octet in 0..=6 {
+    for octet in 0..=8 {
         let name = format!("{:?}", Kind::from(octet));
         assert!(says(KINDS, &format!("Kind::{name} => {octet}")), "{name} in the library");
         let word = in_capitals(&name);
@@ -105,6 +108,16 @@ fn limits_of_entries() {
     assert!(says(ENTRIES, &format!("pub const ENTRY_SLOTS: usize = {ENTRY_SLOTS}")));
     assert!(says(FIELDS, &format!("pub const STRING_MOST: u64 = {STRING_MOST}")));
     assert!(says(FIELDS, &format!("pub const LIST_PLACES: usize = {RULES_MOST}")));
+}
+
+#[test]
+fn types_of_cloning() {
+    for (name, value) in
+        [("CLONE_IKE_SA_SUPPORTED", CLONE_IKE_SA_SUPPORTED), ("CLONE_IKE_SA", CLONE_IKE_SA)]
+    {
+        assert!(says(HEADER, &format!("UNMAVRETH_{name} = {value}")), "{name} in the header");
+        assert!(says(NOTIFY, &format!("pub const {name}: u16 = {value}")), "{name} in the library");
+    }
 }
 
 #[test]

@@ -10,6 +10,8 @@ struct IkeSa {
     own_spi: u64,
     child_spi: u32,
     mobike: bool,
+    cloning: bool,
+    client: u32,
     next_id: u32,
     peer: SocketAddr,
     own: SocketAddr,
@@ -59,7 +61,20 @@ fn an_update_is_handled_and_answered() {
     let (peer, own) = (socket("203.0.113.5:4500"), socket("192.0.2.1:4500"));
     let (sent, asked) = (vec![], vec![]);
     let (own_spi, child_spi, mobike, next_id, closed) = (7, 70, true, 30, false);
-    let mut sa = IkeSa { own_spi, child_spi, mobike, next_id, peer, own, sent, asked, closed };
+    let (cloning, client) = (true, 5);
+    let mut sa = IkeSa {
+        own_spi,
+        child_spi,
+        mobike,
+        cloning,
+        client,
+        next_id,
+        peer,
+        own,
+        sent,
+        asked,
+        closed,
+    };
     let mut gateway = Gateway::new();
     assert_eq!(mobike_open(&mut gateway, &sa), Ok(()));
     assert_eq!(mobike_open(&mut gateway, &sa), Err(Number::SpiInUse));

@@ -3,7 +3,9 @@ mod common;
 use common::*;
 use unmavreth::limits::{ENTRY_MOST, ENTRY_SLOTS, STRING_MOST};
 use unmavreth::trace::{read_entry, read_slots, write_entry, write_slots, Entry, Kind};
-use unmavreth::{Agreed, CheckResponse, Flag, Number, Opening, Pair, Policy, Request, Rule};
+use unmavreth::{
+    Agreed, CheckResponse, CloneRequest, Flag, Number, Opening, Pair, Policy, Request, Rule,
+};
 
 /// Octets that are all different.
 fn octets(from: u8) -> [u8; 16] {
@@ -19,10 +21,11 @@ fn pair() -> (Pair, Vec<u8>) {
 /// An opening, and how it is written.
 fn opening() -> (Entry<'static>, Vec<u8>) {
     let (pair, written) = pair();
-    let entry =
-        Entry::OpenBoth(Opening { spi: u64::MAX, agreed: AGREED, pair, child: 0x1122_3344 });
+    let agreed = Agreed { mobike: Flag::NO, cloning: Flag::YES, peer: u32::MAX };
+    let entry = Entry::OpenBoth(Opening { spi: u64::MAX, agreed, pair, child: 0x1122_3344 });
     let spi = [0xff, 0xff, 0xff, 0xff, 0xff, 0xff, 0xff, 0xff, 0xff, 1];
-    (entry, [&[0][..], &spi, &[1], &written, &[0xc4, 0xe6, 0x88, 0x89, 1]].concat())
+    let later = [0xc4, 0xe6, 0x88, 0x89, 1, 0xff, 0xff, 0xff, 0xff, 0xf, 1];
+    (entry, [&[0][..], &spi, &[0], &written, &later].concat())
 }
 
 /// A request with strings of several lengths, and how it is written.
@@ -53,6 +56,13 @@ fn check_response() -> (Entry<'static>, Vec<u8>) {
     (Entry::CheckResponse(response), written)
 }
 
+/// A request to clone, and how it is written.
+fn cloning() -> (Entry<'static>, Vec<u8>) {
+    let request = CloneRequest { spi: 300, new_spi: 128, first: 200, body: &[5; 130] };
+    let written = [&[7, 0xac, 2, 0x80, 1, 0xc8, 1, 0x82, 1][..], &[5; 130]].concat();
+    (Entry::Clone(request), written)
+}
+
 /// A policy of so many rules, and how it is written.
 fn policy(count: u16) -> (Entry<'static>, Vec<u8>) {
     let mut policy = Policy { count, ..Policy::EMPTY };
@@ -75,6 +85,8 @@ fn entries() -> Vec<(Entry<'static>, Vec<u8>)> {
         (Entry::CloseIpsec { spi: u32::MAX }, vec![3, 0xff, 0xff, 0xff, 0xff, 0xf]),
         request(),
         check_response(),
+        cloning(),
+        (Entry::MarkDeletion { spi: 300 }, vec![8, 0xac, 2]),
     ];
     entries.extend((0..=16).map(policy));
     entries
@@ -116,7 +128,7 @@ fn numbers_that_are_not_read() {
     assert_eq!(read_entry(&past, 0), Ok((Entry::CloseIke { spi: u64::MAX }, 11)));
     past[10] = 2;
     assert_eq!(read_entry(&past, 0), Err(Number::Cut));
-    assert_eq!(read_entry(&[7, 7], 0), Err(Number::UnknownKind));
+    assert_eq!(read_entry(&[9, 7], 0), Err(Number::UnknownKind));
     assert_eq!(read_entry(&[0x82, 0], 0), Err(Number::Cut));
     assert_eq!(read_entry(&[3, 0x80, 0x80, 0x80, 0x80, 0x10], 0), Err(Number::TooLarge));
     assert_eq!(read_entry(&[5, 17], 0), Err(Number::TooLarge));
@@ -127,6 +139,12 @@ fn numbers_that_are_not_read() {
     let (_, mut octets) = request();
     octets.truncate(octets.len() - 2);
     assert_eq!(read_entry(&[&octets[..], &id].concat(), 0), Err(Number::TooLarge));
+    let (_, mut octets) = opening();
+    octets.truncate(octets.len() - 6);
+    assert_eq!(read_entry(&[&octets[..], &id, &[1]].concat(), 0), Err(Number::TooLarge), "a peer");
+    assert_eq!(read_entry(&[&octets[..], &[5, 2]].concat(), 0), Err(Number::TooLarge), "cloning");
+    assert_eq!(read_entry(&[7, 7, 8, 0x80, 2], 0), Err(Number::TooLarge), "a first type of 256");
+    assert_eq!(read_entry(&[7, 7, 8, 0, 0x81, 0x20], 0), Err(Number::TooLarge));
 }
 
 #[test]
@@ -139,6 +157,7 @@ fn what_is_too_large_to_write() {
         Entry::Request(Request { body: &long, ..sound }),
         Entry::Request(Request { cookie: &long, ..sound }),
         Entry::CheckResponse(CheckResponse { spi: 7, id: 0, first: 0, body: &long }),
+        Entry::Clone(CloneRequest { spi: 7, new_spi: 8, first: 0, body: &long }),
         Entry::Policy(Policy { count: 17, ..Policy::EMPTY }),
         Entry::Policy(Policy { count: u16::MAX, ..Policy::EMPTY }),
     ] {
@@ -160,7 +179,7 @@ fn what_is_too_large_to_write() {
 fn slots_that_point_elsewhere() {
     let mut slots = [0; ENTRY_SLOTS];
     let mut out = [9; 200];
-    assert_eq!(write_slots(Kind::Other(7), &slots, &[], &mut out), Err(Number::UnknownKind));
+    assert_eq!(write_slots(Kind::Other(9), &slots, &[], &mut out), Err(Number::UnknownKind));
     for offset in [1, 16, 17, u64::MAX - 15, u64::MAX] {
         slots[3] = offset;
         let told = write_slots(Kind::OpenBoth, &slots, &[0; 16], &mut out);
@@ -171,7 +190,13 @@ fn slots_that_point_elsewhere() {
     let told = write_slots(Kind::OpenBoth, &slots, &[0; 16], &mut out);
     assert_eq!((told, out), (Err(Number::TooLarge), [9; 200]), "a yes or no of 2");
     slots[1] = 1;
-    assert_eq!(write_slots(Kind::OpenBoth, &slots, &[0; 16], &mut out), Ok(39));
+    for (slot, value) in [(8, 1 << 32), (9, 2)] {
+        slots[slot] = value;
+        let told = write_slots(Kind::OpenBoth, &slots, &[0; 16], &mut out);
+        assert_eq!((told, out), (Err(Number::TooLarge), [9; 200]), "slot {slot}");
+        slots[slot] = 0;
+    }
+    assert_eq!(write_slots(Kind::OpenBoth, &slots, &[0; 16], &mut out), Ok(41));
 }
 
 #[test]
@@ -194,13 +219,30 @@ fn slots_of_a_check_response() {
 }
 
 #[test]
+fn slots_of_an_opening_and_a_clone() {
+    let (_, octets) = opening();
+    let (kind, slots, next) = read_slots(&octets, 0).expect("an entry");
+    assert_eq!((kind, next), (Kind::OpenBoth, octets.len()));
+    assert_eq!(slots[..8], [u64::MAX, 0, 6, 13, 29, 300, 5, 0x1122_3344]);
+    assert_eq!(slots[8..10], [u64::from(u32::MAX), 1]);
+    assert_eq!(slots[10..], [0; ENTRY_SLOTS - 10]);
+    let (_, octets) = cloning();
+    let (kind, slots, next) = read_slots(&octets, 0).expect("an entry");
+    assert_eq!((kind, next), (Kind::Clone, octets.len()));
+    assert_eq!(slots[..5], [300, 128, 200, 9, 130]);
+    assert_eq!(slots[5..], [0; ENTRY_SLOTS - 5]);
+}
+
+#[test]
 fn any_yes_is_written_as_1() {
     // SAFETY: a flag is an octet, and any is allowed.
-    let agreed = Agreed { mobike: unsafe { std::mem::transmute::<u8, Flag>(200) } };
+    let yes = unsafe { std::mem::transmute::<u8, Flag>(200) };
+    let agreed = Agreed { mobike: yes, cloning: yes, peer: 5 };
     let mut out = [0; 100];
     let opening = Opening { agreed, ..OPENING };
     assert!(write_entry(&Entry::OpenBoth(opening), &mut out).is_ok());
-    let yes = Opening { agreed: AGREED, ..opening };
+    let agreed = Agreed { mobike: Flag::YES, cloning: Flag::YES, peer: 5 };
+    let yes = Opening { agreed, ..opening };
     assert_eq!(read_entry(&out, 0).map(|(entry, _)| entry), Ok(Entry::OpenBoth(yes)));
 }
 
@@ -208,6 +250,6 @@ fn any_yes_is_written_as_1() {
 fn any_octet_is_a_kind() {
     for octet in 0..=255 {
         assert_eq!(u8::from(Kind::from(octet)), octet);
-        assert_eq!(Kind::from(octet) == Kind::Other(octet), octet > 6);
+        assert_eq!(Kind::from(octet) == Kind::Other(octet), octet > 8);
     }
 }

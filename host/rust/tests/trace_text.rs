@@ -3,14 +3,14 @@
 mod form;
 use form::{to_text, to_trace, Turned};
 use unmavreth::trace::{write_entry, Entry};
-use unmavreth::{Agreed, CheckResponse, Flag, Opening, Pair, Policy, Request, Rule};
+use unmavreth::{Agreed, CheckResponse, CloneRequest, Flag, Opening, Pair, Policy, Request, Rule};
 
-const OPEN: &str = "open 7 1 4 192.0.2.1 198.51.100.1 4500 4500 9\n";
+const OPEN: &str = "open 7 1 4 192.0.2.1 198.51.100.1 4500 4500 9 5 1\n";
 const FOUR: Pair = Pair::ipv4(([192, 0, 2, 1], 4500), ([198, 51, 100, 1], 4500));
 
 /// A line of each kind, and what it says.
 fn lines() -> Vec<(String, Entry<'static>)> {
-    let agreed = Agreed { mobike: Flag::YES };
+    let agreed = Agreed { mobike: Flag::YES, cloning: Flag::YES, peer: 5 };
     let opening = Opening { spi: 7, agreed, pair: FOUR, child: 9 };
     let (mut six, mut gateway) = ([0; 16], [0; 16]);
     six[..4].copy_from_slice(&[0x20, 1, 0xd, 0xb8]);
@@ -27,6 +27,7 @@ fn lines() -> Vec<(String, Entry<'static>)> {
         check_id: 4294967294,
     };
     let response = CheckResponse { spi: 7, id: 4294967294, first: 41, body: &[0x0c; 5] };
+    let clone = CloneRequest { spi: 7, new_spi: u64::MAX, first: 33, body: &[0x0d; 4] };
     let mut rules = Policy { count: 2, ..Policy::EMPTY };
     rules.rules[0] = Rule::ipv4(([10, 0, 0, 0], 8), ([0; 4], 0));
     rules.rules[1] = Rule::ipv6((six, 32), (gateway, 128));
@@ -42,6 +43,8 @@ fn lines() -> Vec<(String, Entry<'static>)> {
         ("policy 0\n", Entry::Policy(Policy::EMPTY)),
         ("policy 2 4 10.0.0.0 0.0.0.0 8 0 6 2001:db8:: ::1 32 128\n", Entry::Policy(rules)),
         ("check-response 7 4294967294 41 0c0c0c0c0c\n", Entry::CheckResponse(response)),
+        ("clone 7 18446744073709551615 33 0d0d0d0d\n", Entry::Clone(clone)),
+        ("mark-deletion 7\n", Entry::MarkDeletion { spi: 7 }),
     ]
     .map(|(line, entry)| (line.to_string(), entry))
     .to_vec()
@@ -80,7 +83,7 @@ fn the_example_of_the_page() {
     assert_eq!(fault, None);
     let plain = |line: &str| line.split('#').next().unwrap_or_default().trim().to_string();
     let lines: Vec<String> = example.lines().map(plain).filter(|line| !line.is_empty()).collect();
-    assert_eq!(lines.len(), 6);
+    assert_eq!(lines.len(), 8);
     assert_eq!(to_text(&octets), sound(lines.join("\n") + "\n"));
 }
 
@@ -101,7 +104,7 @@ fn addresses_in_hex() {
     assert_eq!(to_trace(same.as_bytes()), to_trace(OPEN.as_bytes()));
     for text in [
         OPEN.replace("192.0.2.1", "c0000201000000000000000000000001"),
-        format!("open 7 0 5 {bare} {bare} 1 2 9\n"),
+        format!("open 7 0 5 {bare} {bare} 1 2 9 0 0\n"),
     ] {
         assert_eq!(to_text(&to_trace(text.as_bytes()).octets), sound(text.as_str()));
     }
@@ -123,7 +126,10 @@ fn lines_that_are_not_understood() {
             "18446744073709551616 is not a number in decimal, of 64 bits",
         ),
         ("close-ipsec 4294967296", "22: something is too large for its field"),
-        ("open 7 2 4 ::1 ::1 1 1 9", "22: something is too large for its field"),
+        ("open 7 2 4 ::1 ::1 1 1 9 0 0", "22: something is too large for its field"),
+        ("open 7 1 4 ::1 ::1 1 1 9 4294967296 0", "22: something is too large for its field"),
+        ("open 7 1 4 ::1 ::1 1 1 9 0 2", "22: something is too large for its field"),
+        ("open 7 1 4 ::1 ::1 1 1 9", "a number in decimal, of 64 bits is missing"),
         ("open 7 1 4 192.0.2 ::1 1 1 9", "192.0.2 is not an address"),
         ("open 7 1 4 c000 ::1 1 1 9", "c000 is not an address"),
         ("request 7 1 4 ::1 ::1 1 1 0", "0 is not hex digits, two for each octet, or -"),
@@ -135,6 +141,9 @@ fn lines_that_are_not_understood() {
         ),
         ("check-response 7 1 256 -", "22: something is too large for its field"),
         ("check-response 7 1 0", "hex digits, two for each octet, or - is missing"),
+        ("clone 7 8 256 -", "22: something is too large for its field"),
+        ("clone 7 8 0", "hex digits, two for each octet, or - is missing"),
+        ("mark-deletion", "a number in decimal, of 64 bits is missing"),
         ("policy 1", "a number in decimal, of 64 bits is missing"),
         ("policy 17", "22: something is too large for its field"),
         (&format!("policy 17{rules}"), "22: something is too large for its field"),
@@ -156,7 +165,7 @@ fn strings_of_every_length() {
 
 #[test]
 fn a_trace_that_is_refused() {
-    for (number, octets) in [(20, &[2][..]), (21, &[7]), (22, &[5, 17])] {
+    for (number, octets) in [(20, &[2][..]), (21, &[9]), (22, &[5, 17])] {
         let told = to_text(&[&[2, 7], octets].concat());
         let fault = Some(format!("{number} at 2: the trace is refused here"));
         assert_eq!(told, Turned { octets: b"close 7\n".to_vec(), fault });
@@ -171,8 +180,17 @@ fn the_stored_trace() {
     assert_eq!(fault, None);
     assert_eq!(to_trace(&octets), sound(*trace));
     let text = String::from_utf8(octets).expect("a text");
-    let words =
-        ["open ", "add ", "close ", "close-ipsec ", "request ", "policy ", "check-response "];
+    let words = [
+        "open ",
+        "add ",
+        "close ",
+        "close-ipsec ",
+        "request ",
+        "policy ",
+        "check-response ",
+        "clone ",
+        "mark-deletion ",
+    ];
     for word in words {
         assert!(text.lines().any(|line| line.starts_with(word)), "{word}");
     }

@@ -1,6 +1,7 @@
 // The cases that the programs are compared on: each one is made from the seed and its number alone.
 pub mod assess;
 pub mod checks;
+pub mod clones;
 pub mod entries;
 pub mod orders;
 pub mod reader;

@@ -56,3 +56,31 @@ pub mod met {
         assert_eq!(met.len(), expected.len());
     }
 }
+
+#[cfg(test)]
+mod tests {
+    use super::Kinded;
+    use crate::asking::Arguments;
+    use crate::cases::{clones, entries, reader, requests, round_trips, tables, traces};
+
+    #[test]
+    fn there_are_as_many_listed_cases_as_the_readme_says() {
+        fn listed<C: Kinded>() -> usize {
+            C::listed().len()
+        }
+        let counts = [
+            ("reader", listed::<reader::Case>(), 5_000),
+            ("tables", listed::<tables::Case>(), 9_000),
+            ("requests", listed::<requests::Case>(), 20_000),
+            ("clones", listed::<clones::Case>(), 14_000),
+            ("writer", listed::<Arguments>(), 7_000),
+            ("round-trips", listed::<round_trips::Case>(), 18_000),
+            ("traces", listed::<traces::Case>(), 7_000),
+            ("entries", listed::<entries::Case>(), 10_000),
+        ];
+        for (kind, count, told) in counts {
+            println!("{kind}: {count}");
+            assert!(count > told, "{kind}: {count}");
+        }
+    }
+}

@@ -1,6 +1,7 @@
 // The kinds that this program runs, and the cases of each.
 use crate::assess;
 use crate::checks;
+use crate::clones;
 use crate::entries;
 use crate::orders;
 use crate::reader;
@@ -13,6 +14,7 @@ use crate::traces;
 use crate::writer;
 use reference::cases::assess::AssessCases;
 use reference::cases::checks::ChecksCases;
+use reference::cases::clones::ClonesCases;
 use reference::cases::entries::EntriesCases;
 use reference::cases::orders::OrdersCases;
 use reference::cases::reader::ReaderCases;
@@ -27,7 +29,7 @@ use reference::rules::{Plain, Rules};
 use std::io;
 
 /// The kinds of the library's calls, in the order in which they take turns in a run of all.
-const OF_CALLS: [Kind; 18] = [
+const OF_CALLS: [Kind; 23] = [
     Kind::Reader,
     Kind::Requests,
     Kind::Tables,
@@ -37,12 +39,17 @@ const OF_CALLS: [Kind; 18] = [
     Kind::Tables,
     Kind::Assess,
     Kind::Checks,
+    Kind::Clones,
     Kind::Requests,
     Kind::Orders,
     Kind::Writer,
     Kind::RoundTrips,
     Kind::Checks,
+    Kind::Clones,
     Kind::Writer,
+    Kind::RoundTrips,
+    Kind::Entries,
+    Kind::Assess,
     Kind::RoundTrips,
     Kind::Entries,
     Kind::Redirects,
@@ -79,6 +86,7 @@ pub struct Cases {
     tables: TablesCases,
     requests: RequestsCases,
     checks: ChecksCases,
+    clones: ClonesCases,
     orders: OrdersCases,
     assess: AssessCases,
     writer: WriterCases,
@@ -95,6 +103,7 @@ impl Cases {
             tables: TablesCases::new(seed),
             requests: RequestsCases::new(seed),
             checks: ChecksCases::new(seed),
+            clones: ClonesCases::new(seed),
             orders: OrdersCases::new(seed),
             assess: AssessCases::new(seed),
             writer: WriterCases::new(seed),
@@ -127,6 +136,7 @@ impl Cases {
             Kind::Tables => tables::run(self.tables.case(number), rules, detail),
             Kind::Requests => requests::run(self.requests.case(number), rules, detail),
             Kind::Checks => checks::run(self.checks.case(number), rules, detail),
+            Kind::Clones => clones::run(self.clones.case(number), rules, detail),
             Kind::Orders => orders::run(self.orders.case(number), rules, detail),
             Kind::Assess => assess::run(self.assess.case(number), rules, detail),
             Kind::Writer => writer::run(self.writer.case(number), rules, detail),

@@ -2,6 +2,7 @@
 mod arguments;
 mod assess;
 mod checks;
+mod clones;
 mod entries;
 mod kinds;
 mod orders;

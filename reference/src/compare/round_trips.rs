@@ -5,12 +5,14 @@ use crate::report::{self, Detail};
 use reference::asking::Arguments;
 use reference::asking_fields;
 use reference::cases::{reader, round_trips::Case};
+use reference::cloning::{CloneReply, CloneRequest};
 use reference::outcome::Outcome;
-use reference::plain::plainly_read;
+use reference::plain::{plainly_read, plainly_read_as_clone};
 use reference::round_trips::{
-    expected, is_written_again, written_and_read, Content, Model, Program,
+    expected, is_clone_written_again, is_written_again, written_and_read, Content, Model, Program,
 };
 use reference::rules::Rules;
+use reference::tables::Tables;
 use reference::writer::Written;
 
 /// The library.
@@ -23,6 +25,10 @@ impl Program for Ours {
 
     fn write(&self, arguments: &Arguments) -> Written {
         ours::writer::write(arguments)
+    }
+
+    fn clone(&self, request: &CloneRequest, tables: &mut Tables) -> CloneReply {
+        ours::clones::clone(request, tables).0.reply
     }
 }
 
@@ -55,10 +61,19 @@ fn fields(content: Option<Content>) -> Vec<(String, String)> {
 /// The chain, and whether each program writes it again beside whether it is plainly read.
 fn chain_lines(chain: &reader::Case, rules: &impl Rules, detail: Detail) -> Vec<String> {
     let reader::Case { first, body } = chain;
-    let field = |value: bool| [("the same chain".to_string(), value.to_string())];
-    let plain = field(plainly_read(*first, body, rules));
-    let ours = field(is_written_again(&Ours, *first, body));
-    let reference = field(is_written_again(&Model(rules), *first, body));
+    let fields = |again: bool, clone_again: bool| {
+        let fields = [("the same chain", again), ("the same chain of a clone", clone_again)];
+        fields.map(|(name, value)| (name.to_string(), value.to_string()))
+    };
+    let plain =
+        fields(plainly_read(*first, body, rules), plainly_read_as_clone(*first, body, rules));
+    let ours =
+        fields(is_written_again(&Ours, *first, body), is_clone_written_again(&Ours, *first, body));
+    let model = Model(rules);
+    let reference = fields(
+        is_written_again(&model, *first, body),
+        is_clone_written_again(&model, *first, body),
+    );
     let mut lines = report::chain(*first, body);
     for (name, again) in [("ours", ours), ("reference", reference)] {
         lines.extend(report::side_by_side([(name, &again), ("plainly read", &plain)], detail));

@@ -1,6 +1,6 @@
 // Faults of the payload chain's rules.
 use super::Row;
-use crate::chain::{self, Chain, Class, Payload, NOTIFY};
+use crate::chain::{self, Chain, Class, Exchange, Payload, NOTIFY};
 use crate::flaws::{Cause, Flaw};
 use crate::kind::Kind;
 use crate::notify::{Notify, NotifyType, NOTIFY_LENGTH};
@@ -170,6 +170,36 @@ pub const FAULTS: &[Row<dyn ChainRules>] = &[
         "redirect-supported-size",
         "A REDIRECT_SUPPORTED with data gives 63 in a chain.",
         &RedirectSupportedSize,
+    ),
+    (
+        Kind::Requests,
+        "clone-types-known",
+        "CLONE_IKE_SA_SUPPORTED and CLONE_IKE_SA are known in an INFORMATIONAL request too.",
+        &KnowsClones(|_| true),
+    ),
+    (
+        Kind::Clones,
+        "clone-types-unknown",
+        "They are unknown in a request to clone.",
+        &KnowsClones(|_| false),
+    ),
+    (
+        Kind::Clones,
+        "clone-data-allowed",
+        "In a request to clone they may have data.",
+        &InClones(|cause| cause == Cause::NotifyLength),
+    ),
+    (
+        Kind::Clones,
+        "clone-spi-allowed",
+        "In a request to clone they may have an SPI.",
+        &InClones(|cause| cause == Cause::DataSize),
+    ),
+    (
+        Kind::Clones,
+        "clone-once",
+        "A second CLONE_IKE_SA gives 64.",
+        &CloneOnce,
     ),
     (Kind::Assess, "failed-16384", "Notify type 16384 is told as an error.", &Failed16384),
     (
@@ -507,6 +537,28 @@ struct RedirectSupportedSize;
 impl ChainRules for RedirectSupportedSize {
     fn allows_data(&self, notify_type: NotifyType, size: usize) -> bool {
         Plain.allows_data(notify_type, size) && (notify_type.0 != 16406 || size == 0)
+    }
+}
+
+struct KnowsClones(fn(Exchange) -> bool);
+impl ChainRules for KnowsClones {
+    fn knows_clones(&self, exchange: Exchange) -> bool {
+        self.0(exchange)
+    }
+}
+
+/// Only some of what is wrong is told.
+struct InClones(fn(Cause) -> bool);
+impl ChainRules for InClones {
+    fn causes_in_clones(&self, notify: &Notify) -> Vec<Cause> {
+        Plain.causes_in_clones(notify).into_iter().filter(|&cause| self.0(cause)).collect()
+    }
+}
+
+struct CloneOnce;
+impl ChainRules for CloneOnce {
+    fn may_repeat(&self, notify_type: NotifyType) -> bool {
+        notify_type != NotifyType::CLONE_IKE_SA && Plain.may_repeat(notify_type)
     }
 }
 

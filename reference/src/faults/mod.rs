@@ -9,6 +9,7 @@
 // nothing of it in the program.
 mod chain;
 mod checks;
+mod clones;
 mod orders;
 mod parts;
 mod policy;
@@ -23,8 +24,9 @@ mod writer;
 
 use crate::kind::Kind;
 use crate::rules::{
-    ChainRules, CheckRules, OrderRules, PartRules, Plain, PolicyRules, RedirectRules, ReplayRules,
-    RequestRules, ResponseRules, RoundTripRules, Rules, TableRules, TraceRules, WriterRules,
+    ChainRules, CheckRules, CloneRules, OrderRules, PartRules, Plain, PolicyRules, RedirectRules,
+    ReplayRules, RequestRules, ResponseRules, RoundTripRules, Rules, TableRules, TraceRules,
+    WriterRules,
 };
 
 /// A row of a part's table: the kind of cases that must find the fault, its name, what is wrong, and the wrong rules.
@@ -66,6 +68,7 @@ fn of_every_part() -> Vec<Fault> {
     faults.extend(of_part(policy::FAULTS, |policy| Faulty { policy, ..sound }));
     faults.extend(of_part(requests::FAULTS, |requests| Faulty { requests, ..sound }));
     faults.extend(of_part(checks::FAULTS, |checks| Faulty { checks, ..sound }));
+    faults.extend(of_part(clones::FAULTS, |clones| Faulty { clones, ..sound }));
     faults.extend(of_part(orders::FAULTS, |orders| Faulty { orders, ..sound }));
     faults.extend(of_part(responses::FAULTS, |responses| Faulty { responses, ..sound }));
     faults.extend(of_part(writer::FAULTS, |writer| Faulty { writer, ..sound }));
@@ -96,6 +99,7 @@ pub struct Faulty {
     policy: &'static dyn PolicyRules,
     requests: &'static dyn RequestRules,
     checks: &'static dyn CheckRules,
+    clones: &'static dyn CloneRules,
     orders: &'static dyn OrderRules,
     responses: &'static dyn ResponseRules,
     writer: &'static dyn WriterRules,
@@ -114,6 +118,7 @@ impl Faulty {
         policy: &Plain,
         requests: &Plain,
         checks: &Plain,
+        clones: &Plain,
         orders: &Plain,
         responses: &Plain,
         writer: &Plain,
@@ -131,6 +136,7 @@ impl Rules for Faulty {
     type Policy = dyn PolicyRules;
     type Requests = dyn RequestRules;
     type Checks = dyn CheckRules;
+    type Clones = dyn CloneRules;
     type Orders = dyn OrderRules;
     type Responses = dyn ResponseRules;
     type Writer = dyn WriterRules;
@@ -161,6 +167,10 @@ impl Rules for Faulty {
 
     fn checks(&self) -> &Self::Checks {
         self.checks
+    }
+
+    fn clones(&self) -> &Self::Clones {
+        self.clones
     }
 
     fn orders(&self) -> &Self::Orders {

@@ -3,6 +3,7 @@
 use super::chain::unsplit;
 use super::Row;
 use crate::assess::{Assessed, Verdict};
+use crate::cloning::Cloned;
 use crate::kind::Kind;
 use crate::rules::{Plain, ReplayRules};
 use crate::show::hex;
@@ -32,6 +33,13 @@ pub const FAULTS: &[Row<dyn ReplayRules>] = &[
         "The call that decides a check response isn't made.",
         &LeftOut(6),
     ),
+    (Kind::Traces, "clone-left-out", "The call that clones isn't made.", &LeftOut(7)),
+    (
+        Kind::Traces,
+        "mark-left-out",
+        "The call that marks a record as being deleted isn't made.",
+        &LeftOut(8),
+    ),
     (Kind::Traces, "lent-127", "Requests are lent 127 octets of output.", &Lent127),
     (
         Kind::Traces,
@@ -44,6 +52,12 @@ pub const FAULTS: &[Row<dyn ReplayRules>] = &[
         "accepted-applied",
         "A check response that is accepted is printed as an update that was applied.",
         &AcceptedApplied,
+    ),
+    (
+        Kind::Traces,
+        "cloned-applied",
+        "A clone that is done is printed as an update that was applied.",
+        &ClonedApplied,
     ),
     (Kind::Traces, "ordinals-from-1", "Ordinals count from 1.", &Ordinal(|ordinal| ordinal + 1)),
     (
@@ -166,6 +180,14 @@ impl ReplayRules for AcceptedApplied {
     fn answer_to_check(&self, assessed: &Assessed) -> Answer {
         let update = u8::from(assessed.outcome == Verdict::Accepted as u8);
         Answer { update, ..Plain.answer_to_check(assessed) }
+    }
+}
+
+struct ClonedApplied;
+impl ReplayRules for ClonedApplied {
+    fn answer_to_clone(&self, cloned: &Cloned) -> Answer {
+        let answer = Plain.answer_to_clone(cloned);
+        Answer { update: u8::from(answer.number == 0), ..answer }
     }
 }
 

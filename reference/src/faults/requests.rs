@@ -137,7 +137,13 @@ pub const FAULTS: &[Row<dyn RequestRules>] = &[
         Kind::Requests,
         "moved-agreed-1",
         "An update that is applied sets the octet of what is agreed to 1.",
-        &MovedAgreed1,
+        &MoveIke(|record| record.agreed.mobike = 1),
+    ),
+    (
+        Kind::Requests,
+        "moved-undeleted",
+        "An update that is applied clears the mark for being deleted.",
+        &MoveIke(|record| record.deleting = 0),
     ),
     (
         Kind::Requests,
@@ -530,10 +536,11 @@ impl RequestRules for TwinsMove {
     }
 }
 
-struct MovedAgreed1;
-impl RequestRules for MovedAgreed1 {
+/// More of the IKE record changes than its pair.
+struct MoveIke(fn(&mut IkeRecord));
+impl RequestRules for MoveIke {
     fn move_ike(&self, record: &mut IkeRecord, pair: AddressPair) {
-        record.agreed.mobike = 1;
+        self.0(record);
         Plain.move_ike(record, pair);
     }
 }

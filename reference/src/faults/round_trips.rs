@@ -1,7 +1,7 @@
 // Faults of the rules of the round trips: wrong turns of what is asked of them, as those of demand 3 are.
 use super::Row;
 use crate::address::{Address, AddressPair};
-use crate::asking::Arguments;
+use crate::asking::{Arguments, Ask};
 use crate::chain::{Class, Payload};
 use crate::kind::Kind;
 use crate::notify::NotifyType;
@@ -28,6 +28,24 @@ pub const FAULTS: &[Row<dyn RoundTripRules>] = &[
         "asked-values-always",
         "The NAT values are to be read back where neither kind is asked for.",
         &AskedValuesAlways,
+    ),
+    (
+        Kind::RoundTrips,
+        "asked-clone-known",
+        "The reader of other chains is to know CLONE_IKE_SA_SUPPORTED and CLONE_IKE_SA.",
+        &AskedCloneKnown,
+    ),
+    (
+        Kind::RoundTrips,
+        "asked-support-clones",
+        "A written CLONE_IKE_SA_SUPPORTED is to make a clone.",
+        &AskedSupportClones,
+    ),
+    (
+        Kind::RoundTrips,
+        "plain-clone-protocol",
+        "The protocol ID of CLONE_IKE_SA may be any.",
+        &PlainCloneProtocol,
     ),
     (
         Kind::RoundTrips,
@@ -112,6 +130,32 @@ struct AskedValuesAlways;
 impl RoundTripRules for AskedValuesAlways {
     fn asked_value(&self, _is_asked: bool, value: &[u8]) -> Vec<u8> {
         value.to_vec()
+    }
+}
+
+struct AskedCloneKnown;
+impl RoundTripRules for AskedCloneKnown {
+    fn asked_unknown(&self, _ask: &Ask) -> usize {
+        0
+    }
+}
+
+struct AskedSupportClones;
+impl RoundTripRules for AskedSupportClones {
+    fn asked_in_rekey(&self, ask: &Ask) -> u8 {
+        if ask.clone_supported {
+            0
+        } else {
+            Plain.asked_in_rekey(ask)
+        }
+    }
+}
+
+struct PlainCloneProtocol;
+impl RoundTripRules for PlainCloneProtocol {
+    fn is_plain_clone(&self, payloads: &[Payload]) -> bool {
+        let [payload] = payloads else { return false };
+        notify_type(payload) == Some(NotifyType::CLONE_IKE_SA) && payload.flags == 0
     }
 }
 

@@ -3,6 +3,7 @@ use super::Row;
 use crate::address::AddressPair;
 use crate::calls::{Refusal, User};
 use crate::closing;
+use crate::deleting;
 use crate::kind::Kind;
 use crate::opening::Check as Of;
 use crate::opening_both::Check::{
@@ -22,6 +23,18 @@ pub const FAULTS: &[Row<dyn TableRules>] = &[
     (Kind::Tables, "spi-32-bits", "IKE SPIs are compared by their low 32 bits.", &Spi32Bits),
     (Kind::Tables, "highest-twin", "Of places with the same SPI the highest is meant.", &HighestTwin),
     (Kind::Tables, "highest-free-place", "Opening takes the highest free place.", &HighestFreePlace),
+    (
+        Kind::Clones,
+        "clone-highest-free-place",
+        "A clone takes the highest free place.",
+        &HighestFreePlace,
+    ),
+    (
+        Kind::Clones,
+        "clone-highest-twin",
+        "Of places with the original's SPI the highest is cloned.",
+        &HighestTwin,
+    ),
     (
         Kind::Tables,
         "list-of-127",
@@ -129,13 +142,13 @@ pub const FAULTS: &[Row<dyn TableRules>] = &[
         Kind::Tables,
         "open-leaves-list",
         "A new IKE record keeps the addresses that were left in its place.",
-        &NewIke(|new, left| new.addresses = left.addresses),
+        &NewIke(|new, left, _| new.addresses = left.addresses),
     ),
     (
         Kind::Tables,
         "open-leaves-marks",
         "A new IKE record keeps the marks that were left in its place.",
-        &NewIke(|new, left| {
+        &NewIke(|new, left, _| {
             (new.update_mark, new.list_mark) = (left.update_mark, left.list_mark);
         }),
     ),
@@ -143,7 +156,19 @@ pub const FAULTS: &[Row<dyn TableRules>] = &[
         Kind::Tables,
         "open-leaves-check",
         "A new IKE record keeps the pending check that was left in its place.",
-        &NewIke(|new, left| new.check = left.check),
+        &NewIke(|new, left, _| new.check = left.check),
+    ),
+    (
+        Kind::Tables,
+        "open-leaves-deletion",
+        "A new IKE record keeps the mark for being deleted that was left in its place.",
+        &NewIke(|new, left, _| new.deleting = left.deleting),
+    ),
+    (
+        Kind::Tables,
+        "open-cloning-as-given",
+        "A new IKE record keeps the octet of cloning as it was given.",
+        &NewIke(|new, _, opening| new.agreed.cloning = opening.agreed.cloning),
     ),
     (
         Kind::Tables,
@@ -222,6 +247,37 @@ pub const FAULTS: &[Row<dyn TableRules>] = &[
         "close-leaves-check",
         "Closing leaves the cookie of a pending check, without its length.",
         &Freed(|freed, closed| freed.check.octets = closed.check.octets),
+    ),
+    (
+        Kind::Tables,
+        "close-leaves-peer",
+        "Closing leaves the peer's number.",
+        &Freed(|freed, closed| freed.agreed.peer = closed.agreed.peer),
+    ),
+    (
+        Kind::Tables,
+        "close-leaves-deletion",
+        "Closing leaves the mark for being deleted.",
+        &Freed(|freed, closed| freed.deleting = closed.deleting),
+    ),
+    (Kind::Tables, "mark-spi-0-unknown", "Marking SPI 0 gives 4.", &MarkSpi0Unknown),
+    (
+        Kind::Tables,
+        "mark-once",
+        "Marking a record that is being deleted gives 4.",
+        &Markable(|record| record.deleting == 0),
+    ),
+    (
+        Kind::Tables,
+        "mark-not-set",
+        "The mark for being deleted isn't set.",
+        &Marked(|marked, record| marked.deleting = record.deleting),
+    ),
+    (
+        Kind::Tables,
+        "mark-kept",
+        "A mark that is set already keeps its octet.",
+        &Marked(|marked, record| marked.deleting = record.deleting.max(1)),
     ),
     (
         Kind::Tables,
@@ -354,11 +410,11 @@ impl TableRules for Stays {
     }
 }
 
-struct NewIke(fn(&mut IkeRecord, &IkeRecord));
+struct NewIke(fn(&mut IkeRecord, &IkeRecord, &Opening));
 impl TableRules for NewIke {
     fn new_ike(&self, left: &IkeRecord, opening: &Opening) -> IkeRecord {
         let mut new = Plain.new_ike(left, opening);
-        self.0(&mut new, left);
+        self.0(&mut new, left, opening);
         new
     }
 }
@@ -416,6 +472,29 @@ impl TableRules for ListAfterRecord {
     fn order_of_closing(&self) -> &'static [closing::Check] {
         use closing::Check::{List, Record, Spi0};
         &[Spi0, Record, List]
+    }
+}
+
+struct MarkSpi0Unknown;
+impl TableRules for MarkSpi0Unknown {
+    fn order_of_marking(&self) -> &'static [deleting::Check] {
+        &[deleting::Check::Record]
+    }
+}
+
+struct Markable(fn(&IkeRecord) -> bool);
+impl TableRules for Markable {
+    fn markable(&self, records: &[IkeRecord; IKE_PLACES], spi: u64) -> Option<usize> {
+        Plain.markable(records, spi).filter(|&place| self.0(&records[place]))
+    }
+}
+
+struct Marked(fn(&mut IkeRecord, &IkeRecord));
+impl TableRules for Marked {
+    fn marked(&self, record: &IkeRecord) -> IkeRecord {
+        let mut marked = Plain.marked(record);
+        self.0(&mut marked, record);
+        marked
     }
 }
 

@@ -132,6 +132,28 @@ pub const FAULTS: &[Row<dyn TraceRules>] = &[
         "The ID of a check response comes before its SPI.",
         &Exchanged(6, &[Part::Id, Part::IkeSpi]),
     ),
+    (Kind::Traces, "kind-7-unknown", "A clone gives 21.", &KindUnknown(7)),
+    (Kind::Traces, "kind-8-unknown", "The mark for being deleted gives 21.", &KindUnknown(8)),
+    (
+        Kind::Traces,
+        "new-spi-first",
+        "The new SPI of a clone comes before the original's.",
+        &Exchanged(7, &[Part::NewSpi, Part::IkeSpi]),
+    ),
+    (
+        Kind::Traces,
+        "cloning-before-peer",
+        "Of an opening, whether cloning is agreed comes before the peer.",
+        &Exchanged(0, &[Part::Cloning, Part::Peer]),
+    ),
+    (Kind::Traces, "peer-left-out", "An opening has no peer.", &LeftOut(Part::Peer)),
+    (
+        Kind::Traces,
+        "cloning-left-out",
+        "An opening doesn't say whether cloning is agreed.",
+        &LeftOut(Part::Cloning),
+    ),
+    (Kind::Traces, "peer-cut", "A peer past 32 bits is cut to them.", &Cut(Field::Peer)),
     (
         Kind::Traces,
         "addresses-turned",
@@ -400,6 +422,13 @@ impl TraceRules for Exchanged {
             places.zip(self.1).for_each(|(place, part)| *place = *part);
         }
         layout
+    }
+}
+
+struct LeftOut(Part);
+impl TraceRules for LeftOut {
+    fn layout(&self, kind: u64) -> Vec<Part> {
+        Plain.layout(kind).into_iter().filter(|&part| part != self.0).collect()
     }
 }
 

@@ -1,7 +1,7 @@
 // Faults of the request writer's rules.
 use super::Row;
 use crate::address::{octet_count, Address, AddressPair};
-use crate::asking::{Arguments, Check, LEAST_OUTPUT};
+use crate::asking::{Arguments, Ask, Check, LEAST_OUTPUT};
 use crate::chain::{HEADER_LENGTH, NOTIFY};
 use crate::kind::Kind;
 use crate::notifications::{no_nats_data, Notification};
@@ -63,6 +63,36 @@ pub const FAULTS: &[Row<dyn WriterRules>] = &[
         "cookie-7-written",
         "A cookie of 7 octets is written.",
         &AllowsCookie(|size| size == 7),
+    ),
+    (
+        Kind::Writer,
+        "clone-beside-update",
+        "CLONE_IKE_SA is written beside an update.",
+        &Beside(|it| it.ask.update = false),
+    ),
+    (
+        Kind::Writer,
+        "clone-beside-cookie",
+        "CLONE_IKE_SA is written beside a cookie.",
+        &Beside(|it| it.cookie.clear()),
+    ),
+    (
+        Kind::Writer,
+        "clone-beside-support",
+        "CLONE_IKE_SA and CLONE_IKE_SA_SUPPORTED are written together.",
+        &Beside(|it| it.ask.clone_supported &= !it.ask.clone),
+    ),
+    (
+        Kind::Writer,
+        "support-beside-any",
+        "CLONE_IKE_SA_SUPPORTED is written beside anything.",
+        &SupportBesideAny,
+    ),
+    (
+        Kind::Writer,
+        "written-clone-exchanged",
+        "CLONE_IKE_SA is written for CLONE_IKE_SA_SUPPORTED, and the other way round.",
+        &CloneExchanged,
     ),
     (
         Kind::Writer,
@@ -230,6 +260,32 @@ struct AllowsCookie(fn(usize) -> bool);
 impl WriterRules for AllowsCookie {
     fn allows_cookie(&self, size: usize) -> bool {
         self.0(size) || Plain.allows_cookie(size)
+    }
+}
+
+/// Some of what is asked for may stand beside the two of clones.
+struct Beside(fn(&mut Arguments));
+impl WriterRules for Beside {
+    fn is_alone(&self, arguments: &Arguments) -> bool {
+        let mut others = arguments.clone();
+        self.0(&mut others);
+        Plain.is_alone(&others)
+    }
+}
+
+struct SupportBesideAny;
+impl WriterRules for SupportBesideAny {
+    fn must_be_alone(&self, ask: &Ask) -> bool {
+        ask.clone
+    }
+}
+
+struct CloneExchanged;
+impl WriterRules for CloneExchanged {
+    fn notifications(&self, arguments: &Arguments) -> Vec<Notification> {
+        let mut ask = arguments.ask;
+        (ask.clone, ask.clone_supported) = (ask.clone_supported, ask.clone);
+        Plain.notifications(&Arguments { ask, ..arguments.clone() })
     }
 }
 

@@ -1,6 +1,6 @@
-// The rules of the payload chain: document 01, "The payload chain", with request E4 of document 02.
+// The rules of the payload chain: document 01, "The payload chain", with requests E4 and E8 of document 02.
 use crate::address::AddressPair;
-use crate::chain::{Chain, Class, Payload, CRITICAL, NOTIFY};
+use crate::chain::{Chain, Class, Exchange, Payload, CRITICAL, NOTIFY};
 use crate::flaws::{Cause, Flaw};
 use crate::notify::{Notify, NotifyType, NOTIFY_LENGTH};
 use crate::reader::MAX_BODY;
@@ -69,7 +69,7 @@ pub trait ChainRules {
     }
 
     /// "a second UPDATE_SA_ADDRESSES, NO_ADDITIONAL_ADDRESSES, COOKIE2, NO_NATS_ALLOWED or
-    /// NAT_DETECTION_DESTINATION_IP" is malformed.
+    /// NAT_DETECTION_DESTINATION_IP" is malformed; E8 adds none to these.
     fn may_repeat(&self, notify_type: NotifyType) -> bool {
         !NotifyType::ONCE.contains(&notify_type)
     }
@@ -110,6 +110,19 @@ pub trait ChainRules {
             causes.push(Cause::DataSize);
         }
         causes
+    }
+
+    /// E8: CLONE_IKE_SA_SUPPORTED and CLONE_IKE_SA are "known and decided only in a CREATE_CHILD_SA request given as
+    /// an IKE rekey"; elsewhere, "Every other notify type is tallied as unknown, whatever its SPI or data."
+    fn knows_clones(&self, exchange: Exchange) -> bool {
+        exchange == Exchange::Rekey
+    }
+
+    /// E8, of the two where they are known: "no data" (63), and as in the table "an SPI size there other than 0" (62).
+    fn causes_in_clones(&self, notify: &Notify) -> Vec<Cause> {
+        let spi = (notify.spi_size != 0).then_some(Cause::NotifyLength);
+        let data = (!notify.data.is_empty()).then_some(Cause::DataSize);
+        spi.into_iter().chain(data).collect()
     }
 
     /// "a second UPDATE_SA_ADDRESSES, .." is the one that is malformed.

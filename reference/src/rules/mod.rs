@@ -2,6 +2,7 @@
 // whatever gives a set of rules for each part; this one goes by the methods as they stand here.
 mod chain;
 mod checks;
+mod clones;
 mod orders;
 mod parts;
 mod policy;
@@ -16,6 +17,7 @@ mod writer;
 
 pub use chain::ChainRules;
 pub use checks::CheckRules;
+pub use clones::CloneRules;
 pub use orders::OrderRules;
 pub use parts::PartRules;
 pub use policy::PolicyRules;
@@ -36,6 +38,7 @@ pub trait Rules {
     type Policy: PolicyRules + ?Sized;
     type Requests: RequestRules + ?Sized;
     type Checks: CheckRules + ?Sized;
+    type Clones: CloneRules + ?Sized;
     type Orders: OrderRules + ?Sized;
     type Responses: ResponseRules + ?Sized;
     type Writer: WriterRules + ?Sized;
@@ -50,6 +53,7 @@ pub trait Rules {
     fn policy(&self) -> &Self::Policy;
     fn requests(&self) -> &Self::Requests;
     fn checks(&self) -> &Self::Checks;
+    fn clones(&self) -> &Self::Clones;
     fn orders(&self) -> &Self::Orders;
     fn responses(&self) -> &Self::Responses;
     fn writer(&self) -> &Self::Writer;
@@ -69,6 +73,7 @@ impl TableRules for Plain {}
 impl PolicyRules for Plain {}
 impl RequestRules for Plain {}
 impl CheckRules for Plain {}
+impl CloneRules for Plain {}
 impl OrderRules for Plain {}
 impl ResponseRules for Plain {}
 impl WriterRules for Plain {}
@@ -84,6 +89,7 @@ impl Rules for Plain {
     type Policy = Plain;
     type Requests = Plain;
     type Checks = Plain;
+    type Clones = Plain;
     type Orders = Plain;
     type Responses = Plain;
     type Writer = Plain;
@@ -113,6 +119,10 @@ impl Rules for Plain {
     }
 
     fn checks(&self) -> &Plain {
+        self
+    }
+
+    fn clones(&self) -> &Plain {
         self
     }
 

@@ -1,6 +1,7 @@
-// The rules of a replay: requests E3 and E6 of document 02, with docs/TRACE.md for the form of what is printed.
+// The rules of a replay: requests E3, E6 and E8 of document 02, with docs/TRACE.md for the form of what is printed.
 use crate::address::AddressPair;
 use crate::assess::Assessed;
+use crate::cloning::Cloned;
 use crate::request::LEAST_OUTPUT;
 use crate::show::hex;
 use crate::trace::lines::Shown;
@@ -33,6 +34,11 @@ pub trait ReplayRules {
     /// verdict, which isn't printed.
     fn answer_to_check(&self, assessed: &Assessed) -> Answer {
         Answer { number: assessed.number, ..Answer::default() }
+    }
+
+    /// The same of a clone request, which may be written of but updates nothing and has no list.
+    fn answer_to_clone(&self, cloned: &Cloned) -> Answer {
+        Answer { number: cloned.reply.number, ..Answer::default() }
     }
 
     /// "per entry, its ordinal", as in "`0 4 none none`".

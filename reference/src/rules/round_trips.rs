@@ -1,5 +1,5 @@
 // The rules of the round trips: document 01, "The display's end", of which requests read back as they were asked for,
-// and which chains are plainly read.
+// and which chains are plainly read; with request E8 of document 02 for CLONE_IKE_SA_SUPPORTED and CLONE_IKE_SA.
 use crate::address::{Address, AddressPair};
 use crate::asking::{Arguments, Ask};
 use crate::chain::{Payload, HEADER_LENGTH};
@@ -10,11 +10,27 @@ use crate::summary::MAX_KEPT;
 pub trait RoundTripRules {
     /// "that count equals the number of payloads in the chain": one for each that is asked for.
     fn asked_payloads(&self, arguments: &Arguments) -> usize {
-        let Ask { update, no_nats, nat_source, nat_destination, no_additional, count } =
-            arguments.ask;
-        let cookie = !arguments.cookie.is_empty();
-        let single = [update, no_nats, nat_source, nat_destination, no_additional, cookie];
-        single.into_iter().filter(|&asked| asked).count() + usize::from(count)
+        let ask = arguments.ask;
+        let kinds = [ask.nat_source, ask.nat_destination];
+        let of_clones = [ask.clone_supported, ask.clone];
+        let others = [ask.update, ask.no_nats, ask.no_additional, !arguments.cookie.is_empty()];
+        let single = kinds.into_iter().chain(of_clones).chain(others);
+        single.filter(|&asked| asked).count() + usize::from(ask.count)
+    }
+
+    /// E8: the two are "known .. only in a CREATE_CHILD_SA request given as an IKE rekey", so that the reader of other
+    /// chains tallies them.
+    fn asked_unknown(&self, ask: &Ask) -> usize {
+        usize::from(ask.clone_supported) + usize::from(ask.clone)
+    }
+
+    /// E8: in such a request, the one is there and the clone made, or 44, "no CLONE_IKE_SA there".
+    fn asked_in_rekey(&self, ask: &Ask) -> u8 {
+        if ask.clone {
+            0
+        } else {
+            44
+        }
     }
 
     /// "in a list newly kept or given they are 0", the places past the count.
@@ -51,6 +67,13 @@ pub trait RoundTripRules {
                 .filter(|&it| place_in_order(it).is_some() && self.has_zero_header(payload))
         });
         types.collect()
+    }
+
+    /// E8: "each written only alone". No paper decides which chains with the two are plainly read; by decision that of
+    /// the one alone, in the clone's reading, by which CLONE_IKE_SA is told.
+    fn is_plain_clone(&self, payloads: &[Payload]) -> bool {
+        let [payload] = payloads else { return false };
+        notify_type(payload) == Some(NotifyType::CLONE_IKE_SA) && self.has_zero_header(payload)
     }
 
     /// "zero flags and protocol IDs".

@@ -1,9 +1,10 @@
 // The rules of the tables and of opening and closing: document 01, "Tables" and "The numbers given back", with
-// request E1 of document 02.
+// requests E1 and E8 of document 02.
 use crate::address::AddressPair;
 use crate::agreed::Agreed;
 use crate::calls::{refuse_if, Refusal, User};
 use crate::closing;
+use crate::deleting;
 use crate::opening;
 use crate::opening_both::{Check, Half, Opening};
 use crate::tables::{
@@ -37,7 +38,8 @@ pub trait TableRules {
         length == IPSEC_PLACES
     }
 
-    /// "MOBIKE agreed or not". No paper decides which octets say yes; every one but 0 by decision.
+    /// "MOBIKE agreed or not"; E8: "whether cloning is agreed". No paper decides which octets say yes; every one but 0
+    /// by decision.
     fn is_yes(&self, octet: u8) -> bool {
         octet != 0
     }
@@ -74,9 +76,12 @@ pub trait TableRules {
         failing.is_empty()
     }
 
-    /// "A new IKE record has no marks, an empty list, tally 0", whatever was left in its place.
+    /// "A new IKE record has no marks, an empty list, tally 0", whatever was left in its place; E8: it gains, "at
+    /// opening, a 32-bit peer number and whether cloning is agreed", "and a mark for being deleted".
     fn new_ike(&self, _left: &IkeRecord, opening: &Opening) -> IkeRecord {
-        let agreed = Agreed { mobike: self.kept_yes(opening.agreed.mobike) };
+        let Agreed { mobike, cloning, peer } = opening.agreed;
+        let (mobike, cloning) = (self.kept_yes(mobike), self.kept_yes(cloning));
+        let agreed = Agreed { mobike, cloning, peer };
         IkeRecord { spi: opening.spi, agreed, pair: opening.pair, ..IkeRecord::FREE }
     }
 
@@ -127,6 +132,23 @@ pub trait TableRules {
     fn order_of_closing(&self) -> &'static [closing::Check] {
         use closing::Check::{List, Record, Spi0};
         &[Spi0, List, Record]
+    }
+
+    /// E8: "a mark for being deleted, set by a call (checks 1, 4)", whether or not it is set already.
+    fn order_of_marking(&self) -> &'static [deleting::Check] {
+        use deleting::Check::{Record, Spi0};
+        &[Spi0, Record]
+    }
+
+    /// The same: the place that is meant, if the record may be marked.
+    fn markable(&self, records: &[IkeRecord; IKE_PLACES], spi: u64) -> Option<usize> {
+        find(records, spi, self)
+    }
+
+    /// The same, of the record that is meant and of nothing else in it. No paper decides what is kept for yes; 1 by
+    /// decision.
+    fn marked(&self, record: &IkeRecord) -> IkeRecord {
+        IkeRecord { deleting: 1, ..*record }
     }
 
     /// "closing sets all its fields to 0 or none".

@@ -1,4 +1,5 @@
-// The rules of a trace's entries, read and written: requests E3 and E6 of document 02, and the header for the calls.
+// The rules of a trace's entries, read and written: requests E3, E6 and E8 of document 02, and the header for the
+// calls.
 use crate::trace::entry::Entry;
 use crate::trace::fields::{Field, Part, MOST_OCTETS, MOST_RULES};
 use crate::trace::numbers::{group, GROUP_BITS, MORE_FOLLOW};
@@ -36,11 +37,11 @@ pub trait TraceRules {
     }
 
     /// "lists led by their count (at most 16), octet strings by their length (at most 4,096)"; "family and prefix
-    /// length 8 bits, yes or no 1"; other fields as document 01 has them.
+    /// length 8 bits, yes or no 1"; E8: "a 32-bit peer number"; other fields as document 01 has them.
     fn most(&self, field: Field) -> u64 {
         match field {
             Field::IkeSpi => u64::MAX,
-            Field::IpsecSpi | Field::Id => u64::from(u32::MAX),
+            Field::IpsecSpi | Field::Id | Field::Peer => u64::from(u32::MAX),
             Field::Port => u64::from(u16::MAX),
             Field::Family | Field::FirstType | Field::PrefixLength => u64::from(u8::MAX),
             Field::Agreed => 1,
@@ -70,9 +71,10 @@ pub trait TraceRules {
     }
 
     /// "kind (0 open both, 1 add IPsec, 2 close IKE, 3 close IPsec, 4 request, 5 policy)"; "later table calls .. join
-    /// at the end", so that 6 is a check response; "21 unknown kind", whatever stands behind it.
+    /// at the end", so that 6 is a check response, and of E8 7 is a clone and 8 the mark for being deleted, by decision
+    /// in this order; "21 unknown kind", whatever stands behind it.
     fn kind(&self, number: u64) -> Result<u64, Refusal> {
-        if number <= 6 {
+        if number <= 8 {
             Ok(number)
         } else {
             Err(Refusal::UnknownKind)
@@ -83,15 +85,15 @@ pub trait TraceRules {
     /// IPsec records "SPI .., owning IKE SPI", a request "SPI, ID, packet's pair, the two NAT values, first type,
     /// body". The IPsec SPI of an opening comes last by decision. "later table calls and fields join at the end as
     /// named": E6's "a cookie of 8 to 64 octets and the ID of our request", and "a response (SPI, ID, first type,
-    /// body)".
+    /// body)"; E8's "a 32-bit peer number and whether cloning is agreed", and "(SPI, new SPI, first type, body)".
     fn layout(&self, kind: u64) -> Vec<Part> {
         use Part::{
-            Agreed, Body, CheckId, Cookie, FirstType, Id, IkeSpi, IpsecSpi, NatDestination,
-            NatSource, Rules,
+            Agreed, Body, CheckId, Cloning, Cookie, FirstType, Id, IkeSpi, IpsecSpi,
+            NatDestination, NatSource, NewSpi, Peer, Rules,
         };
         let pair = &Part::PAIR[..];
         match kind {
-            0 => [&[IkeSpi, Agreed], pair, &[IpsecSpi]].concat(),
+            0 => [&[IkeSpi, Agreed], pair, &[IpsecSpi, Peer, Cloning]].concat(),
             1 => vec![IpsecSpi, IkeSpi],
             2 => vec![IkeSpi],
             3 => vec![IpsecSpi],
@@ -100,7 +102,9 @@ pub trait TraceRules {
                 [&[IkeSpi, Id], pair, &behind].concat()
             }
             5 => vec![Rules],
-            _ => vec![IkeSpi, Id, FirstType, Body],
+            6 => vec![IkeSpi, Id, FirstType, Body],
+            7 => vec![IkeSpi, NewSpi, FirstType, Body],
+            _ => vec![IkeSpi],
         }
     }
 

@@ -1,6 +1,7 @@
-// The rules of the request writer: document 01, "The display's end" and "The numbers given back".
+// The rules of the request writer: document 01, "The display's end" and "The numbers given back", with request E8 of
+// document 02.
 use crate::address::{octet_count, Address};
-use crate::asking::{may_be_sent, Arguments, Check, LEAST_OUTPUT};
+use crate::asking::{may_be_sent, Arguments, Ask, Check, LEAST_OUTPUT};
 use crate::notifications::{self, first_type, no_nats_data, Notification};
 use crate::notify::{NotifyType, NOTIFY_LENGTH};
 use crate::request::NAT_VALUE_LENGTH;
@@ -23,6 +24,19 @@ pub trait WriterRules {
             && self.are_values_sound(arguments)
             && self.is_list_sound(arguments)
             && self.allows_cookie(arguments.cookie.len())
+            && (!self.must_be_alone(&arguments.ask) || self.is_alone(arguments))
+    }
+
+    /// E8, of CLONE_IKE_SA_SUPPORTED and CLONE_IKE_SA: "each written only alone by the display's writer (else 1)".
+    fn must_be_alone(&self, ask: &Ask) -> bool {
+        ask.clone_supported || ask.clone
+    }
+
+    /// The same: nothing else is asked for beside the one of the two, a cookie neither.
+    fn is_alone(&self, arguments: &Arguments) -> bool {
+        let Ask { clone_supported, clone, .. } = arguments.ask;
+        let alone = Ask { clone_supported, clone, ..Ask::default() };
+        arguments.ask == alone && clone_supported != clone && arguments.cookie.is_empty()
     }
 
     /// 1 is "family not 4 or 6, IPv4 tail not zero"; "arguments for what isn't asked for, aren't looked at".
@@ -76,7 +90,8 @@ pub trait WriterRules {
     }
 
     /// "The writer writes, in this order, those asked for: update, NO_NATS_ALLOWED, NAT source, NAT destination
-    /// (both or neither), NO_ADDITIONAL_ADDRESSES or 1 to 16 addresses, cookie."
+    /// (both or neither), NO_ADDITIONAL_ADDRESSES or 1 to 16 addresses, cookie"; E8: CLONE_IKE_SA_SUPPORTED and
+    /// CLONE_IKE_SA, "no data".
     fn notifications(&self, arguments: &Arguments) -> Vec<Notification> {
         let Arguments { ask, nat_source, nat_destination, cookie, .. } = arguments;
         let (source, destination) = (nat_source.clone(), nat_destination.clone());
@@ -86,6 +101,8 @@ pub trait WriterRules {
             (ask.nat_source, (NotifyType::NAT_DETECTION_SOURCE_IP, source)),
             (ask.nat_destination, (NotifyType::NAT_DETECTION_DESTINATION_IP, destination)),
             (ask.no_additional, (NotifyType::NO_ADDITIONAL_ADDRESSES, vec![])),
+            (ask.clone_supported, (NotifyType::CLONE_IKE_SA_SUPPORTED, vec![])),
+            (ask.clone, (NotifyType::CLONE_IKE_SA, vec![])),
         ];
         let asked = before_list.into_iter().filter(|(asked, _)| *asked);
         let mut notifications: Vec<_> = asked.map(|(_, notification)| notification).collect();

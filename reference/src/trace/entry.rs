@@ -6,13 +6,15 @@ use crate::policy;
 
 #[derive(Debug, Clone, PartialEq, Eq)]
 pub enum Entry {
-    OpenBoth { spi: u64, agreed: u64, pair: Pair, child: u64 },
+    OpenBoth(Opening),
     AddIpsec { spi: u64, owner: u64 },
     CloseIke { spi: u64 },
     CloseIpsec { spi: u64 },
     Request(Request),
     Policy { count: u64, rules: Box<Rules> },
     CheckResponse { spi: u64, id: u64, first: u64, body: Vec<u8> },
+    Clone { spi: u64, new_spi: u64, first: u64, body: Vec<u8> },
+    MarkDeletion { spi: u64 },
 }
 
 /// Those past the count aren't looked at.
@@ -25,6 +27,18 @@ pub struct Pair {
     pub destination: AddressOctets,
     pub source_port: u64,
     pub destination_port: u64,
+}
+
+#[derive(Debug, Clone, Copy, Default, PartialEq, Eq)]
+pub struct Opening {
+    pub spi: u64,
+    /// MOBIKE.
+    pub agreed: u64,
+    pub pair: Pair,
+    /// The SPI of the IPsec record.
+    pub child: u64,
+    pub peer: u64,
+    pub cloning: u64,
 }
 
 #[derive(Debug, Clone, Default, PartialEq, Eq)]
@@ -53,13 +67,15 @@ pub struct Rule {
 impl Entry {
     pub fn kind(&self) -> u64 {
         match self {
-            Entry::OpenBoth { .. } => 0,
+            Entry::OpenBoth(_) => 0,
             Entry::AddIpsec { .. } => 1,
             Entry::CloseIke { .. } => 2,
             Entry::CloseIpsec { .. } => 3,
             Entry::Request(_) => 4,
             Entry::Policy { .. } => 5,
             Entry::CheckResponse { .. } => 6,
+            Entry::Clone { .. } => 7,
+            Entry::MarkDeletion { .. } => 8,
         }
     }
 

@@ -7,6 +7,8 @@ pub enum Field {
     IpsecSpi,
     /// Yes or no.
     Agreed,
+    /// A peer's number.
+    Peer,
     Id,
     Family,
     Port,
@@ -27,6 +29,10 @@ pub enum Part {
     IkeSpi,
     IpsecSpi,
     Agreed,
+    Peer,
+    Cloning,
+    /// That of a clone.
+    NewSpi,
     Id,
     Family,
     Source,
@@ -63,9 +69,10 @@ impl Part {
 
     pub fn form(self) -> Form {
         match self {
-            Part::IkeSpi => Form::Number(Field::IkeSpi),
+            Part::IkeSpi | Part::NewSpi => Form::Number(Field::IkeSpi),
             Part::IpsecSpi => Form::Number(Field::IpsecSpi),
-            Part::Agreed => Form::Number(Field::Agreed),
+            Part::Agreed | Part::Cloning => Form::Number(Field::Agreed),
+            Part::Peer => Form::Number(Field::Peer),
             Part::Id | Part::CheckId => Form::Number(Field::Id),
             Part::Family => Form::Number(Field::Family),
             Part::SourcePort | Part::DestinationPort => Form::Number(Field::Port),

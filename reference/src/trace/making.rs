@@ -4,6 +4,7 @@ use crate::address::AddressPair;
 use crate::agreed::Agreed;
 use crate::calls::Call;
 use crate::check::{decide, CheckResponse};
+use crate::cloning::{clone, CloneRequest};
 use crate::handler::handle;
 use crate::opening_both::Opening;
 use crate::policy::{self, RuleList};
@@ -31,11 +32,19 @@ impl Entry {
                 let response = CheckResponse { spi: *spi, id, first, body };
                 return of.replay().answer_to_check(&decide(&response, tables, of));
             }
-            Entry::OpenBoth { spi, agreed, pair, child } => {
-                let agreed = Agreed { mobike: *agreed as u8 };
+            Entry::Clone { spi, new_spi, first, body } => {
+                let (spi, new_spi, first) = (*spi, *new_spi, *first as u8);
+                let (body, output) = (body.clone(), vec![0; of.replay().output_lent()]);
+                let request = CloneRequest { spi, new_spi, first, body, output };
+                return of.replay().answer_to_clone(&clone(&request, tables, of));
+            }
+            Entry::OpenBoth(entry::Opening { spi, agreed, pair, child, peer, cloning }) => {
+                let (mobike, cloning, peer) = (*agreed as u8, *cloning as u8, *peer as u32);
+                let agreed = Agreed { mobike, cloning, peer };
                 let (pair, child) = (pair.narrow(), *child as u32);
                 Call::OpenBoth(Opening { spi: *spi, agreed, pair, child })
             }
+            Entry::MarkDeletion { spi } => Call::MarkDeletion { spi: *spi },
             Entry::AddIpsec { spi, owner } => Call::OpenIpsec { spi: *spi as u32, owner: *owner },
             Entry::CloseIke { spi } => Call::CloseIke { spi: *spi },
             Entry::CloseIpsec { spi } => Call::CloseIpsec { spi: *spi as u32 },

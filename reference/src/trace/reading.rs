@@ -1,6 +1,6 @@
 // Reading an entry: its kind, then its fields in their order, up to the first that can't be read.
 use super::cursor::Cursor;
-use super::entry::{Entry, Pair, Request, Rule, Rules};
+use super::entry::{Entry, Opening, Pair, Request, Rule, Rules};
 use super::fields::{Field, Form, Part};
 use super::Refusal;
 use crate::address::AddressOctets;
@@ -87,12 +87,14 @@ impl Parts {
 
     fn entry(mut self, kind: u64) -> Entry {
         match kind {
-            0 => Entry::OpenBoth {
+            0 => Entry::OpenBoth(Opening {
                 spi: self.number(Part::IkeSpi),
                 agreed: self.number(Part::Agreed),
                 pair: self.pair(),
                 child: self.number(Part::IpsecSpi),
-            },
+                peer: self.number(Part::Peer),
+                cloning: self.number(Part::Cloning),
+            }),
             1 => Entry::AddIpsec {
                 spi: self.number(Part::IpsecSpi),
                 owner: self.number(Part::IkeSpi),
@@ -104,12 +106,19 @@ impl Parts {
                 count: self.number(Part::Rules),
                 rules: self.rules.unwrap_or_default(),
             },
-            _ => Entry::CheckResponse {
+            6 => Entry::CheckResponse {
                 spi: self.number(Part::IkeSpi),
                 id: self.number(Part::Id),
                 first: self.number(Part::FirstType),
                 body: self.string(Part::Body),
             },
+            7 => Entry::Clone {
+                spi: self.number(Part::IkeSpi),
+                new_spi: self.number(Part::NewSpi),
+                first: self.number(Part::FirstType),
+                body: self.string(Part::Body),
+            },
+            _ => Entry::MarkDeletion { spi: self.number(Part::IkeSpi) },
         }
     }
 
@@ -239,6 +248,20 @@ mod tests {
         assert_eq!(refusal(&[0, 7, 1, 0x80, 2]), Refusal::TooLarge);
         assert_eq!(refusal(&[0, 7, 2]), Refusal::TooLarge);
         assert_eq!(refusal(&[0, 7, 1, 4, 0, 0]), Refusal::Cut);
+        // What stands at an opening's end: a peer past 32 bits, and yes or no past a bit.
+        let opening = |end: &[u8]| [&[0, 7, 1, 4][..], &[0; 32], &[1, 1, 9], end].concat();
+        assert_eq!(refusal(&opening(&[])), Refusal::Cut);
+        assert_eq!(refusal(&opening(&[5])), Refusal::Cut);
+        assert_eq!(refusal(&opening(&[0x80, 0x80, 0x80, 0x80, 0x10])), Refusal::TooLarge);
+        assert_eq!(refusal(&opening(&[5, 2])), Refusal::TooLarge);
+        assert!(read(&opening(&[0xff, 0xff, 0xff, 0xff, 0x0f, 1]), 0, &Plain).is_ok());
+        // A clone without a first type or a body, and one whose body is cut or too long.
+        assert_eq!(refusal(&[7, 7, 8]), Refusal::Cut);
+        assert_eq!(refusal(&[7, 7, 8, 0x80, 2]), Refusal::TooLarge);
+        assert_eq!(refusal(&[7, 7, 8, 41, 8, 0]), Refusal::Cut);
+        assert_eq!(refusal(&[7, 7, 8, 41, 0x81, 0x20]), Refusal::TooLarge);
+        assert_eq!(refusal(&[8]), Refusal::Cut);
+        assert!(read(&[8, 7], 0, &Plain).is_ok());
         // A count over 16 with no rule behind it, and 16 with none.
         assert_eq!(refusal(&[5, 17]), Refusal::TooLarge);
         assert_eq!(refusal(&[5, 16]), Refusal::Cut);

@@ -74,7 +74,7 @@ mod tests {
         let trace = examples::all_kinds();
         let whole = printed(&trace);
         let starts = starts(&trace);
-        assert_eq!(starts[..5], [0, 41, 78, 82, 86]);
+        assert_eq!(starts[..5], [0, 43, 80, 84, 88]);
         for length in 0..=trace.len() {
             let before = starts.iter().filter(|&&start| start <= length).count() - 1;
             let lines: Vec<&str> = whole.lines().take(before).collect();
@@ -104,7 +104,10 @@ mod tests {
 8 0 none none
 9 0 none none
 10 0 none none
+11 0 none none
+12 0 none none
 ike 7 4 c0000201000000000000000000000000 c6336401000000000000000000000000 4500 4500
+ike 8 4 cb007107000000000000000000000000 c6336401000000000000000000000000 1024 4500
 ipsec 9 4 c0000201000000000000000000000000 c6336401000000000000000000000000 4500 4500
 ";
         assert_eq!(printed(&examples::all_kinds()), expected);
@@ -114,7 +117,7 @@ ipsec 9 4 c0000201000000000000000000000000 c6336401000000000000000000000000 4500
     fn pairs_come_by_place_and_with_all_their_octets() {
         let open = |spi: u8, family: u8, child: u8| {
             let pair = [vec![family], vec![0xab; 4], vec![0; 28], vec![1, 2]].concat();
-            [vec![0, spi, 1], pair, vec![child]].concat()
+            [vec![0, spi, 1], pair, vec![child, 0, 0]].concat()
         };
         let trace = [open(9, 4, 8), open(3, 6, 5), vec![2, 9], open(7, 4, 6)].concat();
         let (ab, zeros) = ("ab".repeat(4), "0".repeat(24));

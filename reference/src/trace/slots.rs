@@ -1,7 +1,7 @@
 // An entry as the library's two calls take and tell it: its kind, and slots in the order of its fields. A
 // number has one; an address one, its offset in octets that are lent; a string two, its offset there and its
 // length; a list one for its count, and those of its items.
-use super::entry::{Entry, Pair, Request, Rule, Rules};
+use super::entry::{Entry, Opening, Pair, Request, Rule, Rules};
 use super::fields::Field;
 use super::writing::{pieces, Piece};
 use crate::address::AddressOctets;
@@ -34,11 +34,11 @@ pub fn of_entry(entry: &Entry, start: usize) -> Slots {
 /// How many slots a kind has, with this many items in its list if it has one.
 pub fn count(kind: u8, items: usize) -> usize {
     match kind {
-        0 => 8,
+        0 => 10,
         1 => 2,
-        2 | 3 => 1,
+        2 | 3 | 8 => 1,
         4 => 17,
-        6 => 5,
+        6 | 7 => 5,
         _ => 1 + 5 * items,
     }
 }
@@ -60,12 +60,14 @@ pub fn meant(
 ) -> Option<Meant> {
     let mut taking = Taking { slots: slots.iter(), source, within: true, rules };
     let entry = match kind {
-        0 => Entry::OpenBoth {
+        0 => Entry::OpenBoth(Opening {
             spi: taking.number(),
             agreed: taking.number(),
             pair: taking.pair(),
             child: taking.number(),
-        },
+            peer: taking.number(),
+            cloning: taking.number(),
+        }),
         1 => Entry::AddIpsec { spi: taking.number(), owner: taking.number() },
         2 => Entry::CloseIke { spi: taking.number() },
         3 => Entry::CloseIpsec { spi: taking.number() },
@@ -77,6 +79,13 @@ pub fn meant(
             first: taking.number(),
             body: taking.string(),
         },
+        7 => Entry::Clone {
+            spi: taking.number(),
+            new_spi: taking.number(),
+            first: taking.number(),
+            body: taking.string(),
+        },
+        8 => Entry::MarkDeletion { spi: taking.number() },
         _ => return None,
     };
     Some(Meant { entry, within: taking.within })
@@ -188,6 +197,7 @@ mod tests {
         let slots = of_entry(&samples()[0], 100);
         // Kind, a number of six octets, yes; the family, both addresses.
         assert_eq!(slots[..8], [1 << 40, 1, 4, 109, 125, 4500, 500, 300]);
+        assert_eq!(slots[8..11], [70_000, 1, 0]);
         let slots = of_entry(&samples()[6], 0);
         assert_eq!(slots[..7], [7, 300, 4, 5, 21, 1024, 500]);
         assert_eq!(slots[7..17], [42, 20, 63, 20, 41, 85, 12, 98, 8, 70_000]);
@@ -207,6 +217,7 @@ mod tests {
         (slots[7], slots[8]) = (u64::MAX, 1);
         assert!(!within(&slots, 4, 17));
         assert!(within(&[0; SLOTS], 5, 0) && !within(&[1; SLOTS], 5, 0));
-        assert!(meant(7, &slots, &[], &Plain).is_none());
+        assert!(meant(8, &slots, &[], &Plain).is_some());
+        assert!(meant(9, &slots, &[], &Plain).is_none());
     }
 }

@@ -1,5 +1,5 @@
 // Writing an entry: every field that is too large is found first (22), then an output too short (2).
-use super::entry::{Entry, Pair, Request, Rule};
+use super::entry::{Entry, Opening, Pair, Request, Rule};
 use super::fields::{Field, Part};
 use super::slots::Meant;
 use crate::address::AddressOctets;
@@ -99,6 +99,9 @@ pub fn pieces<'a>(entry: &'a Entry, rules: &(impl TraceRules + ?Sized)) -> Vec<P
             Entry::CheckResponse { spi, id, first, body } => {
                 pieces.extend(of_check_response(*spi, *id, *first, body, part));
             }
+            Entry::Clone { spi, new_spi, first, body } => {
+                pieces.extend(of_clone(*spi, *new_spi, *first, body, part));
+            }
             _ => pieces.push(of_table_call(entry, part)),
         }
     }
@@ -107,17 +110,31 @@ pub fn pieces<'a>(entry: &'a Entry, rules: &(impl TraceRules + ?Sized)) -> Vec<P
 
 fn of_table_call(entry: &Entry, part: Part) -> Piece<'_> {
     match (entry, part) {
-        (Entry::OpenBoth { spi, .. }, Part::IkeSpi) => Piece::Number(Field::IkeSpi, *spi),
-        (Entry::OpenBoth { agreed, .. }, Part::Agreed) => Piece::Number(Field::Agreed, *agreed),
-        (Entry::OpenBoth { child, .. }, Part::IpsecSpi) => Piece::Number(Field::IpsecSpi, *child),
-        (Entry::OpenBoth { pair, .. }, _) => of_pair(pair, part),
+        (Entry::OpenBoth(opening), _) => of_opening(opening, part),
         (Entry::AddIpsec { owner, .. }, Part::IkeSpi) => Piece::Number(Field::IkeSpi, *owner),
         (Entry::AddIpsec { spi, .. }, _) => Piece::Number(Field::IpsecSpi, *spi),
-        (Entry::CloseIke { spi }, _) => Piece::Number(Field::IkeSpi, *spi),
-        (Entry::CloseIpsec { spi }, _) => Piece::Number(Field::IpsecSpi, *spi),
-        (Entry::Request(_) | Entry::Policy { .. } | Entry::CheckResponse { .. }, _) => {
-            unreachable!("no call on records")
+        (Entry::CloseIke { spi } | Entry::MarkDeletion { spi }, _) => {
+            Piece::Number(Field::IkeSpi, *spi)
         }
+        (Entry::CloseIpsec { spi }, _) => Piece::Number(Field::IpsecSpi, *spi),
+        (
+            Entry::Request(_)
+            | Entry::Policy { .. }
+            | Entry::CheckResponse { .. }
+            | Entry::Clone { .. },
+            _,
+        ) => unreachable!("no call on records alone"),
+    }
+}
+
+fn of_opening(opening: &Opening, part: Part) -> Piece<'_> {
+    match part {
+        Part::IkeSpi => Piece::Number(Field::IkeSpi, opening.spi),
+        Part::Agreed => Piece::Number(Field::Agreed, opening.agreed),
+        Part::IpsecSpi => Piece::Number(Field::IpsecSpi, opening.child),
+        Part::Peer => Piece::Number(Field::Peer, opening.peer),
+        Part::Cloning => Piece::Number(Field::Agreed, opening.cloning),
+        _ => of_pair(&opening.pair, part),
     }
 }
 
@@ -130,6 +147,15 @@ fn of_check_response(spi: u64, id: u64, first: u64, body: &[u8], part: Part) -> 
     match part {
         Part::IkeSpi => vec![Piece::Number(Field::IkeSpi, spi)],
         Part::Id => vec![Piece::Number(Field::Id, id)],
+        Part::FirstType => vec![Piece::Number(Field::FirstType, first)],
+        _ => string(body),
+    }
+}
+
+fn of_clone(spi: u64, new_spi: u64, first: u64, body: &[u8], part: Part) -> Vec<Piece<'_>> {
+    match part {
+        Part::IkeSpi => vec![Piece::Number(Field::IkeSpi, spi)],
+        Part::NewSpi => vec![Piece::Number(Field::IkeSpi, new_spi)],
         Part::FirstType => vec![Piece::Number(Field::FirstType, first)],
         _ => string(body),
     }

@@ -15,7 +15,7 @@ use Rattle.given.proofs.outcome.Outcome.Laws as O′
 use Rattle.given.proofs.reading.Slots as E
 use Rattle.given.proofs.reading.Slots.Laws as E′
 use Rattle.acts.specs.Performed.{Gateway, Performed, Performs, openedBy, addedBy, closedBy, childClosedBy, handledBy}
-use Rattle.acts.specs.Performed.{policySetBy, checkedBy, ikeShownBy, ipsecShownBy}
+use Rattle.acts.specs.Performed.{policySetBy, checkedBy, clonedBy, markedBy, ikeShownBy, ipsecShownBy}
 use Rattle.given.specs.declared.outcome.Outcome.{Outcome}
 use Rattle.acts.proofs.Signed.{Act, Params, Known, Post, Says, signature, ended, clauses, vals, slots-vals}
 use Rattle.acts.proofs.Signed.{outcome-vals, outcome-val, exits, acts, ike, ipsec, policy, window, entry, out}
@@ -38,6 +38,10 @@ use Rattle.act_policy.proofs.policy_entry.Symbol as sets-policy-def
 use Rattle.act_policy.proofs.policy_entry.Met as sets-policy-thm
 use Rattle.act_check.proofs.check_entry.Symbol as checks-def
 use Rattle.act_check.proofs.check_entry.Met as checks-thm
+use Rattle.act_clone.proofs.clone_entry.Symbol as clones-def
+use Rattle.act_clone.proofs.clone_entry.Met as clones-thm
+use Rattle.act_tables.proofs.mark_entry.Symbol as marks-def
+use Rattle.act_tables.proofs.mark_entry.Met as marks-thm
 use Rattle.act_shown.proofs.show_ike.Symbol as shows-ike-def
 use Rattle.act_shown.proofs.show_ike.Met as shows-ike-thm
 use Rattle.act_shown.proofs.show_ipsec.Symbol as shows-ipsec-def
@@ -69,6 +73,12 @@ sets-policy s e room = policySetBy s (e .slots)
 abbrev checks : Act
 checks s e room = checkedBy s (e .slots)
 
+abbrev clones : Act
+clones s e room = clonedBy s (e .slots) room
+
+abbrev marks : Act
+marks s e room = markedBy (e .slots)
+
 abbrev shows-ike : Act
 shows-ike s e room = ikeShownBy (e .slots)
 
@@ -76,11 +86,17 @@ abbrev shows-ipsec : Act
 shows-ipsec s e room = ipsecShownBy (e .slots)
 
 -- what the kinds from one on come to
+abbrev from-10 : Act
+from-10 = shows-ipsec
+
+abbrev from-9 : Act
+from-9 s e room = cond (eqb (e .kind) 254) (shows-ike s e room) (from-10 s e room)
+
 abbrev from-8 : Act
-from-8 = shows-ipsec
+from-8 s e room = cond (eqb (e .kind) 8) (marks s e room) (from-9 s e room)
 
 abbrev from-7 : Act
-from-7 s e room = cond (eqb (e .kind) 254) (shows-ike s e room) (from-8 s e room)
+from-7 s e room = cond (eqb (e .kind) 7) (clones s e room) (from-8 s e room)
 
 abbrev from-6 : Act
 from-6 s e room = cond (eqb (e .kind) 6) (checks s e room) (from-7 s e room)
@@ -135,6 +151,8 @@ module _ {M : Type 1} (𝓤 : URA M) (H : Heap 𝓤) (A : Atoms 𝓤) (W : Given
       (known-requests : Triple 𝓤 (C requests-def.name) (Told 𝓤 H A ended (clauses 𝓤 requests)))
       (known-sets-policy : Triple 𝓤 (C sets-policy-def.name) (Told 𝓤 H A ended (clauses 𝓤 sets-policy)))
       (known-checks : Triple 𝓤 (C checks-def.name) (Told 𝓤 H A ended (clauses 𝓤 checks)))
+      (known-clones : Triple 𝓤 (C clones-def.name) (Told 𝓤 H A ended (clauses 𝓤 clones)))
+      (known-marks : Triple 𝓤 (C marks-def.name) (Told 𝓤 H A ended (clauses 𝓤 marks)))
       (known-shows-ike : Triple 𝓤 (C shows-ike-def.name) (Told 𝓤 H A ended (clauses 𝓤 shows-ike)))
       (known-shows-ipsec : Triple 𝓤 (C shows-ipsec-def.name) (Told 𝓤 H A ended (clauses 𝓤 shows-ipsec))) where
     module _ (l : Lie (code.function .locals)) where
@@ -148,9 +166,9 @@ module _ {M : Type 1} (𝓤 : URA M) (H : Heap 𝓤) (A : Atoms 𝓤) (W : Given
           ∷ just (only (ptr-vals (policy a))) ∷ just (only (slice-vals (window a))) ∷ just (only (slots-vals (entry a)))
           ∷ just (only (slice-vals (out a))) ∷ b ∷ []) En []
 
-      kind-8 : (b : Val) → at-hand from-8 ≡ at-hand from-0 → Sq W (Given-all (just b))
-          (runs C Λ En mir′.t-17 (atRet En Done))
-      kind-8 b same =
+      kind-10 : (b : Val) → at-hand from-10 ≡ at-hand from-0 → Sq W (Given-all (just b))
+          (runs C Λ En mir′.t-21 (atRet En Done))
+      kind-10 b same =
           sets ! (addr ! (behind ! refl (stop !))) refl (tt, tt) $
           sets ! (addr ! (behind-part ! refl (sub ! 0 refl (whole !)) (stop !))) refl (tt, tt) $
           sets ! (agg ! (and-then ! (value ! refl) (and-then ! (part ! refl (sub ! 1 refl (whole !))) (no-more !))))
@@ -167,9 +185,9 @@ module _ {M : Type 1} (𝓤 : URA M) (H : Heap 𝓤) (A : Atoms 𝓤) (W : Given
           lands-in ! refl (LL.lawful O.the-type O′.the-laws 𝓤 H A W .typed r _ is .0) $ hands ! refl $
           ends ! refl refl $ by ! (leaves shows-ipsec same r is ws e))
 
-      kind-7 : (b : Val) → at-hand from-7 ≡ at-hand from-0 → Sq W (Given-all (just b))
-          (runs C Λ En mir′.t-15 (atRet En Done))
-      kind-7 b same =
+      kind-9 : (b : Val) → at-hand from-9 ≡ at-hand from-0 → Sq W (Given-all (just b))
+          (runs C Λ En mir′.t-19 (atRet En Done))
+      kind-9 b same =
           resets ! (bin ! (part ! refl (sub ! 0 refl (whole !))) (neg-lit ! tt) tt) refl (tt, tt) $ first ! $
           branches ! (value ! refl) (λ yes.
           sets ! (addr ! (behind ! refl (stop !))) refl (tt, tt) $
@@ -187,9 +205,57 @@ module _ {M : Type 1} (𝓤 : URA M) (H : Heap 𝓤) (A : Atoms 𝓤) (W : Given
           (λ r ws. id⊢ 𝓤 _) (λ r ws e is.
           lands-in ! refl (LL.lawful O.the-type O′.the-laws 𝓤 H A W .typed r _ is .0) $ hands-within ! Done refl refl $
           ends ! refl refl $ by ! (leaves shows-ike (chosen (eqb (entry a .kind) 254) (at-hand shows-ike)
+          (at-hand from-10) yes ∙ same) r is ws e)))
+          (λ no. skips ! $ exec ! C Λ En mir′.t-21 (atRet En Done) $
+          kind-10 _ (left (eqb (entry a .kind) 254) (at-hand shows-ike) (at-hand from-10) no ∙ same))
+
+      kind-8 : (b : Val) → at-hand from-8 ≡ at-hand from-0 → Sq W (Given-all (just b))
+          (runs C Λ En mir′.t-17 (atRet En Done))
+      kind-8 b same =
+          resets ! (bin ! (part ! refl (sub ! 0 refl (whole !))) (lit ! tt) tt) refl (tt, tt) $ first ! $
+          branches ! (value ! refl) (λ yes.
+          sets ! (addr ! (behind ! refl (stop !))) refl (tt, tt) $
+          sets ! (addr ! (behind-part ! refl (sub ! 0 refl (whole !)) (stop !))) refl (tt, tt) $
+          sets ! (agg ! (and-then ! (value ! refl) (and-then ! (part ! refl (sub ! 1 refl (whole !))) (no-more !))))
+          refl (tt, (tt, (record { fits = known .1 .0 .0 .1 .0 }, tt))) $
+          sets ! (addr ! (behind ! refl (stop !))) refl (tt, tt) $
+          sets ! (addr ! (behind-part ! refl (sub ! 0 refl (whole !)) (stop !))) refl (tt, tt) $
+          sets ! (agg ! (and-then ! (value ! refl) (and-then ! (part ! refl (sub ! 1 refl (whole !))) (no-more !))))
+          refl (tt, (tt, (record { fits = known .1 .1 .1 .1 .1 .0 .0 .1 .0 }, tt))) $
+          calls-all ! fm ended (clauses 𝓤 marks) known-marks ((κs, qs, tt, a, vals κs a), tt) (id⊢ 𝓤 _)
+          (and-then ! (value ! refl) (and-then ! (value ! refl) (and-then ! (value ! refl) (and-then ! (value ! refl)
+          (and-then ! (value ! refl) (and-then ! (value ! refl) (no-more !)))))))
+          outcome-vals (LL.tells O.the-type O′.the-laws) (λ r ws. Says a marks r (ws .0) (ws .1 .0) (ws .1 .1 .0))
+          (λ r ws. id⊢ 𝓤 _) (λ r ws e is.
+          lands-in ! refl (LL.lawful O.the-type O′.the-laws 𝓤 H A W .typed r _ is .0) $ hands-within ! Done refl refl $
+          ends ! refl refl $ by ! (leaves marks (chosen (eqb (entry a .kind) 8) (at-hand marks)
+          (at-hand from-9) yes ∙ same) r is ws e)))
+          (λ no. skips ! $ exec ! C Λ En mir′.t-19 (atRet En Done) $
+          kind-9 _ (left (eqb (entry a .kind) 8) (at-hand marks) (at-hand from-9) no ∙ same))
+
+      kind-7 : (b : Val) → at-hand from-7 ≡ at-hand from-0 → Sq W (Given-all (just b))
+          (runs C Λ En mir′.t-15 (atRet En Done))
+      kind-7 b same =
+          resets ! (bin ! (part ! refl (sub ! 0 refl (whole !))) (lit ! tt) tt) refl (tt, tt) $ first ! $
+          branches ! (value ! refl) (λ yes.
+          sets ! (addr ! (behind ! refl (stop !))) refl (tt, tt) $
+          sets ! (addr ! (behind-part ! refl (sub ! 0 refl (whole !)) (stop !))) refl (tt, tt) $
+          sets ! (agg ! (and-then ! (value ! refl) (and-then ! (part ! refl (sub ! 1 refl (whole !))) (no-more !))))
+          refl (tt, (tt, (record { fits = known .1 .0 .0 .1 .0 }, tt))) $
+          sets ! (addr ! (behind ! refl (stop !))) refl (tt, tt) $
+          sets ! (addr ! (behind-part ! refl (sub ! 0 refl (whole !)) (stop !))) refl (tt, tt) $
+          sets ! (agg ! (and-then ! (value ! refl) (and-then ! (part ! refl (sub ! 1 refl (whole !))) (no-more !))))
+          refl (tt, (tt, (record { fits = known .1 .1 .1 .1 .1 .0 .0 .1 .0 }, tt))) $
+          calls-all ! fm ended (clauses 𝓤 clones) known-clones ((κs, qs, tt, a, vals κs a), tt) (id⊢ 𝓤 _)
+          (and-then ! (value ! refl) (and-then ! (value ! refl) (and-then ! (value ! refl) (and-then ! (value ! refl)
+          (and-then ! (value ! refl) (and-then ! (value ! refl) (no-more !)))))))
+          outcome-vals (LL.tells O.the-type O′.the-laws) (λ r ws. Says a clones r (ws .0) (ws .1 .0) (ws .1 .1 .0))
+          (λ r ws. id⊢ 𝓤 _) (λ r ws e is.
+          lands-in ! refl (LL.lawful O.the-type O′.the-laws 𝓤 H A W .typed r _ is .0) $ hands-within ! Done refl refl $
+          ends ! refl refl $ by ! (leaves clones (chosen (eqb (entry a .kind) 7) (at-hand clones)
           (at-hand from-8) yes ∙ same) r is ws e)))
           (λ no. skips ! $ exec ! C Λ En mir′.t-17 (atRet En Done) $
-          kind-8 _ (left (eqb (entry a .kind) 254) (at-hand shows-ike) (at-hand from-8) no ∙ same))
+          kind-8 _ (left (eqb (entry a .kind) 7) (at-hand clones) (at-hand from-8) no ∙ same))
 
       kind-6 : (b : Val) → at-hand from-6 ≡ at-hand from-0 → Sq W (Given-all (just b))
           (runs C Λ En mir′.t-13 (atRet En Done))
@@ -392,6 +458,10 @@ perform-spec 𝓤 H 𝓜 𝓖 𝓡 =
     code.calls-act-policy·policy-entry (sets-policy-thm.met 𝓤 H 𝓜 𝓖 𝓡))
     (cited 𝓤 H (Told 𝓤 H A ended (clauses 𝓤 checks)) 𝓜 𝓡 code.env checks-def.name checks-def.routine
     code.calls-act-check·check-entry (checks-thm.met 𝓤 H 𝓜 𝓖 𝓡))
+    (cited 𝓤 H (Told 𝓤 H A ended (clauses 𝓤 clones)) 𝓜 𝓡 code.env clones-def.name clones-def.routine
+    code.calls-act-clone·clone-entry (clones-thm.met 𝓤 H 𝓜 𝓖 𝓡))
+    (cited 𝓤 H (Told 𝓤 H A ended (clauses 𝓤 marks)) 𝓜 𝓡 code.env marks-def.name marks-def.routine
+    code.calls-act-tables·mark-entry (marks-thm.met 𝓤 H 𝓜 𝓖 𝓡))
     (cited 𝓤 H (Told 𝓤 H A ended (clauses 𝓤 shows-ike)) 𝓜 𝓡 code.env shows-ike-def.name shows-ike-def.routine
     code.calls-act-shown·show-ike (shows-ike-thm.met 𝓤 H 𝓜 𝓖 𝓡))
     (cited 𝓤 H (Told 𝓤 H A ended (clauses 𝓤 shows-ipsec)) 𝓜 𝓡 code.env shows-ipsec-def.name shows-ipsec-def.routine

@@ -41,6 +41,14 @@ put-fields-spec =
     (λ c κs. rw (c .before .before .enum-told7 .given .1) at
     (c .before .before .before .before .before .before .before .pre))
     (λ c. search needs)
+    (λ c. search needs)
+    (λ c κs. rw (c .before .before .enum-told8 .given .1) at
+    (c .before .before .before .before .before .before .before .pre))
+    (λ c. search needs)
+    (λ c. search needs)
+    (λ c κs. rw (c .before .before .enum-told9 .given .1) at
+    (c .before .before .before .before .before .before .before .pre))
+    (λ c. search needs)
     (λ c. rw (c .before .before .before .before .before .enum-told .given .1) (c .before .before .put-table .ensures))
     (λ c. search needs)
     (λ c. rw (c .before .before .before .before .before .enum-told2 .given .1) (c .before .before .put-table2 .ensures))
@@ -55,4 +63,10 @@ put-fields-spec =
     (c .before .before .put-listed .ensures))
     (λ c. search needs)
     (λ c. rw (c .before .before .before .before .before .enum-told7 .given .1)
-    (c .before .before .put-table6 .ensures)))
+    (c .before .before .put-table6 .ensures))
+    (λ c. search needs)
+    (λ c. rw (c .before .before .before .before .before .enum-told8 .given .1)
+    (c .before .before .put-table7 .ensures))
+    (λ c. search needs)
+    (λ c. rw (c .before .before .before .before .before .enum-told9 .given .1)
+    (c .before .before .put-table8 .ensures)))

@@ -43,6 +43,19 @@ pub struct Assessment {
     pub(crate) cookie_len: u16,
 }
 
+/// What [`clone_ike`](crate::clone_ike) gives: all but the table and the response's octets.
+#[repr(C)]
+#[must_use = "its number may be a refusal"]
+#[derive(Debug, Clone, Copy, PartialEq, Eq)]
+pub struct CloneReply {
+    pub(crate) number: u8,
+    pub(crate) first: u8,
+    pub(crate) payloads: u16,
+    pub(crate) offset: u16,
+    pub(crate) ordinal: u16,
+    pub(crate) length: u16,
+}
+
 /// A part of lent octets: where it begins and how many there are.
 #[repr(C)]
 #[derive(Clone, Copy)]
@@ -58,5 +71,8 @@ laid_out!(Reply, size 18, align 2, {
 laid_out!(Written, size 4, align 2, { number: 0, first: 1, length: 2 });
 laid_out!(Assessment, size 16, align 4, {
     number: 0, outcome: 1, payloads: 2, offset: 4, ordinal: 6, tally: 8, cookie: 12, cookie_len: 14,
+});
+laid_out!(CloneReply, size 10, align 2, {
+    number: 0, first: 1, payloads: 2, offset: 4, ordinal: 6, length: 8,
 });
 laid_out!(Part, size 16, align 8, { start: 0, octets: 8 });

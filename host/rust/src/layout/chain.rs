@@ -70,7 +70,7 @@ pub struct Reading {
 }
 
 /// What a request of ours is to carry. The library only reads it, so that its flags, octets in C, are
-/// `bool` here.
+/// `bool` here. Each of the last two is asked for alone: with nothing else here, and no cookie.
 #[repr(C)]
 #[derive(Debug, Clone, Copy, Default, PartialEq, Eq)]
 pub struct Ask {
@@ -86,6 +86,10 @@ pub struct Ask {
     pub no_additional: bool,
     /// How many of the additional addresses, at most [`ADDRESSES_MOST`].
     pub count: u16,
+    /// CLONE_IKE_SA_SUPPORTED, for IKE_AUTH.
+    pub clone_supported: bool,
+    /// CLONE_IKE_SA, for a rekey of the IKE SA.
+    pub clone: bool,
 }
 
 laid_out!(Tally, size 10, align 2, {
@@ -97,6 +101,7 @@ laid_out!(Seen, size 74, align 2, {
     no_nats_len: 18, cookie: 20, cookie_len: 22, list: 24,
 });
 laid_out!(Reading, size 80, align 2, { number: 0, critical: 1, offset: 2, ordinal: 4, seen: 6 });
-laid_out!(Ask, size 8, align 2, {
+laid_out!(Ask, size 10, align 2, {
     update: 0, no_nats: 1, nat_source: 2, nat_destination: 3, no_additional: 4, count: 6,
+    clone_supported: 8, clone: 9,
 });

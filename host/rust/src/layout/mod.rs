@@ -25,7 +25,7 @@ mod tables;
 pub(crate) use addresses::AddressList;
 pub use addresses::{Address, Pair};
 pub(crate) use answers::Part;
-pub use answers::{Assessment, Reply, Written};
+pub use answers::{Assessment, CloneReply, Reply, Written};
 pub use chain::{Ask, Offsets, Reading, Seen, Tally};
 pub(crate) use entries::{EntryRead, EntryWritten};
 pub use flag::Flag;

@@ -2,12 +2,17 @@
 use super::{Address, Flag, Pair};
 use crate::limits::{ADDRESSES_MOST, COOKIE_LEAST, COOKIE_MOST};
 
-/// What is agreed when an IKE record is opened; it stays until the record is closed.
+/// What is agreed when an IKE record is opened, and with whom. It stays until the record is closed, and a
+/// clone has the same.
 #[repr(C)]
 #[derive(Debug, Clone, Copy, Default, PartialEq, Eq)]
 pub struct Agreed {
     /// Whether MOBIKE was agreed.
     pub mobike: Flag,
+    /// Whether both ends sent CLONE_IKE_SA_SUPPORTED.
+    pub cloning: Flag,
+    /// The host's number for the peer, one for all IKE SAs with it; any number, 0 too.
+    pub peer: u32,
 }
 
 /// The return routability check (RFC 4555, 3.7) that is under way for an IKE record. A length outside 8 to
@@ -46,6 +51,8 @@ pub struct IkeRecord {
     pub unknown: u32,
     /// The check of the update that was last applied, until a response ends it.
     pub check: PendingCheck,
+    /// Whether it is being deleted, from [`mark_deletion`](crate::mark_deletion) on until it is closed.
+    pub deleting: Flag,
 }
 
 /// An IPsec record. A place is free while its SPI is 0.
@@ -74,18 +81,18 @@ pub struct Opening {
     pub child: u32,
 }
 
-laid_out!(Agreed, size 1, align 1, { mobike: 0 });
+laid_out!(Agreed, size 8, align 4, { mobike: 0, cloning: 1, peer: 4 });
 laid_out!(PendingCheck, size 72, align 4, { length: 0, octets: 1, id: 68 });
-laid_out!(IkeRecord, size 416, align 8, {
-    spi: 0, agreed: 8, pair: 10, update_mark: 48, list_mark: 56, count: 64, addresses: 66, unknown: 340,
-    check: 344,
+laid_out!(IkeRecord, size 432, align 8, {
+    spi: 0, agreed: 8, pair: 16, update_mark: 56, list_mark: 64, count: 72, addresses: 74, unknown: 348,
+    check: 352, deleting: 424,
 });
 laid_out!(IpsecRecord, size 56, align 8, { spi: 0, owner: 8, pair: 16 });
-laid_out!(Opening, size 56, align 8, { spi: 0, agreed: 8, pair: 10, child: 48 });
+laid_out!(Opening, size 64, align 8, { spi: 0, agreed: 8, pair: 16, child: 56 });
 
 impl Agreed {
     /// Nothing is agreed, as in a place that is free.
-    pub const NONE: Agreed = Agreed { mobike: Flag::NO };
+    pub const NONE: Agreed = Agreed { mobike: Flag::NO, cloning: Flag::NO, peer: 0 };
 }
 
 impl PendingCheck {
@@ -124,6 +131,7 @@ impl IkeRecord {
         addresses: [Address::NONE; ADDRESSES_MOST],
         unknown: 0,
         check: PendingCheck::NONE,
+        deleting: Flag::NO,
     };
 }
 

@@ -3,7 +3,7 @@ use super::from_slots::from_slots;
 use super::into_slots::into_slots;
 use super::{read_slots, write_slots};
 use crate::layout::{Opening, Policy};
-use crate::{CheckResponse, Number, Request};
+use crate::{CheckResponse, CloneRequest, Number, Request};
 
 /// An entry of a trace: a call on a gateway's tables or its policy, with what it is given.
 #[derive(Debug, Clone, Copy, PartialEq, Eq)]
@@ -35,10 +35,17 @@ pub enum Entry<'a> {
     Policy(Policy),
     /// As [`check`](crate::check).
     CheckResponse(CheckResponse<'a>),
+    /// As [`clone_ike`](crate::clone_ike).
+    Clone(CloneRequest<'a>),
+    /// As [`mark_deletion`](crate::mark_deletion).
+    MarkDeletion {
+        /// The SPI of the IKE record.
+        spi: u64,
+    },
 }
 
 /// Reads the entry that begins at the offset `at`, and tells the offset of the first octet behind it. The
-/// strings of a request and of a response are parts of the trace; rules past a policy's count are none.
+/// strings of requests and of a response are parts of the trace; rules past a policy's count are none.
 ///
 /// Numbers, the first that is met as the octets are read: [`Cut`](Number::Cut), at the end of the trace and
 /// past it too; [`UnknownKind`](Number::UnknownKind); [`TooLarge`](Number::TooLarge).

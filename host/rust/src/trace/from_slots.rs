@@ -2,7 +2,7 @@
 use super::{Entry, Kind, Slots};
 use crate::layout::{Agreed, Opening, Pair, Policy, Rule};
 use crate::limits::ADDRESS_OCTETS;
-use crate::{CheckResponse, Request};
+use crate::{CheckResponse, CloneRequest, Request};
 
 /// The entry that was read with these slots from this trace. Each number fits its field there, so that none
 /// is cut here.
@@ -16,6 +16,8 @@ pub(super) fn from_slots<'a>(kind: Kind, slots: &Slots, trace: &'a [u8]) -> Opti
         Kind::Request => Entry::Request(said.request()),
         Kind::Policy => Entry::Policy(said.policy()),
         Kind::CheckResponse => Entry::CheckResponse(said.check_response()),
+        Kind::Clone => Entry::Clone(said.clone_request()),
+        Kind::MarkDeletion => Entry::MarkDeletion { spi: said.number() },
         Kind::Other(_) => return None,
     })
 }
@@ -58,12 +60,12 @@ impl<'a> Said<'a, '_> {
     }
 
     fn opening(&mut self) -> Opening {
-        Opening {
-            spi: self.number(),
-            agreed: Agreed { mobike: (self.number() != 0).into() },
-            pair: self.pair(),
-            child: self.number() as u32,
-        }
+        // What is agreed stands at two places: a later field joins at the end of its entry.
+        let (spi, mobike) = (self.number(), self.number() != 0);
+        let (pair, child) = (self.pair(), self.number() as u32);
+        let (peer, cloning) = (self.number() as u32, self.number() != 0);
+        let agreed = Agreed { mobike: mobike.into(), cloning: cloning.into(), peer };
+        Opening { spi, agreed, pair, child }
     }
 
     fn request(&mut self) -> Request<'a> {
@@ -84,6 +86,15 @@ impl<'a> Said<'a, '_> {
         CheckResponse {
             spi: self.number(),
             id: self.number() as u32,
+            first: self.number() as u8,
+            body: self.string(),
+        }
+    }
+
+    fn clone_request(&mut self) -> CloneRequest<'a> {
+        CloneRequest {
+            spi: self.number(),
+            new_spi: self.number(),
             first: self.number() as u8,
             body: self.string(),
         }

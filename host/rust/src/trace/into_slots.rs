@@ -2,7 +2,7 @@
 use super::{Entry, Kind, Slots};
 use crate::layout::{Opening, Pair, Policy, Rule};
 use crate::limits::{ADDRESS_OCTETS, ENTRY_SLOTS};
-use crate::{CheckResponse, Request};
+use crate::{CheckResponse, CloneRequest, Request};
 
 /// The kind, the slots and the source of an entry.
 pub(super) fn into_slots(entry: &Entry<'_>) -> (Kind, Slots, Vec<u8>) {
@@ -25,6 +25,11 @@ pub(super) fn into_slots(entry: &Entry<'_>) -> (Kind, Slots, Vec<u8>) {
         Entry::Request(request) => told.request(request),
         Entry::Policy(policy) => told.policy(policy),
         Entry::CheckResponse(response) => told.check_response(response),
+        Entry::Clone(request) => told.clone_request(request),
+        Entry::MarkDeletion { spi } => {
+            told.number(*spi);
+            Kind::MarkDeletion
+        }
     };
     (kind, told.slots, told.source)
 }
@@ -68,6 +73,8 @@ impl Told {
         self.number(opening.agreed.mobike.is_set());
         self.pair(&opening.pair);
         self.number(opening.child);
+        self.number(opening.agreed.peer);
+        self.number(opening.agreed.cloning.is_set());
         Kind::OpenBoth
     }
 
@@ -90,6 +97,14 @@ impl Told {
         self.number(response.first);
         self.string(response.body);
         Kind::CheckResponse
+    }
+
+    fn clone_request(&mut self, request: &CloneRequest<'_>) -> Kind {
+        self.number(request.spi);
+        self.number(request.new_spi);
+        self.number(request.first);
+        self.string(request.body);
+        Kind::Clone
     }
 
     fn rule(&mut self, rule: &Rule) {

@@ -24,6 +24,10 @@ pub enum Kind {
     Policy,
     /// 6: as [`check`](crate::check).
     CheckResponse,
+    /// 7: as [`clone_ike`](crate::clone_ike).
+    Clone,
+    /// 8: as [`mark_deletion`](crate::mark_deletion).
+    MarkDeletion,
     /// A number that no kind has.
     Other(u8),
 }
@@ -38,6 +42,8 @@ impl From<u8> for Kind {
             4 => Kind::Request,
             5 => Kind::Policy,
             6 => Kind::CheckResponse,
+            7 => Kind::Clone,
+            8 => Kind::MarkDeletion,
             other => Kind::Other(other),
         }
     }
@@ -53,6 +59,8 @@ impl From<Kind> for u8 {
             Kind::Request => 4,
             Kind::Policy => 5,
             Kind::CheckResponse => 6,
+            Kind::Clone => 7,
+            Kind::MarkDeletion => 8,
             Kind::Other(other) => other,
         }
     }

@@ -1,6 +1,8 @@
 //! Payload chains, addresses and tables that the tests share.
 #![allow(dead_code)]
-use unmavreth::{Agreed, CheckResponse, Flag, Gateway, Number, Opening, Pair, Request, Rule};
+use unmavreth::{
+    Agreed, CheckResponse, CloneRequest, Flag, Gateway, Number, Opening, Pair, Request, Rule,
+};
 
 pub const NAT_SOURCE: u16 = 16388;
 pub const NAT_DESTINATION: u16 = 16389;
@@ -10,12 +12,14 @@ pub const NO_ADDITIONAL: u16 = 16399;
 pub const UPDATE: u16 = 16400;
 pub const COOKIE2: u16 = 16401;
 pub const NO_NATS: u16 = 16402;
+pub const CLONE_SUPPORTED: u16 = 16432;
+pub const CLONE: u16 = 16433;
 
 pub const OLD: Pair = Pair::ipv4(([203, 0, 113, 5], 500), ([192, 0, 2, 1], 501));
 pub const NEW: Pair = Pair::ipv4(([198, 51, 100, 7], 4500), ([192, 0, 2, 1], 4501));
 pub const RULE: Rule = Rule::ipv4(([198, 51, 100, 0], 24), ([192, 0, 2, 0], 24));
 pub const COOKIE: [u8; 9] = [1, 2, 3, 4, 5, 6, 7, 8, 9];
-pub const AGREED: Agreed = Agreed { mobike: Flag::YES };
+pub const AGREED: Agreed = Agreed { mobike: Flag::YES, ..Agreed::NONE };
 
 /// An opening with nothing wrong in it, beside the records of `gateway`.
 pub const OPENING: Opening = Opening { spi: 9, agreed: AGREED, pair: NEW, child: 90 };
@@ -81,4 +85,9 @@ pub fn request<'a>((first, body): &'a (u8, Vec<u8>)) -> Request<'a> {
 /// The response to the check of the first record.
 pub fn response<'a>((first, body): &'a (u8, Vec<u8>)) -> CheckResponse<'a> {
     CheckResponse { spi: 7, id: CHECK_ID, first: *first, body }
+}
+
+/// A request to clone the first record, as SPI 9.
+pub fn clone_request<'a>((first, body): &'a (u8, Vec<u8>)) -> CloneRequest<'a> {
+    CloneRequest { spi: 7, new_spi: 9, first: *first, body }
 }

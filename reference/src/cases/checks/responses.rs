@@ -1,7 +1,9 @@
 // Random responses to checks, drawn to suit the one that is pending in the record that their SPI means.
 use super::super::assess::responses::{self, answering};
+use super::super::reader::draft::{ChainDraft, Draft};
 use super::super::tables::pending;
 use crate::check::CheckResponse;
+use crate::notify::NotifyType;
 use crate::rng::Rng;
 use crate::rules::{CheckRules, Plain};
 use crate::tables::{find, Tables};
@@ -34,6 +36,15 @@ pub fn response(rng: &mut Rng, tables: &Tables, spi: u64) -> CheckResponse {
 pub fn plain_response(rng: &mut Rng, tables: &Tables, spi: u64) -> CheckResponse {
     let (sent, kept) = pending_in(tables, spi);
     let chain = answering(rng, &sent).assemble();
+    let id = kept.unwrap_or_else(|| pending::id(rng));
+    CheckResponse { spi, id, first: chain.first, body: chain.body }
+}
+
+/// The same, with the cookie as it was sent and nothing else.
+pub fn right_response(rng: &mut Rng, tables: &Tables, spi: u64) -> CheckResponse {
+    let (sent, kept) = pending_in(tables, spi);
+    let cookie = Draft::notify(NotifyType::COOKIE2, &sent);
+    let chain = ChainDraft::of(if sent.is_empty() { vec![] } else { vec![cookie] }).assemble();
     let id = kept.unwrap_or_else(|| pending::id(rng));
     CheckResponse { spi, id, first: chain.first, body: chain.body }
 }

@@ -1,20 +1,21 @@
 // Changes of an entry's numbers, to such that their fields have no room for.
 use crate::rng::Rng;
 use crate::rules::{Plain, TraceRules};
-use crate::trace::entry::{Entry, Pair, Rule};
+use crate::trace::entry::{Entry, Opening, Pair, Rule};
 use crate::trace::fields::{Field, MOST_OCTETS};
 
 /// The numbers of an entry, rules past the count too.
 pub fn numbers(entry: &mut Entry) -> Vec<(Field, &mut u64)> {
     match entry {
-        Entry::OpenBoth { spi, agreed, pair, child } => {
+        Entry::OpenBoth(Opening { spi, agreed, pair, child, peer, cloning }) => {
             let mut numbers = vec![(Field::IkeSpi, spi), (Field::Agreed, agreed)];
             numbers.extend(of_pair(pair));
             numbers.push((Field::IpsecSpi, child));
+            numbers.extend([(Field::Peer, peer), (Field::Agreed, cloning)]);
             numbers
         }
         Entry::AddIpsec { spi, owner } => vec![(Field::IpsecSpi, spi), (Field::IkeSpi, owner)],
-        Entry::CloseIke { spi } => vec![(Field::IkeSpi, spi)],
+        Entry::CloseIke { spi } | Entry::MarkDeletion { spi } => vec![(Field::IkeSpi, spi)],
         Entry::CloseIpsec { spi } => vec![(Field::IpsecSpi, spi)],
         Entry::Request(request) => {
             let mut numbers = vec![(Field::IkeSpi, &mut request.spi), (Field::Id, &mut request.id)];
@@ -25,6 +26,9 @@ pub fn numbers(entry: &mut Entry) -> Vec<(Field, &mut u64)> {
         }
         Entry::CheckResponse { spi, id, first, .. } => {
             vec![(Field::IkeSpi, spi), (Field::Id, id), (Field::FirstType, first)]
+        }
+        Entry::Clone { spi, new_spi, first, .. } => {
+            vec![(Field::IkeSpi, spi), (Field::IkeSpi, new_spi), (Field::FirstType, first)]
         }
         Entry::Policy { count, rules } => {
             let mut numbers = vec![(Field::Count, count)];
@@ -58,7 +62,7 @@ fn strings(entry: &mut Entry) -> Vec<&mut Vec<u8>> {
             &mut request.body,
             &mut request.cookie,
         ],
-        Entry::CheckResponse { body, .. } => vec![body],
+        Entry::CheckResponse { body, .. } | Entry::Clone { body, .. } => vec![body],
         _ => vec![],
     }
 }

@@ -147,5 +147,5 @@ pub fn any(rng: &mut Rng) -> Lent {
             *slot = rng.pick(&[size as u64, 4_096, 4_097, 65_535, 65_536, 1 << 32, u64::MAX]);
         }
     }
-    Lent { kind: rng.below(9) as u8, slots, source }
+    Lent { kind: rng.below(11) as u8, slots, source }
 }

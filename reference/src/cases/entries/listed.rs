@@ -73,7 +73,9 @@ fn entries() -> Vec<Entry> {
             Request { cookie: octets.clone(), ..request() },
         ];
         entries.extend(requests.map(Entry::Request));
-        entries.push(Entry::CheckResponse { spi: 7, id: 1, first: 41, body: octets });
+        let body = octets.clone();
+        entries.push(Entry::CheckResponse { spi: 7, id: 1, first: 41, body });
+        entries.push(Entry::Clone { spi: 7, new_spi: 8, first: 41, body: octets });
     }
     entries
 }
@@ -182,7 +184,7 @@ fn places() -> Vec<Buffer> {
     let past = [
         1 << 16,
         1 << 32,
-        (1 << 32) + 41,
+        (1 << 32) + 43,
         1 << 63,
         usize::MAX / 2,
         usize::MAX - 16,

@@ -34,8 +34,8 @@ impl Kinded for Case {
         }
         let mut lent = lending::drawn(rng, &entry);
         match rng.below(16) {
-            0 => lent.kind = rng.between(7, 255) as u8,
-            1 => lent.kind = rng.below(7) as u8,
+            0 => lent.kind = rng.between(9, 255) as u8,
+            1 => lent.kind = rng.below(9) as u8,
             2 => lent = lending::any(rng),
             3..=5 => lending::misplace(rng, &entry, &mut lent),
             _ => {}

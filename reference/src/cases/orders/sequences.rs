@@ -23,10 +23,10 @@ enum Drawing {
 }
 
 const WEIGHTS: [(usize, Drawing); 5] = [
-    (7, Drawing::Sound),
+    (8, Drawing::Sound),
     (1, Drawing::EqualIds),
     (2, Drawing::SomeUnsound),
-    (3, Drawing::Checked),
+    (5, Drawing::Checked),
     (1, Drawing::Any),
 ];
 
@@ -108,7 +108,11 @@ impl Source {
         if rng.one_in(8) {
             return responses::response(rng, now, self.spi);
         }
-        let mut response = responses::plain_response(rng, now, self.spi);
+        let mut response = if rng.one_in(4) {
+            responses::right_response(rng, now, self.spi)
+        } else {
+            responses::plain_response(rng, now, self.spi)
+        };
         if !self.check_ids.is_empty() && rng.one_in(4) {
             response.id = rng.pick(&self.check_ids);
         }

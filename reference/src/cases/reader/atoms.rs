@@ -4,9 +4,9 @@ use crate::notify::NotifyType;
 use crate::rng::Rng;
 
 /// Notify types of other documents, of errors, and next to the known ones.
-const UNKNOWN_NOTIFY_TYPES: [u16; 24] = [
+const UNKNOWN_NOTIFY_TYPES: [u16; 25] = [
     0, 1, 7, 35, 40, 41, 43, 255, 256, 4112, 8192, 16383, 16384, 16387, 16390, 16395, 16403, 16406,
-    16407, 16408, 16432, 32784, 40960, 65535,
+    16407, 16408, 16432, 16433, 32784, 40960, 65535,
 ];
 
 /// The allowed data sizes of a known notify type; of MOBIKE_SUPPORTED, some.

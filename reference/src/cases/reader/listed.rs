@@ -30,6 +30,7 @@ pub fn all() -> Vec<Case> {
         cookies_alike(),
         told::all(),
         redirects(),
+        of_clones(),
     ]
     .concat()
 }
@@ -57,6 +58,20 @@ fn redirects() -> Vec<Case> {
             let redirect = Draft::notify(NotifyType(notify_type), data);
             cases.push(chain_of(vec![redirect.clone()]));
             cases.push(chain_of(vec![redirect.clone(), update.clone(), redirect]));
+        }
+    }
+    cases
+}
+
+/// The two of clones, which are unknown here: with data and an SPI or none, before and behind others.
+fn of_clones() -> Vec<Case> {
+    let update = smallest(NotifyType::UPDATE_SA_ADDRESSES);
+    let mut cases = Vec::new();
+    for notify_type in NotifyType::OF_CLONES {
+        for (spi_size, rest) in [(0, 0), (0, 1), (0, 8), (1, 1), (8, 8), (8, 9), (1, 0), (9, 8)] {
+            let notify = Draft::notify_with_spi(notify_type, spi_size, &vec![1; rest]);
+            cases.push(chain_of(vec![notify.clone()]));
+            cases.push(chain_of(vec![notify.clone(), update.clone(), notify]));
         }
     }
     cases

@@ -57,13 +57,13 @@ pub fn asking(rng: &mut Rng, pair: &AddressPair, old: &AddressPair) -> ChainDraf
     ChainDraft::of(payloads)
 }
 
-/// As many addresses or unknown payloads as a body holds, or nearly, and an update or none.
+/// As many addresses or unknown payloads as a body holds, nearly so many or one more, and an update or none.
 fn long(rng: &mut Rng) -> reader::Case {
     let mut payloads = if rng.one_in(2) {
-        let count = rng.between(339, 341);
+        let count = rng.between(339, 342);
         vec![Draft::notify(NotifyType::ADDITIONAL_IP4_ADDRESS, &rng.octets(4)); count]
     } else {
-        let count = rng.between(1000, 1024);
+        let count = rng.between(1010, 1025);
         vec![Draft::payload(200, 0, vec![]); count]
     };
     if rng.one_in(2) {

@@ -49,6 +49,7 @@ fn kinds() -> Vec<Draft> {
     let notify = |(known, size): (NotifyType, usize)| Draft::notify(known, &vec![9; size]);
     let mut kinds: Vec<_> = NotifyType::KNOWN.into_iter().zip(sizes).map(notify).collect();
     kinds.push(Draft::notify(NotifyType(16403), &[]));
+    kinds.extend(NotifyType::OF_CLONES.map(|it| Draft::notify(it, &[])));
     kinds.push(Draft::payload(33, 0, vec![]));
     kinds.push(Draft::payload(200, 0, vec![]));
     kinds
@@ -64,8 +65,18 @@ fn header_bits() -> Vec<reader::Case> {
     let order = [6, 8, 0, 1, 3, 4, 7];
     let kinds = kinds();
     let draft = ChainDraft::of(order.iter().map(|&place| kinds[place].clone()).collect());
+    let mut cases = with_header_bits(&draft);
+    for of_clones in NotifyType::OF_CLONES {
+        cases.extend(with_header_bits(&ChainDraft::of(vec![Draft::notify(of_clones, &[])])));
+    }
+    cases
+}
+
+/// The chain, in turn with each bit of these fields of each payload changed.
+fn with_header_bits(draft: &ChainDraft) -> Vec<reader::Case> {
+    let count = draft.payloads.len();
     let mut cases = vec![draft.assemble()];
-    for (place, bit) in (0..order.len()).flat_map(|place| (0..8).map(move |bit| (place, bit))) {
+    for (place, bit) in (0..count).flat_map(|place| (0..8).map(move |bit| (place, bit))) {
         let mut flag = draft.clone();
         flag.payloads[place].flags = 1 << bit;
         cases.push(flag.assemble());

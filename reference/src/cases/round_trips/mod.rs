@@ -7,9 +7,11 @@ use super::reader;
 use super::writer::asks;
 use crate::asking::Arguments;
 use crate::cases::seeded::{Kinded, Seeded};
-use crate::plain::plainly_read;
+use crate::plain::{plainly_read, plainly_read_as_clone};
 use crate::rng::Rng;
-use crate::round_trips::{expected, is_written_again, written_and_read, Program};
+use crate::round_trips::{
+    expected, is_clone_written_again, is_written_again, written_and_read, Program,
+};
 use crate::rules::Rules;
 
 #[derive(Debug, Clone)]
@@ -19,7 +21,7 @@ pub enum Case {
 }
 
 impl Case {
-    /// Whether the program reads what was asked for, or writes again exactly what is plainly read.
+    /// Whether the program reads what was asked for, or writes again exactly what is plainly read, a clone too.
     pub fn holds_of(&self, program: &impl Program, rules: &impl Rules) -> bool {
         match self {
             Case::Asked(arguments) => {
@@ -27,6 +29,8 @@ impl Case {
             }
             Case::Chain(reader::Case { first, body }) => {
                 is_written_again(program, *first, body) == plainly_read(*first, body, rules)
+                    && is_clone_written_again(program, *first, body)
+                        == plainly_read_as_clone(*first, body, rules)
             }
         }
     }

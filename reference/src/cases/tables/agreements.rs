@@ -1,4 +1,5 @@
-// What may be agreed: octets that say no, those that a new record has, and others that say yes.
+// What may be agreed: octets that say no, those that a new record has, and others that say yes; and with whom.
+use super::peers;
 use crate::agreed::Agreed;
 use crate::rng::Rng;
 
@@ -6,12 +7,21 @@ use crate::rng::Rng;
 pub const YES: [u8; 7] = [255, 1, 2, 3, 127, 128, 254];
 
 pub fn any(rng: &mut Rng) -> Agreed {
-    Agreed { mobike: octet(rng) }
+    Agreed { mobike: octet(rng), cloning: octet(rng), peer: peers::any(rng) }
 }
 
 fn octet(rng: &mut Rng) -> u8 {
     let yes = yes(rng);
     rng.pick_weighted(&[(3, 0), (2, 1), (3, yes)])
+}
+
+/// A mark for being deleted: mostly none.
+pub fn deleting(rng: &mut Rng) -> u8 {
+    if rng.one_in(4) {
+        octet(rng)
+    } else {
+        0
+    }
 }
 
 pub fn yes(rng: &mut Rng) -> u8 {

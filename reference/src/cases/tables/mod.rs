@@ -3,6 +3,7 @@ pub(super) mod agreements;
 pub(super) mod lengths;
 pub(super) mod listed;
 pub(super) mod pairs;
+pub(super) mod peers;
 pub(super) mod pending;
 pub(super) mod rules;
 pub(super) mod scripts;
@@ -55,6 +56,7 @@ fn random(rng: &mut Rng) -> Case {
 #[cfg(test)]
 mod tests {
     use super::*;
+    use crate::agreed::Agreed;
     use crate::opening_both::{failing, Check};
     use crate::pending::PendingCheck;
     use crate::rules::{CheckRules, Plain, TableRules};
@@ -72,6 +74,7 @@ mod tests {
             Call::OpenIpsec { .. } => ("open IPsec", &[0, 1, 4, 10, 11]),
             Call::CloseIke { .. } => ("close IKE", &[0, 1, 4]),
             Call::CloseIpsec { .. } => ("close IPsec", &[0, 1, 4]),
+            Call::MarkDeletion { .. } => ("mark deletion", &[0, 1, 4]),
             Call::SetPolicy { .. } => ("set policy", &[0, 1, 12]),
             Call::Acceptable { .. } => ("acceptable", &[0, 1]),
         }
@@ -87,13 +90,14 @@ mod tests {
                 assert!(allowed.contains(&given_back), "{name} gives back {given_back}");
                 met.insert((name, given_back));
                 if let Call::OpenBoth(opening) = call {
-                    octets.insert((opening.agreed.mobike.min(2), given_back));
+                    let Agreed { mobike, cloning, .. } = opening.agreed;
+                    octets.insert((mobike.min(2), cloning.min(2), given_back));
                 }
             }
         }
-        assert_eq!(met.len(), 4 + 5 + 3 + 3 + 3 + 2);
-        let of_each_octet = 4; // which is 0, 1 or another
-        assert_eq!(octets.len(), 3 * of_each_octet);
+        assert_eq!(met.len(), 4 + 5 + 3 + 3 + 3 + 3 + 2);
+        let of_each_two = 4; // each of which is 0, 1 or another
+        assert_eq!(octets.len(), 3 * 3 * of_each_two);
     }
 
     /// The checks that fail of each call of these cases that opens both.
@@ -129,7 +133,7 @@ mod tests {
         }
     }
 
-    /// No SPI twice, nothing left in free places, no orphan, and checks as a request leaves them.
+    /// No SPI twice, nothing left in free places, no orphan, checks as a request leaves them, and 0 or 1 for yes or no.
     fn assert_reached(tables: &Tables) {
         let (ike, ipsec) = (&tables.ike.records, &tables.ipsec.records);
         for (place, record) in ike.iter().enumerate() {
@@ -138,6 +142,8 @@ mod tests {
                 let sent = Plain.kept(&record.check);
                 let left = sent.map(|sent| PendingCheck::of(&sent, record.check.id));
                 assert_eq!(record.check, left.unwrap_or(PendingCheck::NONE));
+                let Agreed { mobike, cloning, .. } = record.agreed;
+                assert!(mobike.max(cloning).max(record.deleting) <= 1);
             } else {
                 assert_eq!(*record, IkeRecord::FREE);
             }

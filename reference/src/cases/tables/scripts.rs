@@ -12,15 +12,17 @@ enum Making {
     OpenIpsec,
     CloseIke,
     CloseIpsec,
+    MarkDeletion,
     SetPolicy,
     Acceptable,
 }
 
-const WEIGHTS: [(usize, Making); 6] = [
+const WEIGHTS: [(usize, Making); 7] = [
     (6, Making::OpenBoth),
     (5, Making::OpenIpsec),
     (3, Making::CloseIke),
     (3, Making::CloseIpsec),
+    (2, Making::MarkDeletion),
     (2, Making::SetPolicy),
     (4, Making::Acceptable),
 ];
@@ -47,6 +49,7 @@ fn call(rng: &mut Rng, tables: &Tables) -> Call {
         }
         Making::CloseIke => Call::CloseIke { spi: ike_spi(rng, tables, 8) },
         Making::CloseIpsec => Call::CloseIpsec { spi: ipsec_spi(rng, tables, 8) },
+        Making::MarkDeletion => Call::MarkDeletion { spi: ike_spi(rng, tables, 8) },
         Making::SetPolicy => {
             let (count, rules) = rules::list_to_set(rng);
             Call::SetPolicy { count, rules: Box::new(rules) }

@@ -1,5 +1,6 @@
 // The tables that random cases start from: empty, reached from empty ones, full, dense and hostile.
-use super::{agreements, pairs, pending, rules, spis};
+use super::{agreements, pairs, peers, pending, rules, spis};
+use crate::agreed::Agreed;
 use crate::rng::Rng;
 use crate::summary::MAX_KEPT;
 use crate::tables::{IkeRecord, IpsecRecord, Record, Tables, IKE_PLACES, IPSEC_PLACES};
@@ -48,8 +49,10 @@ impl Shape {
 fn reached(rng: &mut Rng, in_use: [usize; 2]) -> Tables {
     let mut tables = Tables { policy: rules::policy(rng), ..Tables::empty() };
     let ike_places = some_places(rng, IKE_PLACES, in_use[0]);
+    let peer_count = rng.between(1, peers::FEW.len());
     for (number, &place) in ike_places.iter().enumerate() {
-        tables.ike_mut()[place] = reached_record(rng, spis::ike(number));
+        let record = reached_record(rng, spis::ike(number), peer_count);
+        tables.ike_mut()[place] = record;
     }
     if ike_places.is_empty() {
         return tables;
@@ -74,8 +77,11 @@ fn some_places(rng: &mut Rng, places: usize, count: usize) -> Vec<usize> {
     shuffled
 }
 
-fn reached_record(rng: &mut Rng, spi: u64) -> IkeRecord {
-    let mut record = IkeRecord { spi, pair: pairs::pair(rng), ..IkeRecord::FREE };
+fn reached_record(rng: &mut Rng, spi: u64, peer_count: usize) -> IkeRecord {
+    let (cloning, peer) = (u8::from(rng.one_in(2)), peers::among(rng, peer_count));
+    let agreed = Agreed { mobike: 0, cloning, peer };
+    let mut record = IkeRecord { spi, agreed, pair: pairs::pair(rng), ..IkeRecord::FREE };
+    record.deleting = u8::from(rng.one_in(6));
     if rng.one_in(4) {
         return record;
     }
@@ -96,11 +102,15 @@ fn reached_record(rng: &mut Rng, spi: u64) -> IkeRecord {
 fn unreached(rng: &mut Rng, free_in: usize) -> Tables {
     let mut tables = Tables { policy: rules::any_policy(rng), ..Tables::empty() };
     let few = rng.between(1, spis::FEW_IKE.len());
+    let peer_count = rng.between(1, peers::FEW.len());
     for record in tables.ike_mut() {
         let free = rng.one_in(free_in);
         if !free || !rng.one_in(4) {
             *record = any_ike_record(rng);
             record.spi = if free { 0 } else { rng.pick(&spis::FEW_IKE[..few]) };
+            if !rng.one_in(8) {
+                record.agreed.peer = peers::among(rng, peer_count);
+            }
         }
     }
     for record in tables.ipsec_mut() {
@@ -123,5 +133,6 @@ fn any_ike_record(rng: &mut Rng) -> IkeRecord {
     record.addresses.fill_with(|| pairs::any_address(rng));
     record.unknown = rng.pick(&TALLIES);
     record.check = pending::any(rng);
+    record.deleting = agreements::deleting(rng);
     record
 }

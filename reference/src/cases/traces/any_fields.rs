@@ -1,8 +1,8 @@
 // Entries of which every field is drawn for itself, about the bounds of its room and of its octets.
-use super::super::tables::{pairs, spis};
+use super::super::tables::{pairs, peers, spis};
 use crate::rng::Rng;
 use crate::rules::{Plain, TraceRules};
-use crate::trace::entry::{Entry, Pair, Request, Rule};
+use crate::trace::entry::{Entry, Opening, Pair, Request, Rule};
 use crate::trace::fields::{Field, MOST_OCTETS, MOST_RULES};
 
 /// Lengths about those of NAT values and cookies, those that take another octet, and the greatest.
@@ -10,13 +10,15 @@ const LENGTHS: [usize; 14] =
     [0, 1, 7, 8, 19, 20, 21, 64, 65, 127, 128, 129, MOST_OCTETS - 1, MOST_OCTETS];
 
 pub fn entry(rng: &mut Rng) -> Entry {
-    match rng.below(7) {
-        0 => Entry::OpenBoth {
+    match rng.below(9) {
+        0 => Entry::OpenBoth(Opening {
             spi: number(rng, Field::IkeSpi),
             agreed: number(rng, Field::Agreed),
             pair: pair(rng),
             child: number(rng, Field::IpsecSpi),
-        },
+            peer: number(rng, Field::Peer),
+            cloning: number(rng, Field::Agreed),
+        }),
         1 => {
             Entry::AddIpsec { spi: number(rng, Field::IpsecSpi), owner: number(rng, Field::IkeSpi) }
         }
@@ -39,6 +41,13 @@ pub fn entry(rng: &mut Rng) -> Entry {
             first: number(rng, Field::FirstType),
             body: string(rng, 8),
         },
+        6 => Entry::Clone {
+            spi: number(rng, Field::IkeSpi),
+            new_spi: number(rng, Field::IkeSpi),
+            first: number(rng, Field::FirstType),
+            body: string(rng, 8),
+        },
+        7 => Entry::MarkDeletion { spi: number(rng, Field::IkeSpi) },
         _ => {
             let count = rng.pick_weighted(&[(4, 1), (2, 2), (1, 0), (1, 15), (1, MOST_RULES)]);
             let rules: Vec<Rule> = (0..count).map(|_| rule(rng)).collect();
@@ -53,6 +62,7 @@ pub fn number(rng: &mut Rng, field: Field) -> u64 {
     let common = match field {
         Field::IkeSpi => rng.pick(&spis::FEW_IKE),
         Field::IpsecSpi => u64::from(rng.pick(&spis::FEW_IPSEC)),
+        Field::Peer => u64::from(rng.pick(&peers::FEW)),
         Field::Family => rng.pick(&[4, 6]),
         Field::Port => rng.pick(&[500, 4500]),
         Field::FirstType => rng.pick(&[0, 41]),

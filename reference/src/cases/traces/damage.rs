@@ -7,9 +7,9 @@ use crate::trace::writing::{pieces, Piece};
 
 /// Kinds that aren't known, next to those that are and about powers of two.
 pub const UNKNOWN_KINDS: [u64; 13] = [
-    7,
-    8,
     9,
+    10,
+    11,
     127,
     128,
     255,

@@ -18,14 +18,21 @@ const COOKIE: &str = "0102030405060708";
 
 const UPDATE: &str = "0000000800004010";
 
+const CLONE: &str = "0000000800004031";
+
 pub struct Example {
     pub trace: Vec<u8>,
     pub printed: String,
 }
 
-/// Opens IKE 7 and IPsec 9.
+/// Opens IKE 7 and IPsec 9, of peer 5, with cloning agreed.
 pub fn opening() -> Vec<u8> {
-    from_hex(&format!("00 07 01 {PAIR} 09"))
+    from_hex(&format!("00 07 01 {PAIR} 09 05 01"))
+}
+
+/// A request to clone IKE 7 to this SPI.
+pub fn clone(new_spi: u8) -> Vec<u8> {
+    from_hex(&format!("07 07 {new_spi:02x} 29 08 {CLONE}"))
 }
 
 /// Accepts all pairs of IPv4.
@@ -64,6 +71,8 @@ pub fn all_kinds() -> Vec<u8> {
         request(6, 41, &list),
         request(0, 0, &[]),
         response(41, &format!("00000010 00004011 {COOKIE}")),
+        clone(8),
+        from_hex("08 07"),
         from_hex("02 07"),
         opening(),
     ];
@@ -73,7 +82,7 @@ pub fn all_kinds() -> Vec<u8> {
 pub fn all() -> Vec<Example> {
     let update = request(5, 41, &from_hex(UPDATE));
     let moved = [opening(), any_ipv4(), update].concat();
-    let at_43 = [opening(), from_hex("02 07 07")].concat();
+    let at_45 = [opening(), from_hex("02 07 09")].concat();
     let answered = |chain: Vec<u8>| [&moved[..], &chain].concat();
     let right = answered(response(41, &format!("00000010 00004011 {COOKIE}")));
     let wrong = answered(response(41, &format!("00000010 00004011 {COOKIE}").replace("08", "09")));
@@ -87,11 +96,15 @@ pub fn all() -> Vec<Example> {
     let none = [&none[..], &["5 65 none none", "6 7 none none"]].concat();
     let refused_lines = [&done[..1], &none, &[&ike, &ipsec]].concat();
     let (applied, decided) = ("2 0 applied none", "3 0 none none");
-    let examples: [(Vec<u8>, &[&str]); 22] = [
+    let clones = [8, 10, 11].map(|spi| format!("ike {spi} {PRINTED}"));
+    let opened = |behind: &[Vec<u8>]| [opening(), behind.concat()].concat();
+    let asking = |spi: &str, chain: &str| from_hex(&format!("07 07 {spi} {chain}"));
+    let unagreed = with_octet(opening(), 42, 0);
+    let examples: [(Vec<u8>, &[&str]); 36] = [
         (from_hex("02 07"), &["0 4 none none"]),
         (vec![], &[]),
         (opening(), &[done[0], &ike, &ipsec]),
-        (at_43, &[done[0], done[1], "21 at 43"]),
+        (at_45, &[done[0], done[1], "21 at 45"]),
         (moved.clone(), &[done[0], done[1], applied, &moved_ike, &ipsec]),
         // The check of that update: right, wrong, an error, and answered twice.
         (right, &[done[0], done[1], applied, decided, &moved_ike, &moved_ipsec]),
@@ -114,6 +127,40 @@ pub fn all() -> Vec<Example> {
         (with_octet(opening(), 3, 5), &["0 1 none none"]),
         (with_octet(opening(), 1, 0), &["0 1 none none"]),
         (each_flaw(), &refused_lines),
+        // Clones: one, as many as a peer may have, and with each refusal.
+        (opened(&[clone(8)]), &[done[0], done[1], &ike, &clones[0], &ipsec]),
+        (
+            opened(&[clone(8), clone(10), clone(11), clone(12)]),
+            &[
+                done[0],
+                done[1],
+                "2 0 none none",
+                "3 0 none none",
+                "4 42 none none",
+                &ike,
+                &clones[0],
+                &clones[1],
+                &clones[2],
+                &ipsec,
+            ],
+        ),
+        (opened(&[clone(7)]), &[done[0], "1 11 none none", &ike, &ipsec]),
+        (opened(&[clone(0)]), &[done[0], "1 1 none none", &ike, &ipsec]),
+        (opened(&[asking("08", "00 00")]), &[done[0], "1 44 none none", &ike, &ipsec]),
+        (opened(&[asking("08", "29 00")]), &[done[0], "1 61 none none", &ike, &ipsec]),
+        ([unagreed, clone(8)].concat(), &[done[0], "1 40 none none", &ike, &ipsec]),
+        (
+            opened(&[from_hex("08 07"), clone(8)]),
+            &[done[0], done[1], "2 41 none none", &ike, &ipsec],
+        ),
+        (clone(8), &["0 4 none none"]),
+        // The mark for being deleted, without a record and of SPI 0; an SPI has 64 bits.
+        (from_hex("08 07"), &["0 4 none none"]),
+        (from_hex("08 00"), &["0 1 none none"]),
+        (from_hex("08 80 80 80 80 10"), &["0 4 none none"]),
+        // An opening's peer past 32 bits, and its last yes or no past a bit.
+        (with_end(opening(), "80 80 80 80 10 01"), &["22 at 0"]),
+        (with_end(opening(), "05 02"), &["22 at 0"]),
     ];
     let example = |(trace, lines): (Vec<u8>, &[&str])| Example {
         trace,
@@ -134,6 +181,12 @@ fn each_flaw() -> Vec<u8> {
     ];
     let requests = chains.map(|(first, body)| request(5, first, &from_hex(body)));
     [opening(), requests.concat()].concat()
+}
+
+/// An opening whose peer and last yes or no stand as these octets.
+fn with_end(mut opening: Vec<u8>, end: &str) -> Vec<u8> {
+    opening.truncate(opening.len() - 2);
+    [opening, from_hex(end)].concat()
 }
 
 fn with_octet(mut octets: Vec<u8>, place: usize, octet: u8) -> Vec<u8> {

@@ -4,7 +4,7 @@ use super::damage::{numbers_with_forms, parts, UNKNOWN_KINDS};
 use super::{examples, nights, piecewise, windows, Case};
 use crate::rng::Rng;
 use crate::rules::{Plain, TraceRules};
-use crate::trace::entry::{Entry, Pair, Request, Rule};
+use crate::trace::entry::{Entry, Opening, Pair, Request, Rule};
 use crate::trace::fields::{MOST_OCTETS, MOST_RULES};
 use crate::trace::writing::{entry_octets, trace_octets};
 
@@ -36,6 +36,9 @@ const COOKIE: [u8; 8] = [1, 2, 3, 4, 5, 6, 7, 8];
 /// That cookie as it comes back.
 const ANSWER: [u8; 16] = [0, 0, 0, 16, 0, 0, 64, 17, 1, 2, 3, 4, 5, 6, 7, 8];
 
+/// What asks for a clone, with an unknown payload behind it.
+const CLONE: [u8; 12] = [200, 0, 0, 8, 0, 0, 64, 49, 0, 0, 0, 4];
+
 pub(in crate::cases) fn request() -> Request {
     Request {
         spi: 7,
@@ -57,8 +60,15 @@ pub(crate) fn samples() -> Vec<Entry> {
     let whole = Rule { family: 6, destination_length: 128, ..Rule::default() };
     let long = Rule { family: 4, destination_length: 33, ..Rule::default() };
     vec![
-        Entry::OpenBoth { spi: 1 << 40, agreed: 1, pair: PAIR, child: 300 },
-        Entry::OpenBoth { spi: 8, agreed: 0, pair: IPV6, child: 10 },
+        Entry::OpenBoth(Opening {
+            spi: 1 << 40,
+            agreed: 1,
+            pair: PAIR,
+            child: 300,
+            peer: 70_000,
+            cloning: 1,
+        }),
+        Entry::OpenBoth(Opening { spi: 8, pair: IPV6, child: 10, ..Opening::default() }),
         Entry::AddIpsec { spi: 11, owner: 7 },
         Entry::AddIpsec { spi: 7, owner: 11 },
         Entry::CloseIke { spi: 7 },
@@ -69,6 +79,10 @@ pub(crate) fn samples() -> Vec<Entry> {
         Entry::policy(&[long]),
         Entry::CheckResponse { spi: 7, id: 70_000, first: 41, body: ANSWER.to_vec() },
         Entry::CheckResponse { spi: 1 << 40, id: 300, first: 0, body: vec![] },
+        Entry::Clone { spi: 7, new_spi: 1 << 40, first: 41, body: CLONE.to_vec() },
+        Entry::Clone { spi: 1 << 40, new_spi: 7, first: 0, body: vec![] },
+        Entry::MarkDeletion { spi: 7 },
+        Entry::MarkDeletion { spi: 1 << 40 },
     ]
 }
 
@@ -128,7 +142,7 @@ fn counts() -> Vec<Vec<u8>> {
     traces
 }
 
-/// Each string of a request and of a check response with every length that matters, whole and cut.
+/// Each string of a request, of a check response and of a clone with every length that matters, whole and cut.
 fn lengths() -> Vec<Vec<u8>> {
     let mut traces = Vec::new();
     let most = MOST_OCTETS;
@@ -150,10 +164,13 @@ fn lengths() -> Vec<Vec<u8>> {
             traces.push([&whole[..], &[2, 7]].concat());
             traces.push(whole);
         }
-        let response = Entry::CheckResponse { spi: 7, id: 1, first: 0, body: octets };
-        let whole = [start(), entry_octets(&response)].concat();
-        traces.push(whole[..whole.len() - 1].to_vec());
-        traces.push([&whole[..], &[2, 7]].concat());
+        let response = Entry::CheckResponse { spi: 7, id: 1, first: 0, body: octets.clone() };
+        let clone = Entry::Clone { spi: 7, new_spi: 8, first: 41, body: octets };
+        for entry in [response, clone] {
+            let whole = [start(), entry_octets(&entry)].concat();
+            traces.push(whole[..whole.len() - 1].to_vec());
+            traces.push([&whole[..], &[2, 7]].concat());
+        }
     }
     traces
 }
@@ -177,6 +194,6 @@ fn long() -> Vec<Vec<u8>> {
     let closings = [2, 7].repeat(33_000);
     let nights = [night(30, 30_000), night(31, 90_000), night(32, 3_000_000)];
     let refused = nights.clone().map(|night| [night, vec![4, 7]].concat());
-    let all_refused = [&closings[..], &[7]].concat();
+    let all_refused = [&closings[..], &[9]].concat();
     nights.into_iter().chain(refused).chain([closings, all_refused]).collect()
 }

@@ -1,14 +1,16 @@
 // Traces as a gateway might leave them: calls on the records that are there, and requests to them.
 use super::super::checks::responses;
+use super::super::clones::requests as clones;
 use super::super::requests::{arguments, starts};
-use super::super::tables::{pairs, rules, scripts, spis};
+use super::super::tables::{pairs, peers, rules, scripts, spis};
 use crate::check::CheckResponse;
+use crate::cloning::CloneRequest;
 use crate::policy::Policy;
 use crate::request;
 use crate::rng::Rng;
 use crate::rules::Plain;
 use crate::tables::{Record, Tables};
-use crate::trace::entry::{Entry, Pair, Request, Rule};
+use crate::trace::entry::{Entry, Opening, Pair, Request, Rule};
 use crate::trace::fields::MOST_OCTETS;
 use crate::trace::writing::entry_octets;
 
@@ -22,10 +24,13 @@ enum Making {
     AnyRequest,
     PlainResponse,
     AnyResponse,
+    PlainClone,
+    AnyClone,
+    MarkDeletion,
     Policy,
 }
 
-type Weights = [(usize, Making); 9];
+type Weights = [(usize, Making); 12];
 
 const MOSTLY_REQUESTS: Weights = [
     (6, Making::OpenBoth),
@@ -36,6 +41,9 @@ const MOSTLY_REQUESTS: Weights = [
     (14, Making::AnyRequest),
     (8, Making::PlainResponse),
     (6, Making::AnyResponse),
+    (6, Making::PlainClone),
+    (4, Making::AnyClone),
+    (2, Making::MarkDeletion),
     (2, Making::Policy),
 ];
 
@@ -49,6 +57,9 @@ const MOSTLY_OPENINGS: Weights = [
     (3, Making::AnyRequest),
     (2, Making::PlainResponse),
     (1, Making::AnyResponse),
+    (12, Making::PlainClone),
+    (2, Making::AnyClone),
+    (1, Making::MarkDeletion),
     (1, Making::Policy),
 ];
 
@@ -104,18 +115,29 @@ fn entry(rng: &mut Rng, tables: &Tables, weights: &Weights) -> Entry {
             let spi = arguments::spi(rng, tables);
             of_response(responses::response(rng, tables, spi))
         }
+        Making::PlainClone => {
+            let spi = scripts::ike_spi(rng, tables, 60);
+            of_clone(clones::plain_request(rng, tables, spi))
+        }
+        Making::AnyClone => {
+            let spi = arguments::spi(rng, tables);
+            of_clone(clones::request(rng, tables, spi))
+        }
+        Making::MarkDeletion => Entry::MarkDeletion { spi: scripts::ike_spi(rng, tables, 8) },
         Making::Policy => policy(rng),
     }
 }
 
 fn opening(rng: &mut Rng) -> Entry {
     let pair = if rng.one_in(12) { pairs::any_pair(rng) } else { pairs::pair(rng) };
-    Entry::OpenBoth {
+    Entry::OpenBoth(Opening {
         spi: spis::ike(rng.below(IKE_SPIS)),
         agreed: u64::from(!rng.one_in(8)),
         pair: Pair::from(&pair),
         child: u64::from(spis::ipsec(rng.below(IPSEC_SPIS))),
-    }
+        peer: u64::from(peers::any(rng)),
+        cloning: u64::from(!rng.one_in(8)),
+    })
 }
 
 /// One that accepts all pairs, or some; now and then a list that is refused.
@@ -158,6 +180,13 @@ fn spi_of_check(rng: &mut Rng, tables: &Tables) -> u64 {
         return arguments::spi(rng, tables);
     }
     rng.pick(&spis)
+}
+
+fn of_clone(request: CloneRequest) -> Entry {
+    let mut body = request.body;
+    body.truncate(MOST_OCTETS);
+    let CloneRequest { spi, new_spi, first, .. } = request;
+    Entry::Clone { spi, new_spi, first: u64::from(first), body }
 }
 
 fn of_response(response: CheckResponse) -> Entry {

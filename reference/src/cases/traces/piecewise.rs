@@ -17,7 +17,7 @@ pub fn all() -> Vec<Case> {
     let small: Vec<Vec<usize>> = (1..=50).map(|length| vec![length]).collect();
     let small: Vec<&[usize]> = small.iter().map(Vec::as_slice).collect();
     add(&every_kind, &small);
-    add(&every_kind, &[&[1, 100], &[41, 37], &[40, 1], &[77, 1, 1], &[4_095]]);
+    add(&every_kind, &[&[1, 100], &[43, 37], &[42, 1], &[79, 1, 1], &[4_095]]);
     for length in (0..every_kind.len()).step_by(9) {
         add(&every_kind[..length], &[&[1], &[7], &[4_095]]);
     }

@@ -33,7 +33,7 @@ pub fn all() -> Vec<Vec<u8>> {
 
 /// The longest entry several times behind so many octets, then a short entry and an unknown kind.
 pub fn longest_in_a_row(before: usize, count: usize) -> Vec<u8> {
-    [filled(before), longest().repeat(count), vec![2, 7, 7]].concat()
+    [filled(before), longest().repeat(count), vec![2, 7, 9]].concat()
 }
 
 /// Entries up to a few octets before the end of a window as long as the longest entry, and one more.

@@ -17,9 +17,11 @@ enum Flaw {
     Contradiction,
     Address,
     Cookie,
+    /// One of the two of clones beside something else.
+    NotAlone,
 }
 
-const FLAWS: [Flaw; 7] = [
+const FLAWS: [Flaw; 8] = [
     Flaw::Pair,
     Flaw::OneNatKind,
     Flaw::NatValue,
@@ -27,6 +29,7 @@ const FLAWS: [Flaw; 7] = [
     Flaw::Contradiction,
     Flaw::Address,
     Flaw::Cookie,
+    Flaw::NotAlone,
 ];
 
 const SHORT_OUTPUTS: [usize; 6] = [0, 1, 128, 500, LEAST_OUTPUT - 2, LEAST_OUTPUT - 1];
@@ -59,6 +62,7 @@ pub fn sound(rng: &mut Rng) -> Arguments {
             nat_destination: nat_kinds,
             no_additional,
             count,
+            ..Ask::default()
         },
         pair: pairs::pair(rng),
         addresses: array::from_fn(|_| pairs::address(rng)),
@@ -67,12 +71,22 @@ pub fn sound(rng: &mut Rng) -> Arguments {
         cookie: cookie(rng),
         output: vec![],
     };
+    if rng.one_in(8) {
+        arguments.ask = of_clones(rng);
+        arguments.cookie.clear();
+    }
     let room = rng.pick_weighted(&[(12, LEAST_OUTPUT), (4, LEAST_OUTPUT + 1), (4, 700), (1, 4096)]);
     arguments.output = rng.octets(room);
     if rng.one_in(2) {
         fill_unasked(rng, &mut arguments);
     }
     arguments
+}
+
+/// One of the two of clones alone.
+fn of_clones(rng: &mut Rng) -> Ask {
+    let clone = rng.one_in(2);
+    Ask { clone, clone_supported: !clone, ..Ask::default() }
 }
 
 /// NO_ADDITIONAL_ADDRESSES or not, and how many addresses.
@@ -119,6 +133,8 @@ pub fn of_set(set: u8, count: u16) -> Ask {
         nat_destination: asks(3),
         no_additional: asks(4),
         count,
+        clone_supported: asks(5),
+        clone: asks(6),
     }
 }
 
@@ -170,7 +186,29 @@ impl Flaw {
                 let length = rng.pick(&[1, 6, 7, 7, 65, 65, 66, 128, 256, 264]);
                 arguments.cookie = rng.octets(length);
             }
+            Flaw::NotAlone => beside_clone(rng, arguments),
         }
+    }
+}
+
+/// Asks for one of the two of clones beside all else, or beside one other thing.
+fn beside_clone(rng: &mut Rng, arguments: &mut Arguments) {
+    let Ask { clone, clone_supported, .. } = of_clones(rng);
+    if rng.one_in(3) {
+        (arguments.ask.clone, arguments.ask.clone_supported) = (clone, clone_supported);
+        return;
+    }
+    arguments.ask = Ask { clone, clone_supported, ..Ask::default() };
+    arguments.cookie.clear();
+    match rng.below(8) {
+        0 => arguments.ask.update = true,
+        1 => (arguments.ask.no_nats, arguments.pair) = (true, pairs::pair(rng)),
+        2 => (arguments.ask.nat_source, arguments.ask.nat_destination) = (true, true),
+        3 => arguments.ask.no_additional = true,
+        4 => arguments.ask.count = rng.between(1, MAX_KEPT) as u16,
+        5 => (arguments.ask.clone, arguments.ask.clone_supported) = (true, true),
+        6 => arguments.ask.nat_source = true,
+        _ => arguments.cookie = rng.octets(8),
     }
 }
 

@@ -25,6 +25,8 @@ pub fn all() -> Vec<Arguments> {
         mixed_families(),
         flaws_together(),
         unasked(),
+        of_clones(),
+        of_clones_unasked(),
     ]
     .concat()
 }
@@ -278,5 +280,43 @@ fn unasked() -> Vec<Arguments> {
     ];
     let asks = (0..32).flat_map(|set| [0, 2, 3].map(|count| of_set(set, count)));
     let cases = asks.map(|ask| Arguments { ask, ..nothing() }).collect();
+    with_every_set(cases, &flaws)
+}
+
+/// Either of the two of clones, or both, with every set of what else can be asked for, with lists, cookies and outputs
+/// that are enough or not.
+fn of_clones() -> Vec<Arguments> {
+    let mut cases = Vec::new();
+    for set in (0..32).flat_map(|set| [0b010_0000, 0b100_0000, 0b110_0000].map(|two| set | two)) {
+        for count in [0, 1, 256] {
+            for (size, room) in [(0, 563), (0, 564), (8, 564), (7, 600)] {
+                let (cookie, output) = (octets(1, size), octets(0xc0, room));
+                cases.push(Arguments { ask: of_set(set, count), cookie, output, ..nothing() });
+            }
+        }
+    }
+    for set in [0b010_0000, 0b100_0000] {
+        for size in (0..=72).chain([255, 256, 264, 65536]) {
+            let cookie = octets(1, size);
+            cases.push(Arguments { ask: of_set(set, 0), cookie, ..nothing() });
+        }
+        for room in ROOMS {
+            let output = octets(0xc0, room);
+            cases.push(Arguments { ask: of_set(set, 0), output, ..nothing() });
+        }
+    }
+    cases
+}
+
+/// Every set of flawed arguments for what isn't asked for beside one of the two.
+fn of_clones_unasked() -> Vec<Arguments> {
+    let flaws: [fn(&mut Arguments); 4] = [
+        |it| it.pair = AddressPair { family: 5, ..it.pair },
+        |it| it.nat_source = vec![],
+        |it| it.nat_destination = octets(1, 21),
+        |it| it.addresses.fill(Address { family: 9, octets: [9; 16] }),
+    ];
+    let asks = [0b010_0000, 0b100_0000].map(|set| of_set(set, 0));
+    let cases = asks.map(|ask| Arguments { ask, ..nothing() }).to_vec();
     with_every_set(cases, &flaws)
 }

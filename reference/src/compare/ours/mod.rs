@@ -2,6 +2,7 @@
 // verified program that replays a trace.
 pub mod assess;
 pub mod checks;
+pub mod clones;
 pub mod cookie;
 pub mod entries;
 mod pipe;

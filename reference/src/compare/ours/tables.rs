@@ -10,15 +10,18 @@ use reference::policy::{Policy, Rule, RuleList};
 use reference::tables::{IkeRecord, IpsecRecord, Tables};
 use std::mem::{offset_of, size_of};
 
-const _: () = assert!(size_of::<IkeRecord>() == 416 && size_of::<IpsecRecord>() == 56);
-const _: () = assert!(offset_of!(IkeRecord, unknown) == 340 && offset_of!(IkeRecord, check) == 344);
+const _: () = assert!(size_of::<IkeRecord>() == 432 && size_of::<IpsecRecord>() == 56);
+const _: () = assert!(offset_of!(IkeRecord, unknown) == 348 && offset_of!(IkeRecord, check) == 352);
+const _: () = assert!(offset_of!(IkeRecord, deleting) == 424);
 const _: () = assert!(size_of::<PendingCheck>() == 72 && offset_of!(PendingCheck, length) == 0);
 const _: () = assert!(offset_of!(PendingCheck, octets) == 1 && offset_of!(PendingCheck, id) == 68);
-const _: () = assert!(offset_of!(IkeRecord, agreed) == 8 && offset_of!(IkeRecord, pair) == 10);
-const _: () = assert!(size_of::<Agreed>() == 1 && offset_of!(IkeRecord, addresses) == 66);
+const _: () = assert!(offset_of!(IkeRecord, agreed) == 8 && offset_of!(IkeRecord, pair) == 16);
+const _: () = assert!(offset_of!(IkeRecord, count) == 72 && offset_of!(IkeRecord, addresses) == 74);
+const _: () = assert!(size_of::<Agreed>() == 8 && offset_of!(Agreed, mobike) == 0);
+const _: () = assert!(offset_of!(Agreed, cloning) == 1 && offset_of!(Agreed, peer) == 4);
 const _: () = assert!(offset_of!(IpsecRecord, owner) == 8 && offset_of!(IpsecRecord, pair) == 16);
-const _: () = assert!(size_of::<Opening>() == 56 && offset_of!(Opening, agreed) == 8);
-const _: () = assert!(offset_of!(Opening, pair) == 10 && offset_of!(Opening, child) == 48);
+const _: () = assert!(size_of::<Opening>() == 64 && offset_of!(Opening, agreed) == 8);
+const _: () = assert!(offset_of!(Opening, pair) == 16 && offset_of!(Opening, child) == 56);
 const _: () = assert!(size_of::<Rule>() == 35 && offset_of!(Rule, source_length) == 33);
 const _: () = assert!(size_of::<Policy>() == 562 && offset_of!(Policy, rules) == 2);
 const _: () = assert!(size_of::<RuleList>() == 560);
@@ -46,6 +49,7 @@ extern "C" {
         spi: u64,
     ) -> u8;
     fn unmavreth_close_ipsec(ipsec: *mut IpsecRecord, ipsec_len: usize, spi: u32) -> u8;
+    fn unmavreth_mark_deletion(ike: *mut IkeRecord, spi: u64) -> u8;
     fn unmavreth_set_policy(policy: *mut Policy, count: u16, rules: *const RuleList) -> u8;
     /// Given back as an octet, so that any value may be looked at.
     fn unmavreth_acceptable(policy: *const Policy, pair: AddressPair) -> u8;
@@ -69,7 +73,7 @@ fn spis(call: &Call) -> (u64, u32) {
     match *call {
         Call::OpenBoth(Opening { spi, child, .. }) => (spi, child),
         Call::OpenIpsec { spi, owner } => (owner, spi),
-        Call::CloseIke { spi } => (spi, NO_SPI_GIVEN),
+        Call::CloseIke { spi } | Call::MarkDeletion { spi } => (spi, NO_SPI_GIVEN),
         Call::CloseIpsec { spi } => (none, spi),
         Call::SetPolicy { .. } | Call::Acceptable { .. } => (none, NO_SPI_GIVEN),
     }
@@ -106,6 +110,10 @@ fn make_on(call: &Call, lent: &mut LentTables, rules: *const RuleList) -> u8 {
         Call::CloseIpsec { spi } => {
             // SAFETY: as above.
             unsafe { unmavreth_close_ipsec(ipsec, ipsec_length, spi) }
+        }
+        Call::MarkDeletion { spi } => {
+            // SAFETY: as above.
+            unsafe { unmavreth_mark_deletion(ike, spi) }
         }
         Call::SetPolicy { count, .. } => {
             // SAFETY: as above.

@@ -21,9 +21,12 @@ struct CAsk {
     nat_destination: u8,
     no_additional: u8,
     count: u16,
+    clone_supported: u8,
+    clone: u8,
 }
 
-const _: () = assert!(size_of::<CAsk>() == 8 && offset_of!(CAsk, count) == 6);
+const _: () = assert!(size_of::<CAsk>() == 10 && offset_of!(CAsk, count) == 6);
+const _: () = assert!(offset_of!(CAsk, clone_supported) == 8 && offset_of!(CAsk, clone) == 9);
 const _: () = assert!(size_of::<CWritten>() == 4 && offset_of!(CWritten, length) == 2);
 
 #[link(name = "unmavreth", kind = "static")]
@@ -54,6 +57,8 @@ fn as_octets(ask: Ask, cookie: usize) -> CAsk {
         nat_destination: octet(ask.nat_destination, 8),
         no_additional: octet(ask.no_additional, 128),
         count: ask.count,
+        clone_supported: octet(ask.clone_supported, 64),
+        clone: octet(ask.clone, 255),
     }
 }
 

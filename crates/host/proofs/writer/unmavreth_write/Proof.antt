@@ -12,5 +12,13 @@ unmavreth-write-spec =
     (λ c κs. search needs)
     (λ c κs. search needs)
     (λ c κs. search needs)
+    (λ c κs. search needs)
     (λ c. search needs)
-    (λ c. rw (← c .before .before .before .before .before .before .before .ask-of .ensures, ← c .before .before .before .before .before .families-of .ensures, ← c .before .before .before .before .octets-of .ensures) (c .before .before .write .ensures)))
+    (λ c.
+    let w = c .before .before in
+    let o = w .before .before in
+    let f = o .before in
+    let k = f .before .before in
+    let a = k .before in
+    rw (← a .ask-of .ensures, ← k .clone-ask-of .ensures, ← f .families-of .ensures, ← o .octets-of .ensures)
+    (w .write-any .ensures)))

@@ -28,9 +28,9 @@ const PAIR: Field = Each(&[Family, Address, Address, Number, Number]);
 const RULE: &[Field] = &[Family, Address, Address, Number, Number];
 
 /// The word, the kind and the fields of each call.
-pub const CALLS: [(&str, Kind, &[Field]); 7] = [
-    // SPI, MOBIKE agreed, pair, IPsec SPI
-    ("open", Kind::OpenBoth, &[Number, Number, PAIR, Number]),
+pub const CALLS: [(&str, Kind, &[Field]); 9] = [
+    // SPI, MOBIKE agreed, pair, IPsec SPI, peer, cloning agreed
+    ("open", Kind::OpenBoth, &[Number, Number, PAIR, Number, Number, Number]),
     // SPI, owner's SPI
     ("add", Kind::AddIpsec, &[Number, Number]),
     // SPI
@@ -47,6 +47,10 @@ pub const CALLS: [(&str, Kind, &[Field]); 7] = [
     ("policy", Kind::Policy, &[List(RULE)]),
     // SPI, message ID, first type, body
     ("check-response", Kind::CheckResponse, &[Number, Number, Number, String]),
+    // SPI, new SPI, first type, body
+    ("clone", Kind::Clone, &[Number, Number, Number, String]),
+    // SPI
+    ("mark-deletion", Kind::MarkDeletion, &[Number]),
 ];
 
 /// How many slots these fields have.

@@ -1,7 +1,9 @@
 // Openings of both records: every family and tail, every set of failing checks, and what may be in
 // the tables besides.
 use super::super::{spis, Case};
-use super::contents::{self, ike_record, ipsec_record, ipv4_pair, open_both, NEW_IKE, NEW_IPSEC};
+use super::contents::{
+    self, ike_record, ipsec_record, ipv4_pair, open_both, AGREED, NEW_IKE, NEW_IPSEC,
+};
 use crate::address::AddressPair;
 use crate::agreed::Agreed;
 use crate::calls::Call;
@@ -95,7 +97,7 @@ fn checks() -> Vec<Case> {
         for spi in ike_spis() {
             for child in children() {
                 for (pair, mobike) in pairs().into_iter().zip([1, 0, 255, 2, 0]) {
-                    let opening = Opening { spi, agreed: Agreed { mobike }, pair, child };
+                    let opening = Opening { spi, agreed: Agreed { mobike, ..AGREED }, pair, child };
                     let calls = vec![Call::OpenBoth(opening)];
                     cases.push(Case { tables: tables.clone(), calls });
                 }
@@ -257,7 +259,7 @@ fn policies() -> Vec<Case> {
     for tables in [Tables::empty(), contents::with_free(&[4], &[4])] {
         for pair in [ipv4_pair(), contents::pair(0), contents::pair(15), contents::pair(99)] {
             for mobike in [1, 0] {
-                let agreed = Agreed { mobike };
+                let agreed = Agreed { mobike, ..AGREED };
                 let opening = Opening { spi: NEW_IKE, agreed, pair, child: NEW_IPSEC };
                 let calls = vec![Call::OpenBoth(opening), Call::Acceptable { pair }];
                 cases.push(Case { tables: tables.clone(), calls });

@@ -17,9 +17,12 @@ use std::rc::Rc;
 pub const NEW_IKE: u64 = u64::MAX - 1;
 pub const NEW_IPSEC: u32 = u32::MAX - 1;
 
+/// What an opening gives, where a case doesn't say it.
+pub const AGREED: Agreed = Agreed { mobike: 1, cloning: 2, peer: 0x0102_0304 };
+
 /// Opens both, with MOBIKE agreed.
 pub fn open_both(spi: u64, pair: AddressPair, child: u32) -> Call {
-    Call::OpenBoth(Opening { spi, agreed: Agreed { mobike: 1 }, pair, child })
+    Call::OpenBoth(Opening { spi, agreed: AGREED, pair, child })
 }
 
 /// Sixteen octets that differ from place to place.
@@ -49,7 +52,7 @@ pub fn ike_record(place: usize, spi: u64) -> IkeRecord {
     let address = |number| Address { family: 6, octets: octets(place + number) };
     IkeRecord {
         spi,
-        agreed: Agreed { mobike: YES[place % YES.len()] },
+        agreed: Agreed { mobike: yes(place), cloning: yes(place + 3), peer: !(place as u32) },
         pair: pair(place),
         update_mark: u64::MAX - place as u64,
         list_mark: 1 + place as u64,
@@ -57,7 +60,13 @@ pub fn ike_record(place: usize, spi: u64) -> IkeRecord {
         addresses: array::from_fn(address),
         unknown: u32::MAX - place as u32,
         check: pending(place),
+        deleting: yes(place + 5),
     }
+}
+
+/// Octets that say yes, in turn.
+fn yes(place: usize) -> u8 {
+    YES[place % YES.len()]
 }
 
 /// A check with a cookie of an allowed length, and octets other than 0 past it.

@@ -45,6 +45,7 @@ fn calls() -> Vec<Call> {
         }
     }
     calls.extend([last, 0, spis::ipsec(0), NEW_IPSEC - 1].map(|spi| Call::CloseIpsec { spi }));
+    calls.extend([spis::ike(0), 0, NEW_IKE - 1].map(|spi| Call::MarkDeletion { spi }));
     calls.extend([spis::ike(0), 0, NEW_IKE - 1].map(|spi| Call::CloseIke { spi }));
     calls
 }

@@ -1,0 +1,34 @@
+// The entry of a clone request.
+use calling::clone_in;
+use given::outcome::Outcome;
+use given::outcome::numbered;
+use given::reading::Slots;
+use given::reading::string_at;
+use host::clone::unmavreth_clone;
+use octets::limits::IKE_PLACES;
+use policy::rules::Policy;
+use records::ike::IkeRecord;
+use records::ipsec::IpsecRecord;
+ghost use lib.ListN.{length};
+ghost use Rattle.acts.specs.Performed.{Performs, clonedBy};
+
+// Decides a clone request. Its body is a part of the window.
+pub fn clone_entry(
+    ike: &mut [IkeRecord; IKE_PLACES],
+    ipsec: &mut [IpsecRecord],
+    policy: &mut Policy,
+    window: &[u8],
+    e: Slots,
+    out: &mut [u8],
+) -> Outcome
+    ensures { λ r. ⌜ (
+        let act = clonedBy (now (window .entry)) (e .slots) (length (now (out .entry))) in
+        Performs act (now (ike .entry)) (now (ipsec .entry)) (now (policy .entry))
+        r (now (ike .exit)) (now (ipsec .exit)) (now (policy .exit))
+        ) ⌝ }
+{
+    let q = clone_in(e);
+    let body = string_at(window, q.body);
+    let a = unmavreth_clone(ike, q.spi, q.new_spi, q.first, body, out);
+    numbered(a.number)
+}

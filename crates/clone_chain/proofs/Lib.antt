@@ -1,0 +1,4 @@
+-- Laws that belong to no one function.
+pub mod Turn
+pub mod Looked
+pub mod Counted

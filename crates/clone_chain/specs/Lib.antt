@@ -1,0 +1,2 @@
+pub mod CloneChain
+pub mod Look

@@ -1,0 +1,2 @@
+pub mod ClonePlain
+pub mod CloneTrips

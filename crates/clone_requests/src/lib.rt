@@ -1,0 +1,2 @@
+// The request writer as a host calls it: a request as ever, or one of the two notifications of a clone, alone.
+pub mod write;

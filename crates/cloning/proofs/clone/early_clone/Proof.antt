@@ -1,0 +1,56 @@
+-- `cloning::clone::early_clone` meets its contract: where it returns, the checks before have passed and the one at hand
+-- has failed.
+-- Assumes nothing.
+use borrow.Author.Needs.{needs}
+use borrow.Author.Tests.{eq-eqb, ne-eqb, lt-ltb, le-ltb}
+use mathlib.Core.Path.{sym, _∙_}
+use Rattle.cloning.specs.Clone.{earlyClone}
+use Rattle.cloning.proofs.clone.early_clone.Statement.{statement}
+use Rattle.cloning.proofs.clone.early_clone.Tie as tie
+
+pub early-clone-spec : {M : Type 1} → statement M
+unfolding earlyClone
+early-clone-spec =
+    tie.close
+    (tie.spec
+    (λ c. rw (eq-eqb _ _ (c .if1 .taken)))
+    (λ c. rw (ne-eqb _ _ (c .before .if1 .left), eq-eqb _ _ (c .if2 .taken)))
+    (λ c. rw (
+      ne-eqb _ _ (c .before .before .if1 .left),
+      ne-eqb _ _ (c .before .if2 .left),
+      lt-ltb _ _ (c .if3 .taken),
+    ))
+    (λ c. rw (
+      ne-eqb _ _ (c .before .before .before .if1 .left),
+      ne-eqb _ _ (c .before .before .if2 .left),
+      le-ltb _ _ (c .before .if3 .left),
+      lt-ltb _ _ (c .if4 .taken),
+    ))
+    (λ c. rw (
+      ne-eqb _ _ (c .before .before .before .before .if1 .left),
+      ne-eqb _ _ (c .before .before .before .if2 .left),
+      le-ltb _ _ (c .before .before .if3 .left),
+      le-ltb _ _ (c .before .if4 .left),
+      le-ltb _ _ (c .if5 .taken),
+    ))
+    (λ c κs. search needs)
+    (λ c.
+    let here = c .before .before in
+    rw (
+      ne-eqb _ _ (here .before .before .before .before .if1 .left),
+      ne-eqb _ _ (here .before .before .before .if2 .left),
+      le-ltb _ _ (here .before .before .if3 .left),
+      le-ltb _ _ (here .before .if4 .left),
+      lt-ltb _ _ (here .if5 .left),
+      sym (c .before .is-yes .ensures) ∙ c .if6 .taken,
+    ))
+    (λ c.
+    let here = c .before .before in
+    rw (
+      ne-eqb _ _ (here .before .before .before .before .if1 .left),
+      ne-eqb _ _ (here .before .before .before .if2 .left),
+      le-ltb _ _ (here .before .before .if3 .left),
+      le-ltb _ _ (here .before .if4 .left),
+      lt-ltb _ _ (here .if5 .left),
+      sym (c .before .is-yes .ensures) ∙ c .if6 .left,
+    )))

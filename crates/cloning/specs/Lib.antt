@@ -1,0 +1,2 @@
+pub mod Clone
+pub mod Looked
