@@ -2,3 +2,4 @@
 pub mod Alone
 pub mod OneNotify
 pub mod Trips
+pub mod Elsewhere

@@ -1,2 +1,3 @@
 pub mod ClonePlain
 pub mod CloneTrips
+pub mod Elsewhere

@@ -28,7 +28,7 @@ use Rattle.records.specs.Records.{ikeSpi, cloneOf, ofPeer}
 use Rattle.records.specs.declared.ike.IkeRecord.{IkeRecord}
 use Rattle.tables.specs.Calls.{hasIke}
 use Rattle.tables.specs.Tables.{meant}
-use Rattle.reader.specs.Chain.{count, chainAt}
+use Rattle.reader.specs.Chain.{count, chainAt, faultGiven}
 use Rattle.reader.specs.declared.read.Reading.{Reading}
 use Rattle.answering.specs.Core.{chainError}
 use Rattle.clone_chain.specs.CloneChain.{cloneReading}
@@ -67,9 +67,6 @@ earlyClone there e q = firstFailed (earlyCloneChecks there e q)
 -- E8: "6, 7", which reading tells, "44 no CLONE_IKE_SA there, 41 being deleted or table full (TEMPORARY_FAILURE, 43), 42
 -- peer has 4 records or more (NO_ADDITIONAL_SAS, 35), 11". `free` says whether a place is free, `taken` whether a record
 -- has the new SPI, and `records` how many the peer has.
-abbrev pub readGiven : Reading → Check
-readGiven r = record { fails = not (eqb (r .number) 0); number = r .number }
-
 abbrev pub wholeCloneChecks : Bool → Bool → Bool → Bool → Bool → List Check
 wholeCloneChecks there deleting free limited taken =
     not there gives NoCloneRequest
@@ -80,7 +77,7 @@ wholeCloneChecks there deleting free limited taken =
 
 abbrev pub lateCloneChecks : CloneReading → IkeRecord → Bool → ℕ → Bool → List Check
 lateCloneChecks r e free records taken =
-    readGiven (r .reading)
+    faultGiven (r .reading)
     ∷ wholeCloneChecks (r .clone) (isYes (e .deleting)) free (leb peerRecordsMost records) taken
 
 unfoldable pub lateClone : CloneReading → IkeRecord → Bool → ℕ → Bool → ℕ
@@ -88,6 +85,7 @@ lateClone r e free records taken = firstFailed (lateCloneChecks r e free records
 
 -- E8: "Done writes CLONE_IKE_SA"; "TEMPORARY_FAILURE, 43" with 41, "NO_ADDITIONAL_SAS, 35" with 42; "40 and 44 write
 -- nothing", and by 01's table 11 neither. The notify type that a number writes, of a chain that was read whole; 0: none.
+-- An answer and a notify type of the same number are two things: answer 41 writes type 43.
 abbrev pub cloneNotify : ℕ → ℕ
 cloneNotify number =
     cond (eqb number (numberOf Done)) cloneIkeSa

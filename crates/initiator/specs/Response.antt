@@ -26,7 +26,7 @@ use Rattle.findings.specs.Seen.{is}
 use Rattle.values.specs.Values.{partOf}
 use Rattle.findings.specs.declared.seen.Seen.{Seen}
 use Rattle.findings.specs.declared.seen.Tally.{Tally}
-use Rattle.reader.specs.Chain.{count, chainAt, reading}
+use Rattle.reader.specs.Chain.{count, chainAt, reading, faultGiven}
 use Rattle.reader.specs.declared.read.Reading.{Reading}
 use Rattle.asking.specs.Fits.{cookieFits}
 use Rattle.initiator.specs.declared.response.Assessment.{Assessment}
@@ -76,10 +76,7 @@ tallyOf sent got t =
     + cond (eqb (length sent) 0) (cond (eqb (length got) 0) 0 1) 0
 
 -- 01: "after checks 1, 3, 6, 7 (which write nothing here)"; 02, E4: "61 to 65 take 6's place in the order". These and 7
--- are found by reading, which tells the first fault in the body: one line, whose number is the reading's.
-abbrev pub faultGiven : Reading → Check
-faultGiven r = record { fails = not (eqb (r .number) 0); number = r .number }
-
+-- are found by reading (`faultGiven`).
 abbrev pub responseChecks : List ℕ → ℕ → List ℕ → List Check
 responseChecks sent first body =
     not (cookieFits (length sent)) gives BadArgument

@@ -9,6 +9,7 @@
 --   Outcome          `Whole`, or `Broken` by a fault at an offset
 --   scanned          reading a chain after what was seen
 --   reading          what the reader gives for a first type and a body
+--   faultGiven       that a chain is read whole, as a check of a call
 --   faultNumber      the number that a fault gives
 --   faultType        the payload type that is told with it
 --   oneToSeven       a number is one of 01's "answers 1 to 7"
@@ -17,9 +18,10 @@
 use Prim.Native.Nat.{ℕ, zero, suc, _+_, _-_}
 use mathlib.Core.Path.{_≡_}
 use mathlib.Core.List.{List}
-use mathlib.Core.Bool.{Bool, cond, _&&_, _||_}
+use mathlib.Core.Bool.{Bool, cond, _&&_, _||_, not}
 use lib.ListN.{length, getD}
 use lib.Dec.{eqb, leb, ltb}
+use Rattle.octets.specs.Checks.{Check}
 use Rattle.octets.specs.Limits.{bodyMost, notifyHeader}
 use Rattle.octets.specs.Numbers.{numberOf}
 use Rattle.octets.specs.declared.number.Number.{Number}
@@ -139,6 +141,11 @@ reading first body =
     let ch = chainAt body first 0 in
     let scan = scanned nothingSeen ch in
     cond (ltb bodyMost (length body)) (refused (numberOf BodyTooLong) 0 0 0) (answer ch (scan .outcome) (scan .seen))
+
+-- The check of a chain among others of a call: one line, whose number is the reading's, since reading tells the first
+-- fault in the body.
+abbrev pub faultGiven : Reading → Check
+faultGiven r = record { fails = not (eqb (r .number) 0); number = r .number }
 
 -- 01: "answers 1 to 7"; 02, E4: "61 to 65 take 6's place in the order".
 abbrev pub oneToSeven : ℕ → Bool
