@@ -5,6 +5,9 @@ use octets::limits::NOTIFY_HEADER;
 use octets::number::Number;
 use octets::number::number_of;
 use octets::wire::NOTIFY_PAYLOAD;
+use payload::payload::LENGTH;
+use payload::payload::NOTIFY_TYPE;
+use payload::payload::SPI_SIZE;
 use reader::read::Reading;
 use reader::read::read_short;
 use reader::read::refuse;
@@ -36,14 +39,6 @@ pub struct Look {
     pub supported: bool,
     pub clone: bool,
 }
-
-// Where the fields of a payload stand, counted from its first octet.
-const LENGTH: usize = 2;
-
-// Two more of a Notify, behind the header.
-const SPI_SIZE: usize = 5;
-
-const NOTIFY_TYPE: usize = 6;
 
 // The SPI size of the Notify at `at`; 0 past the end.
 fn spi_size_at(body: &[u8], at: usize) -> u8

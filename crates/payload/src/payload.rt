@@ -20,12 +20,12 @@ ghost use Rattle.notify.specs.Notify.{kindOf};
 // diagram. The next payload's type is the first octet itself.
 const FLAGS: usize = 1;
 
-const LENGTH: usize = 2;
+pub const LENGTH: usize = 2;
 
 // Two more of a Notify, behind the header.
-const SPI_SIZE: usize = 5;
+pub const SPI_SIZE: usize = 5;
 
-const NOTIFY_TYPE: usize = 6;
+pub const NOTIFY_TYPE: usize = 6;
 
 // What can be wrong with a chain.
 pub enum Fault {
