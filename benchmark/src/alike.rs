@@ -2,7 +2,7 @@
 use crate::job::{draft, Asking, Checking, Cloning, Deciding, Handling, Job, OpeningBoth};
 use crate::rows;
 use crate::side::Side;
-use unmavreth::{Address, Draft, Flag, Pair, Rule};
+use unmavreth::{Address, Draft, Flag, IpsecRecord, Operator, Pair, Rule};
 
 /// What the library and the lean baseline tell must be the same, a check bit by bit too.
 fn alike(job: &Job) {
@@ -123,7 +123,7 @@ fn of_paths() {
             }
             let mut handling = Handling::of(41, body);
             handling.pair = pair;
-            handling.gateway.policy.rules[0] = Rule { family: pair.family, ..Rule::NONE };
+            handling.gateway.policies[0].rules[0] = Rule { family: pair.family, ..Rule::NONE };
             alike(&Job::Handle(Box::new(handling)));
         }
     }
@@ -173,7 +173,7 @@ fn of_arguments() {
             handling.gateway.ike[31].list_mark = 7 - mark;
             handling.gateway.ike[31].unknown = u32::MAX - 1;
             handling.gateway.ipsec[1].spi = 0;
-            handling.gateway.policy.rules[0] = Rule { family: pair.family, ..Rule::NONE };
+            handling.gateway.policies[0].rules[0] = Rule { family: pair.family, ..Rule::NONE };
             (handling.spi, handling.pair) = (spi, pair);
             alike(&Job::Handle(Box::new(handling)));
             let mut checking = Checking::owning(3);
@@ -193,6 +193,74 @@ fn of_arguments() {
     }
 }
 
+/// Every call by either operator and by one that is neither, on records of each; one record may have the SPI of
+/// another's.
+#[test]
+fn of_operators() {
+    let octets = [0, 1, 2, 255].map(Operator::from);
+    for [named, of, twin] in triples(octets.len()).map(|of| of.map(|at| octets[at])) {
+        for twins in [false, true] {
+            let mut handling = Handling::owning(3);
+            handling.operator = named;
+            handling.gateway.policies[1] = handling.gateway.policies[0];
+            handling.gateway.policies[usize::from(twins)].count = 0;
+            let mut checking = Checking { operator: named, ..Checking::owning(3) };
+            let mut cloning = Cloning { operator: named, ..Cloning::of_last() };
+            for (gateway, place) in [
+                (&mut handling.gateway, 31),
+                (&mut checking.gateway, 31),
+                (&mut cloning.gateway, 30),
+            ] {
+                gateway.ike[place].agreed.operator = of;
+                gateway.ike[2].agreed.operator = twin;
+                if twins {
+                    gateway.ike[2].spi = gateway.ike[place].spi;
+                }
+            }
+            alike(&Job::Handle(Box::new(handling)));
+            alike(&Job::Check(Box::new(checking)));
+            alike(&Job::Clone(Box::new(cloning)));
+        }
+    }
+}
+
+/// Openings and clones by an operator with so many records of its own, a place free or none, and with orphans.
+#[test]
+fn of_shares() {
+    for (own, free) in (17..=21).flat_map(|own| [false, true].map(|free| (own, free))) {
+        for named in [0, 1, 2].map(Operator::from) {
+            let mut cloning = Cloning { operator: named, ..Cloning::of_last() };
+            let records = &mut cloning.gateway.ike;
+            records[31] = records[30];
+            records[31].spi = if free { 0 } else { 132 };
+            for (place, record) in records.iter_mut().enumerate() {
+                record.agreed.operator = Operator::from(u8::from((30 - own..30).contains(&place)));
+            }
+            records[30].agreed.operator = named;
+            alike(&Job::Clone(Box::new(cloning)));
+        }
+        for (owned, orphans) in [47, 48, 79, 80, 81].into_iter().flat_map(|of| [(of, 0), (of, 9)]) {
+            let mut opening = OpeningBoth::on_full();
+            let (ike, ipsec) = (&mut opening.gateway.ike, &mut opening.gateway.ipsec);
+            for (place, record) in ipsec.iter_mut().enumerate() {
+                record.owner = if place < owned { 7 } else { 101 };
+                record.owner = if place < orphans { 9 } else { record.owner };
+            }
+            if free {
+                (ike[3].spi, ipsec[100]) = (0, IpsecRecord::FREE);
+            }
+            for (place, record) in ike.iter_mut().enumerate() {
+                record.agreed.operator = Operator::from(u8::from(place < 32 - own));
+            }
+            for named in [0, 1, 2].map(Operator::from) {
+                let (gateway, mut given) = (opening.gateway.clone(), opening.opening);
+                given.agreed.operator = named;
+                alike(&Job::Open(Box::new(OpeningBoth { gateway, opening: given })));
+            }
+        }
+    }
+}
+
 /// Clones of records that did not agree or are being deleted, among others of their peer and with no place free,
 /// to SPIs that are in use.
 #[test]
@@ -204,6 +272,7 @@ fn of_clones() {
                 let record = of.gateway.ike[30];
                 for other in &mut of.gateway.ike[..others] {
                     other.agreed.peer = record.agreed.peer;
+                    other.agreed.operator = record.agreed.operator;
                 }
                 of.gateway.ike[30].agreed.cloning = Flag::from(cloning == 1);
                 of.gateway.ike[30].deleting = Flag::from(deleting == 1);

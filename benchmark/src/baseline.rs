@@ -59,7 +59,7 @@ fn handled(handling: &Handling, count: bool) -> Told {
     let reply = black_box(call(
         black_box(&mut lent.ike),
         black_box(&lent.ipsec[..]),
-        black_box(&lent.policy),
+        black_box(&lent.policies),
         black_box(&request),
         black_box(&mut lent.out[..handling.room]),
     ));

@@ -1,4 +1,4 @@
-// The library's records, openings, responses and policy in the second program's form, field by field.
+// The library's records, openings, responses and policies in the second program's form, field by field.
 use reference::address::{Address, AddressPair};
 use reference::agreed::Agreed;
 use reference::check::CheckResponse;
@@ -23,7 +23,7 @@ pub fn pair(of: &unmavreth::Pair) -> AddressPair {
 
 fn agreed(of: &unmavreth::Agreed) -> Agreed {
     let [mobike, cloning] = [of.mobike, of.cloning].map(|flag| u8::from(flag.is_set()));
-    Agreed { mobike, cloning, peer: of.peer }
+    Agreed { mobike, cloning, operator: of.operator.into(), peer: of.peer }
 }
 
 fn ike(of: &unmavreth::IkeRecord) -> IkeRecord {
@@ -46,7 +46,8 @@ fn pending(of: &unmavreth::PendingCheck) -> PendingCheck {
 }
 
 pub fn check_response(of: &unmavreth::CheckResponse<'_>) -> CheckResponse {
-    CheckResponse { spi: of.spi, id: of.id, first: of.first, body: of.body.to_vec() }
+    let (body, operator) = (of.body.to_vec(), of.operator.into());
+    CheckResponse { spi: of.spi, id: of.id, first: of.first, body, operator }
 }
 
 fn ipsec(of: &unmavreth::IpsecRecord) -> IpsecRecord {
@@ -75,11 +76,11 @@ pub fn policy(of: &unmavreth::Policy) -> Policy {
 pub fn tables(
     records: &[unmavreth::IkeRecord; 32],
     list: &[unmavreth::IpsecRecord; 128],
-    policy: &unmavreth::Policy,
+    policies: &[unmavreth::Policy; 2],
 ) -> Tables {
     let mut tables = Tables::empty();
     *tables.ike_mut() = records.each_ref().map(ike);
     tables.ipsec_mut().copy_from_slice(&list.each_ref().map(ipsec));
-    tables.policy = self::policy(policy);
+    tables.policies = policies.each_ref().map(policy);
     tables
 }

@@ -12,6 +12,7 @@ use reference::reply::Handled;
 use reference::rules::{Plain, PolicyRules};
 use reference::tables::Tables;
 use std::hint::black_box;
+use unmavreth::limits::OPERATORS;
 use unmavreth::redirect::{Exchange, Redirect, Redirects};
 use unmavreth::{
     Assessment, CheckResponse, CloneReply, CloneRequest, Draft, IkeRecord, IpsecRecord, Number,
@@ -62,11 +63,11 @@ pub fn counted_ours_read(first: u8, body: &[u8]) -> Reading {
 pub fn counted_ours_handle(
     ike: &mut [IkeRecord; 32],
     ipsec: &[IpsecRecord],
-    policy: &Policy,
+    policies: &[Policy; OPERATORS],
     request: &Request<'_>,
     out: &mut [u8],
 ) -> Reply {
-    let reply = unmavreth::handle(ike, ipsec, policy, request, out);
+    let reply = unmavreth::handle(ike, ipsec, policies, request, out);
     black_box(&reply);
     reply
 }
@@ -210,11 +211,11 @@ pub fn counted_lean_read(first: u8, body: &[u8], reading: &mut lean::Reading) {
 pub fn counted_lean_handle(
     ike: &mut [IkeRecord; 32],
     ipsec: &[IpsecRecord],
-    policy: &Policy,
+    policies: &[Policy; OPERATORS],
     request: &Request<'_>,
     out: &mut [u8],
 ) -> lean::Reply {
-    let reply = lean::handle(ike, ipsec, policy, request, out);
+    let reply = lean::handle(ike, ipsec, policies, request, out);
     black_box(&reply);
     reply
 }

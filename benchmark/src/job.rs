@@ -1,10 +1,11 @@
 // What a row's call is given, on either side.
 use crate::chains::{self, CHECK_COOKIE, COOKIE, NAT_DESTINATION, NAT_SOURCE, NOTIFY};
+use unmavreth::limits::{IKE_SHARE, IPSEC_PLACES, IPSEC_SHARE};
 use unmavreth::redirect::{Exchange, Redirects};
 use unmavreth::trace::Entry;
 use unmavreth::{
-    Address, Agreed, Ask, CheckResponse, CloneRequest, Draft, Effect, Flag, Gateway, Number,
-    Opening, Pair, Policy, Request, Rule,
+    Address, Agreed, Ask, CheckResponse, CloneRequest, Draft, Effect, Flag, Gateway, IkeRecord,
+    IpsecRecord, Number, Opening, Operator, Pair, Policy, Request, Rule,
 };
 
 pub enum Job {
@@ -46,6 +47,7 @@ pub struct Handling {
     pub body: Vec<u8>,
     /// How long the output is, at most 128 octets.
     pub room: usize,
+    pub operator: Operator,
 }
 
 /// A response to a check, with the tables that are lent for it.
@@ -54,6 +56,7 @@ pub struct Checking {
     pub id: u32,
     pub first: u8,
     pub body: Vec<u8>,
+    pub operator: Operator,
 }
 
 /// An opening of both records, with the tables that are lent for it.
@@ -71,8 +74,12 @@ pub struct Cloning {
     pub body: Vec<u8>,
     /// How long the output is, at most 128 octets.
     pub room: usize,
+    pub operator: Operator,
 }
 
+/// Whose calls are counted; the other one's records stand before its own.
+pub const OPERATOR: Operator = Operator::A;
+const OTHER_OPERATOR: Operator = Operator::B;
 pub const OWNER: u64 = 7;
 const OTHER: u64 = 8;
 /// The two records, each with its first IPsec record, and then its second one.
@@ -94,14 +101,15 @@ impl Handling {
             done(gateway.open(&opening(spi, child)));
         }
         for (spi, owner) in ADDED {
-            done(gateway.open_ipsec(spi, owner));
+            done(gateway.open_ipsec(spi, owner, OPERATOR));
         }
         Handling::on(gateway, first, body)
     }
 
     fn on(gateway: Gateway, first: u8, body: Vec<u8>) -> Self {
         let (nat_source, cookie) = (NAT_SOURCE.to_vec(), CHECK_COOKIE.to_vec());
-        Handling { gateway, spi: OWNER, pair: NEW, nat_source, cookie, first, body, room: 128 }
+        let (spi, pair, room, operator) = (OWNER, NEW, 128, OPERATOR);
+        Handling { gateway, spi, pair, nat_source, cookie, first, body, room, operator }
     }
 
     /// The update, to the last of 32 records, which owns this many of 128 IPsec records.
@@ -121,6 +129,7 @@ impl Handling {
             body: &self.body,
             cookie: &self.cookie,
             check_id: CHECK_ID,
+            operator: self.operator,
         }
     }
 }
@@ -133,12 +142,14 @@ impl Checking {
         let mut gateway = update.gateway.clone();
         let reply = gateway.handle(&update.request(), &mut [0; 128]);
         assert_eq!((reply.number(), reply.update()), (Number::Done, Effect::Applied));
-        Checking { gateway, id: CHECK_ID, first: NOTIFY, body: chains::check_response() }
+        let (body, operator) = (chains::check_response(), OPERATOR);
+        Checking { gateway, id: CHECK_ID, first: NOTIFY, body, operator }
     }
 
     /// The response as the library is given it.
     pub fn response(&self) -> CheckResponse<'_> {
-        CheckResponse { spi: OWNER, id: self.id, first: self.first, body: &self.body }
+        let Checking { id, first, ref body, operator, .. } = *self;
+        CheckResponse { spi: OWNER, id, first, body, operator }
     }
 }
 
@@ -147,28 +158,35 @@ impl OpeningBoth {
         OpeningBoth { gateway: with_policy(), opening: opening(OWNER, 71) }
     }
 
-    /// Of SPIs that no record has.
+    /// Of SPIs that no record has, by the operator that has what the other's shares leave.
     pub fn on_full() -> Self {
-        OpeningBoth { gateway: full(128), opening: opening(OTHER, 81) }
+        let owned = IPSEC_PLACES - IPSEC_SHARE;
+        OpeningBoth { gateway: full(owned), opening: opening(OTHER, 81) }
+    }
+
+    /// By one that has its share of the IPsec records, and not of the IKE records.
+    pub fn at_share() -> Self {
+        OpeningBoth { gateway: full(IPSEC_SHARE), opening: opening(OTHER, 81) }
     }
 }
 
 impl Cloning {
-    /// A rekey of the last of 31 records, the only one of its peer.
+    /// A rekey of the last of 31 records, the only one of its peer; the other operator has its share of them.
     pub fn of_last() -> Self {
         let mut gateway = with_policy();
-        for spi in (101..131).chain([OWNER]) {
-            let agreed = Agreed { mobike: Flag::YES, cloning: Flag::YES, peer: spi as u32 };
+        for (place, spi) in (101..131).chain([OWNER]).enumerate() {
+            let (mobike, cloning) = (Flag::YES, Flag::YES);
+            let agreed = Agreed { mobike, cloning, operator: owner_of(place), peer: spi as u32 };
             done(gateway.open(&Opening { agreed, ..opening(spi, spi as u32) }));
         }
-        let (first, body) = (NOTIFY, chains::rekey());
-        Cloning { gateway, spi: OWNER, new_spi: OTHER, first, body, room: 128 }
+        let (first, body, room, operator) = (NOTIFY, chains::rekey(), 128, OPERATOR);
+        Cloning { gateway, spi: OWNER, new_spi: OTHER, first, body, room, operator }
     }
 
     /// The request as the library is given it.
     pub fn request(&self) -> CloneRequest<'_> {
-        let Cloning { spi, new_spi, first, ref body, .. } = *self;
-        CloneRequest { spi, new_spi, first, body }
+        let Cloning { spi, new_spi, first, ref body, operator, .. } = *self;
+        CloneRequest { spi, new_spi, first, body, operator }
     }
 }
 
@@ -200,8 +218,19 @@ fn ipv6(last: u8) -> [u8; 16] {
     [0x20, 1, 0xd, 0xb8, 5, 6, 7, 8, 9, 10, 11, 12, 14, 15, 16, last]
 }
 
+const AGREED: Agreed = Agreed { mobike: Flag::YES, operator: OPERATOR, ..Agreed::NONE };
+
 fn opening(spi: u64, child: u32) -> Opening {
-    Opening { spi, agreed: Agreed { mobike: Flag::YES, ..Agreed::NONE }, pair: OLD, child }
+    Opening { spi, agreed: AGREED, pair: OLD, child }
+}
+
+/// Whose the record at this place is, where all places are in use: the other operator has its share.
+fn owner_of(place: usize) -> Operator {
+    if place < IKE_SHARE {
+        OTHER_OPERATOR
+    } else {
+        OPERATOR
+    }
 }
 
 /// The calls that make the policy and the tables of `Handling::of`, as entries of a trace.
@@ -209,21 +238,23 @@ pub fn calls_before() -> Vec<Entry<'static>> {
     let mut policy = Policy { count: 1, ..Policy::EMPTY };
     policy.rules[0] = RULE;
     let opened = OPENED.map(|(spi, child)| Entry::OpenBoth(opening(spi, child)));
-    let added = ADDED.map(|(spi, owner)| Entry::AddIpsec { spi, owner });
-    [Entry::Policy(policy)].into_iter().chain(opened).chain(added).collect()
+    let added = ADDED.map(|(spi, owner)| Entry::AddIpsec { spi, owner, operator: OPERATOR });
+    let policy = Entry::Policy { policy, operator: OPERATOR };
+    [policy].into_iter().chain(opened).chain(added).collect()
 }
 
-/// All places in use; the last of 32 records owns this many of 128 IPsec records, the first ones.
+/// All places in use; the last of 32 records owns this many of 128 IPsec records, the first ones, and the first
+/// record, the other operator's, the others. Set as a host may lend them, since by the calls neither operator has
+/// more than its share.
 fn full(owned: usize) -> Gateway {
     let mut gateway = with_policy();
-    // Closes each first IPsec record again, so that the list can begin with those that are owned.
-    for spi in (101..132).chain([OWNER]) {
-        done(gateway.open(&opening(spi, 1000)));
-        done(gateway.close_ipsec(1000));
+    for (place, spi) in (101..132).chain([OWNER]).enumerate() {
+        let agreed = Agreed { operator: owner_of(place), ..AGREED };
+        gateway.ike[place] = IkeRecord { spi, agreed, pair: OLD, ..IkeRecord::FREE };
     }
-    for place in 0..128 {
+    for (place, record) in gateway.ipsec.iter_mut().enumerate() {
         let owner = if place < owned { OWNER } else { 101 };
-        done(gateway.open_ipsec(1000 + place as u32, owner));
+        *record = IpsecRecord { spi: 1000 + place as u32, owner, pair: OLD };
     }
     gateway
 }
@@ -235,7 +266,7 @@ fn done(number: Number) {
 
 fn with_policy() -> Gateway {
     let mut gateway = Gateway::new();
-    done(gateway.set_policy(&[RULE]));
+    done(gateway.set_policy(&[RULE], OPERATOR));
     gateway
 }
 

@@ -6,6 +6,7 @@ use crate::job::{Checking, Cloning, Deciding, Handling, Job, OpeningBoth};
 use crate::told::Told;
 use reference::tables::Tables;
 use std::hint::black_box;
+use unmavreth::limits::OPERATORS;
 use unmavreth::redirect::Identity;
 use unmavreth::{
     Assessment, Draft, Gateway, IkeRecord, IpsecRecord, Policy, Reading, Reply, Written,
@@ -69,18 +70,18 @@ fn count_write(draft: &Draft) -> Told {
 pub struct Lent {
     pub ike: [IkeRecord; 32],
     pub ipsec: [IpsecRecord; 128],
-    pub policy: Policy,
+    pub policies: [Policy; OPERATORS],
     pub out: [u8; 128],
 }
 
 impl Lent {
     pub fn of(gateway: &Gateway) -> Box<Self> {
-        let Gateway { ike, ipsec, policy } = gateway.clone();
-        Box::new(Lent { ike: *ike, ipsec: *ipsec, policy, out: [BEFORE; 128] })
+        let Gateway { ike, ipsec, policies } = gateway.clone();
+        Box::new(Lent { ike: *ike, ipsec: *ipsec, policies, out: [BEFORE; 128] })
     }
 
     pub fn tables(&self) -> Tables {
-        convert::tables(&self.ike, &self.ipsec, &self.policy)
+        convert::tables(&self.ike, &self.ipsec, &self.policies)
     }
 }
 
@@ -91,7 +92,7 @@ fn handled(handling: &Handling, count: bool) -> Told {
     let reply = black_box(call(
         black_box(&mut lent.ike),
         black_box(&lent.ipsec[..]),
-        black_box(&lent.policy),
+        black_box(&lent.policies),
         black_box(&request),
         black_box(&mut lent.out[..handling.room]),
     ));

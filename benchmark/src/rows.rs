@@ -160,10 +160,17 @@ fn late() -> Job {
 fn openings() -> Vec<Row> {
     let empty = || Job::Open(Box::new(OpeningBoth::on_empty()));
     let full = || Job::Open(Box::new(OpeningBoth::on_full()));
+    let share = || Job::Open(Box::new(OpeningBoth::at_share()));
     let opened = "an IKE record and its first IPsec record, opened on empty tables";
     vec![
         row("opened", opened, empty, &[("number", 0)]),
         row("opened-full", "the same, refused 10: full tables", full, &[("number", 10)]),
+        row(
+            "opened-share",
+            "the same, refused 43: the operator has 80 IPsec records",
+            share,
+            &[("number", 43)],
+        ),
     ]
 }
 

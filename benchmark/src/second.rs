@@ -100,6 +100,7 @@ fn request(handling: &Handling) -> Request {
         nat_destination: NAT_DESTINATION.to_vec(),
         cookie: given.cookie.to_vec(),
         check_id: given.check_id,
+        operator: given.operator.into(),
         first: given.first,
         body: given.body.to_vec(),
         output: vec![BEFORE; handling.room],
@@ -108,7 +109,7 @@ fn request(handling: &Handling) -> Request {
 
 fn handled(handling: &Handling, count: bool) -> Told {
     let given = &handling.gateway;
-    let mut tables = convert::tables(&given.ike, &given.ipsec, &given.policy);
+    let mut tables = convert::tables(&given.ike, &given.ipsec, &given.policies);
     let request = request(handling);
     let (given, lent) = (black_box(&request), black_box(&mut tables));
     let handled = black_box(match count {
@@ -133,7 +134,7 @@ fn handled(handling: &Handling, count: bool) -> Told {
 
 fn checked(checking: &Checking, count: bool) -> Told {
     let given = &checking.gateway;
-    let mut tables = convert::tables(&given.ike, &given.ipsec, &given.policy);
+    let mut tables = convert::tables(&given.ike, &given.ipsec, &given.policies);
     let response = convert::check_response(&checking.response());
     let (given, lent) = (black_box(&response), black_box(&mut tables));
     let told = assessed(black_box(match count {
@@ -145,7 +146,7 @@ fn checked(checking: &Checking, count: bool) -> Told {
 
 fn opened(opening: &OpeningBoth, count: bool) -> Told {
     let given = &opening.gateway;
-    let mut tables = convert::tables(&given.ike, &given.ipsec, &given.policy);
+    let mut tables = convert::tables(&given.ike, &given.ipsec, &given.policies);
     let opening = Call::OpenBoth(convert::opening(&opening.opening));
     let (opening, lent) = (black_box(&opening), black_box(&mut tables));
     let number = black_box(match count {
@@ -157,10 +158,10 @@ fn opened(opening: &OpeningBoth, count: bool) -> Told {
 
 fn cloned(cloning: &Cloning, count: bool) -> Told {
     let given = &cloning.gateway;
-    let mut tables = convert::tables(&given.ike, &given.ipsec, &given.policy);
-    let Cloning { spi, new_spi, first, ref body, room, .. } = *cloning;
-    let request =
-        CloneRequest { spi, new_spi, first, body: body.clone(), output: vec![BEFORE; room] };
+    let mut tables = convert::tables(&given.ike, &given.ipsec, &given.policies);
+    let Cloning { spi, new_spi, first, ref body, room, operator, .. } = *cloning;
+    let (body, operator, output) = (body.clone(), operator.into(), vec![BEFORE; room]);
+    let request = CloneRequest { spi, new_spi, first, body, operator, output };
     let (given, lent) = (black_box(&request), black_box(&mut tables));
     let cloned = black_box(match count {
         true => counted_second_clone(given, lent),

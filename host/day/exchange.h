@@ -14,6 +14,8 @@
 #define NEIGHBOUR_SPI UINT64_C(0x0b0b000000000002)
 #define NEIGHBOUR_IPSEC UINT32_C(0xc1a50003)
 #define THIRD_SPI UINT64_C(0x0ca7e00000000003) // of an initiator that comes when these two have left
+#define CELLULAR_SPI UINT64_C(0x0e1f000000000006) // of the clone that a fifth has on its cellular network
+enum { FIFTH_PEER = 5 };
 enum { OUR_PLACE = 0, NEIGHBOUR_PLACE = 1, OUTCOME = 384 };
 
 typedef struct day {

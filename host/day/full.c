@@ -7,26 +7,17 @@
 #include "scenes.h"
 
 #define THIRD_IPSEC UINT32_C(0xc1a50004)
-#define FURTHER_IPSEC UINT32_C(0xc1a60000) // those that fill the list follow it
+#define FURTHER_IPSEC UINT32_C(0xc1a60000) // those that fill the share follow it
 
-static void opens_neither(day *d, const unmavreth_opening *opening, uint8_t number)
-{
-    tables before = d->gateway.tables;
-    open_both(d, opening, number);
-    bool same = same_tables(&before, &d->gateway.tables);
-    out("    %s\n", same ? "no field of any place changed" : "a field of some place changed");
-    check_holds(&d->checks, "a field of the tables differs", same);
-}
-
-// Opens an IPsec record of the neighbour at each free place: at all but that of its first one.
+// Opens IPsec records of the neighbour until the operator has its share, its first one among them.
 static void fill_ipsec(day *d)
 {
     unsigned opened = 0;
-    for (uint32_t i = 1; i < UNMAVRETH_IPSEC_PLACES; i++)
+    for (uint32_t i = 1; i < UNMAVRETH_IPSEC_SHARE; i++)
         if (gateway_open_ipsec(&d->gateway, FURTHER_IPSEC + i, NEIGHBOUR_SPI) == UNMAVRETH_DONE)
             opened++;
-    out("  Open IPsec records of %016" PRIx64 " at all free places: %u opened\n", NEIGHBOUR_SPI, opened);
-    check_number(&d->checks, "how many IPsec records were opened", opened, UNMAVRETH_IPSEC_PLACES - 1);
+    out("  Open IPsec records of %016" PRIx64 " up to the operator's share: %u opened\n", NEIGHBOUR_SPI, opened);
+    check_number(&d->checks, "how many IPsec records were opened", opened, UNMAVRETH_IPSEC_SHARE - 1);
 }
 
 void play_full(day *d)
@@ -37,10 +28,10 @@ void play_full(day *d)
         .pair = pair_of(BUS, IKE_PORT, GATEWAY, IKE_PORT),
         .child = NEIGHBOUR_IPSEC,
     };
-    opens_neither(d, &third, UNMAVRETH_SPI_IN_USE);
+    open_neither(d, &third, UNMAVRETH_SPI_IN_USE);
     third.child = THIRD_IPSEC;
     fill_ipsec(d);
-    opens_neither(d, &third, UNMAVRETH_FULL);
+    open_neither(d, &third, UNMAVRETH_OPERATOR_AT_SHARE);
     close_ike(d, NEIGHBOUR_SPI);
     tables expected = {0};
     open_expected(&expected, 0, 0, &third);

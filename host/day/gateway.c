@@ -23,37 +23,37 @@ uint8_t gateway_open(gateway *g, const unmavreth_opening *opening)
 
 uint8_t gateway_open_ipsec(gateway *g, uint32_t spi, uint64_t owner)
 {
-    trace_add_ipsec(&g->trace, spi, owner);
-    return unmavreth_open_ipsec(&g->tables.ike, g->tables.ipsec, UNMAVRETH_IPSEC_PLACES, spi, owner);
+    trace_add_ipsec(&g->trace, spi, owner, g->operator_id);
+    return unmavreth_open_ipsec(&g->tables.ike, g->tables.ipsec, UNMAVRETH_IPSEC_PLACES, spi, owner, g->operator_id);
 }
 
 uint8_t gateway_close_ike(gateway *g, uint64_t spi)
 {
-    trace_close_ike(&g->trace, spi);
-    return unmavreth_close_ike(&g->tables.ike, g->tables.ipsec, UNMAVRETH_IPSEC_PLACES, spi);
+    trace_close_ike(&g->trace, spi, g->operator_id);
+    return unmavreth_close_ike(&g->tables.ike, g->tables.ipsec, UNMAVRETH_IPSEC_PLACES, spi, g->operator_id);
 }
 
 uint8_t gateway_close_ipsec(gateway *g, uint32_t spi)
 {
-    trace_close_ipsec(&g->trace, spi);
-    return unmavreth_close_ipsec(g->tables.ipsec, UNMAVRETH_IPSEC_PLACES, spi);
+    trace_close_ipsec(&g->trace, spi, g->operator_id);
+    return unmavreth_close_ipsec(&g->tables.ike, g->tables.ipsec, UNMAVRETH_IPSEC_PLACES, spi, g->operator_id);
 }
 
 uint8_t gateway_mark_deletion(gateway *g, uint64_t spi)
 {
-    trace_mark_deletion(&g->trace, spi);
-    return unmavreth_mark_deletion(&g->tables.ike, spi);
+    trace_mark_deletion(&g->trace, spi, g->operator_id);
+    return unmavreth_mark_deletion(&g->tables.ike, spi, g->operator_id);
 }
 
 uint8_t gateway_set_policy(gateway *g, uint16_t count, const unmavreth_rules *rules)
 {
-    trace_policy(&g->trace, count, rules);
-    return unmavreth_set_policy(&g->policy, count, rules);
+    trace_policy(&g->trace, count, rules, g->operator_id);
+    return unmavreth_set_policy(&g->policies, count, rules, g->operator_id);
 }
 
 bool gateway_accepts(const gateway *g, unmavreth_pair pair)
 {
-    return unmavreth_acceptable(&g->policy, pair);
+    return unmavreth_acceptable(&g->policies.of[g->operator_id], pair);
 }
 
 static bool is_filled(const uint8_t *octets, size_t length)
@@ -68,12 +68,13 @@ unmavreth_reply gateway_answer(gateway *g, uint64_t spi, uint32_t id, unmavreth_
                                const own_check *check, message *response, bool *kept)
 {
     trace_request(&g->trace, spi, id, &packet, g->nat_source, g->nat_destination, request, check->cookie,
-                  sizeof check->cookie, check->id);
+                  sizeof check->cookie, check->id, g->operator_id);
     memset(response->octets, FILL, sizeof response->octets);
     unmavreth_reply reply = unmavreth_handle(
-        &g->tables.ike, g->tables.ipsec, UNMAVRETH_IPSEC_PLACES, &g->policy, spi, id, packet, g->nat_source,
+        &g->tables.ike, g->tables.ipsec, UNMAVRETH_IPSEC_PLACES, &g->policies, spi, id, packet, g->nat_source,
         sizeof g->nat_source, g->nat_destination, sizeof g->nat_destination, check->cookie, sizeof check->cookie,
-        check->id, request->first, request->octets, request->length, response->octets, UNMAVRETH_RESPONSE_ROOM);
+        check->id, request->first, request->octets, request->length, response->octets, UNMAVRETH_RESPONSE_ROOM,
+        g->operator_id);
     response->first = reply.first;
     response->length = reply.length;
     *kept = is_filled(response->octets + reply.length, sizeof response->octets - reply.length);
@@ -87,19 +88,19 @@ message gateway_write_check(const own_check *check)
 
 unmavreth_assessment gateway_end_check(gateway *g, uint64_t spi, uint32_t id, const message *response)
 {
-    trace_check_response(&g->trace, spi, id, response);
+    trace_check_response(&g->trace, spi, id, response, g->operator_id);
     return unmavreth_check(&g->tables.ike, g->tables.ipsec, UNMAVRETH_IPSEC_PLACES, spi, id, response->first,
-                           response->octets, response->length);
+                           response->octets, response->length, g->operator_id);
 }
 
 unmavreth_clone_reply gateway_clone(gateway *g, uint64_t spi, uint64_t new_spi, const message *request,
                                     message *response, bool *kept)
 {
-    trace_clone(&g->trace, spi, new_spi, request);
+    trace_clone(&g->trace, spi, new_spi, request, g->operator_id);
     memset(response->octets, FILL, sizeof response->octets);
     unmavreth_clone_reply reply =
         unmavreth_clone(&g->tables.ike, spi, new_spi, request->first, request->octets, request->length,
-                        response->octets, UNMAVRETH_RESPONSE_ROOM);
+                        response->octets, UNMAVRETH_RESPONSE_ROOM, g->operator_id);
     response->first = reply.first;
     response->length = reply.length;
     *kept = is_filled(response->octets + reply.length, sizeof response->octets - reply.length);

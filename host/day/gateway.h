@@ -14,15 +14,17 @@ typedef struct own_check {
 
 typedef struct gateway {
     tables tables;
-    unmavreth_policy policy;
+    unmavreth_policies policies;
+    uint8_t operator_id; // whose calls are made now: A's, but in the scenes of two operators
     uint8_t nat_source[UNMAVRETH_NAT_OCTETS];
     uint8_t nat_destination[UNMAVRETH_NAT_OCTETS];
     trace trace; // the calls below but gateway_accepts, which changes nothing
 } gateway;
 
-// Empty tables, an empty policy and an empty trace, which are all zeros, and NAT detection values.
+// Empty tables, empty policies and an empty trace, which are all zeros, and NAT detection values.
 gateway gateway_new(void);
 
+// Each names the operator whose calls are made now, but the first, of which the opening says it.
 uint8_t gateway_open(gateway *g, const unmavreth_opening *opening);
 uint8_t gateway_open_ipsec(gateway *g, uint32_t spi, uint64_t owner);
 uint8_t gateway_close_ike(gateway *g, uint64_t spi);

@@ -42,7 +42,8 @@ static void print_opening(void)
                 "neighbour's is 0b0b000000000002. A pair is as in a packet from the peer: source > destination. In the "
                 "tables, update and list are marks, the message IDs of the newest update received and of the list "
                 "kept, unknown is the tally, and check is the message ID of the gateway's request that checks return "
-                "routability, while it is under way. In front of each payload stands its offset. NAT detection values are "
+                "routability, while it is under way. The records are operator A's, but those that say operator B. In "
+                "front of each payload stands its offset. NAT detection values are "
                 "the host's to compute; here they are fixed and made up: 10 11 12 .. and 30 31 32 .. of the gateway, "
                 "50 51 52 .. and 70 71 72 .. of the initiator.");
     out("\n");
@@ -97,7 +98,7 @@ static void print_trace(day *d)
     unsigned read = trace_read_back(t);
     check_number(&d->checks, "how many entries of the trace read back", read, t->entries);
     out_wrapped(PLAIN, 0, 0,
-                "The day's calls on the tables and the policy, as a trace: %u entries in %zu octets, %u read back.",
+                "The day's calls on the tables and the policies, as a trace: %u entries in %zu octets, %u read back.",
                 t->entries, t->length, read);
     out("\n");
 }

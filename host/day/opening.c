@@ -1,53 +1,19 @@
 // The day's opening: the gateway sets its policy and opens the records of two initiators behind a school's NAT.
-#include <string.h>
-
 #include "address.h"
 #include "out.h"
+#include "policies.h"
 #include "records.h"
 #include "scenes.h"
-#include "unmavreth_words.h"
 
 enum { RULES = 3 };
 
-static unmavreth_rule rule_of(const char *source, uint8_t source_len, const char *destination, uint8_t destination_len)
-{
-    unmavreth_address from = address(source);
-    unmavreth_address to = address(destination);
-    unmavreth_rule rule = {.family = from.family, .source_len = source_len, .destination_len = destination_len};
-    memcpy(rule.source, from.octets, sizeof rule.source);
-    memcpy(rule.destination, to.octets, sizeof rule.destination);
-    return rule;
-}
-
-static void print_rule(const unmavreth_rule *r)
-{
-    char source[ADDRESS_TEXT], destination[ADDRESS_TEXT];
-    address_text(source, r->family, r->source);
-    address_text(destination, r->family, r->destination);
-    out("    from %s/%u to %s/%u\n", source, r->source_len, destination, r->destination_len);
-}
-
-static void set_policy(day *d)
+static void set_our_policy(day *d)
 {
     unmavreth_rules rules = {0};
     rules.rules[0] = rule_of("203.0.113.0", 24, GATEWAY, 32);
     rules.rules[1] = rule_of("198.51.100.0", 25, GATEWAY, 32);
     rules.rules[2] = rule_of("2001:db8:b05::", 48, "2001:db8::1", 128);
-    uint8_t number = gateway_set_policy(&d->gateway, RULES, &rules);
-    out("  Set the policy, answer %u: %s\n", number, unmavreth_number_words(number));
-    for (size_t i = 0; i < d->gateway.policy.count; i++)
-        print_rule(&d->gateway.policy.rules[i]);
-    check_number(&d->checks, "setting the policy", number, UNMAVRETH_DONE);
-    check_number(&d->checks, "the policy's count", d->gateway.policy.count, RULES);
-}
-
-static void ask_policy(day *d, const char *place, unmavreth_pair pair, bool expected)
-{
-    char text[PAIR_TEXT];
-    pair_text(text, &pair);
-    bool accepts = gateway_accepts(&d->gateway, pair);
-    out("    %-8s %-52s %s\n", place, text, accepts ? "yes" : "no");
-    check_number(&d->checks, "whether the pair is acceptable", accepts, expected);
+    set_policy(d, "the policy", RULES, &rules);
 }
 
 // What an initiator at the school is opened with.
@@ -76,7 +42,7 @@ void play_open(day *d)
     unmavreth_opening ours = opening_at_school(OUR_SPI, OUR_SCHOOL_PORT, OUR_IPSEC_1);
     unmavreth_opening neighbours = opening_at_school(NEIGHBOUR_SPI, NEIGHBOUR_PORT, NEIGHBOUR_IPSEC);
     tables expected = opened(&ours, &neighbours);
-    set_policy(d);
+    set_our_policy(d);
     out("  Is it acceptable?\n");
     ask_policy(d, "school", ours.pair, true);
     ask_policy(d, "bus", pair_of(BUS, IKE_PORT, GATEWAY, IKE_PORT), true);

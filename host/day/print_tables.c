@@ -85,6 +85,13 @@ static void add_cloning(char *text, const unmavreth_ike *r, const unmavreth_ike 
         add(text, "being deleted%s", star(was->deleting == 0));
 }
 
+// Whose record it is; most are A's, of which nothing is said.
+static void add_operator(char *text, const unmavreth_ike *r, const unmavreth_ike *was)
+{
+    if (r->agreed.operator_id == UNMAVRETH_OPERATOR_B)
+        add(text, "operator B%s", star(was->agreed.operator_id != UNMAVRETH_OPERATOR_B));
+}
+
 // The addresses of a record, with a star behind each that `was` has not at its place.
 static void add_addresses(char *text, const unmavreth_ike *r, const unmavreth_ike *was)
 {
@@ -153,6 +160,7 @@ static void print_ike(size_t place, const unmavreth_ike *r, const unmavreth_ike 
     add(marks, "unknown %" PRIu32 "%s", r->unknown, star(r->unknown != was->unknown));
     add_check(marks, r, !same_check(r, was));
     add_cloning(marks, r, was);
+    add_operator(marks, r, was);
     print_details(PLAIN, "", marks);
     if (r->count != 0 || was->count != 0)
         add_addresses(addresses, r, was);

@@ -12,12 +12,23 @@ void open_both(day *d, const unmavreth_opening *opening, uint8_t expected)
     const char *mobike = opening->agreed.mobike ? "agreed" : "not agreed";
     out("  Open IKE record %016" PRIx64 ", MOBIKE %s, with IPsec record %08" PRIx32 ":\n", opening->spi, mobike,
         opening->child);
+    if (opening->agreed.operator_id == UNMAVRETH_OPERATOR_B)
+        out("    operator B\n");
     if (opening->agreed.cloning)
         out("    cloning agreed, peer %" PRIu32 "\n", opening->agreed.peer);
     out("    answer %u: %s\n", number, unmavreth_number_words(number));
     if (number != UNMAVRETH_DONE)
         add_outcome(d, "opening refused, %u: %s", number, unmavreth_number_words(number));
     check_number(&d->checks, "opening an IKE record with its first IPsec record", number, expected);
+}
+
+void open_neither(day *d, const unmavreth_opening *opening, uint8_t expected)
+{
+    tables before = d->gateway.tables;
+    open_both(d, opening, expected);
+    bool same = same_tables(&before, &d->gateway.tables);
+    out("    %s\n", same ? "no field of any place changed" : "a field of some place changed");
+    check_holds(&d->checks, "a field of the tables differs", same);
 }
 
 void open_ipsec(day *d, uint32_t spi, uint64_t owner)

@@ -8,6 +8,9 @@
 // must be `expected`.
 void open_both(day *d, const unmavreth_opening *opening, uint8_t expected);
 
+// The same, where the answer is a refusal: no field of any place changes.
+void open_neither(day *d, const unmavreth_opening *opening, uint8_t expected);
+
 // The answer of each of these must be done.
 void open_ipsec(day *d, uint32_t spi, uint64_t owner);
 void close_ipsec(day *d, size_t place);

@@ -40,7 +40,7 @@ static bool same_check(const unmavreth_pending_check *a, const unmavreth_pending
 
 static bool same_agreed(const unmavreth_agreed *a, const unmavreth_agreed *b)
 {
-    return a->mobike == b->mobike && a->cloning == b->cloning && a->peer == b->peer;
+    return a->mobike == b->mobike && a->cloning == b->cloning && a->operator_id == b->operator_id && a->peer == b->peer;
 }
 
 static bool same_ike(const unmavreth_ike *a, const unmavreth_ike *b)

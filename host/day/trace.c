@@ -62,43 +62,49 @@ void trace_open_both(trace *t, const unmavreth_opening *opening)
     what.slots[UNMAVRETH_OPEN_CHILD] = opening->child;
     what.slots[UNMAVRETH_OPEN_PEER] = opening->agreed.peer;
     what.slots[UNMAVRETH_OPEN_CLONING] = opening->agreed.cloning != 0;
+    what.slots[UNMAVRETH_OPEN_OPERATOR] = opening->agreed.operator_id;
     append(t, UNMAVRETH_KIND_OPEN_BOTH, &what);
 }
 
-void trace_add_ipsec(trace *t, uint32_t spi, uint64_t owner)
+void trace_add_ipsec(trace *t, uint32_t spi, uint64_t owner, uint8_t operator_id)
 {
     told what = {0};
     what.slots[UNMAVRETH_ADD_SPI] = spi;
     what.slots[UNMAVRETH_ADD_OWNER] = owner;
+    what.slots[UNMAVRETH_ADD_OPERATOR] = operator_id;
     append(t, UNMAVRETH_KIND_ADD_IPSEC, &what);
 }
 
-void trace_close_ike(trace *t, uint64_t spi)
+void trace_close_ike(trace *t, uint64_t spi, uint8_t operator_id)
 {
     told what = {0};
     what.slots[UNMAVRETH_CLOSE_IKE_SPI] = spi;
+    what.slots[UNMAVRETH_CLOSE_IKE_OPERATOR] = operator_id;
     append(t, UNMAVRETH_KIND_CLOSE_IKE, &what);
 }
 
-void trace_close_ipsec(trace *t, uint32_t spi)
+void trace_close_ipsec(trace *t, uint32_t spi, uint8_t operator_id)
 {
     told what = {0};
     what.slots[UNMAVRETH_CLOSE_IPSEC_SPI] = spi;
+    what.slots[UNMAVRETH_CLOSE_IPSEC_OPERATOR] = operator_id;
     append(t, UNMAVRETH_KIND_CLOSE_IPSEC, &what);
 }
 
-void trace_policy(trace *t, uint16_t count, const unmavreth_rules *rules)
+void trace_policy(trace *t, uint16_t count, const unmavreth_rules *rules, uint8_t operator_id)
 {
     told what = {0};
     what.slots[UNMAVRETH_POLICY_COUNT] = count;
     for (size_t i = 0; i < count && i < UNMAVRETH_RULES_MOST; i++)
         tell_rule(&what, UNMAVRETH_POLICY_RULE(i), &rules->rules[i]);
+    what.slots[UNMAVRETH_POLICY_OPERATOR] = operator_id;
     append(t, UNMAVRETH_KIND_POLICY, &what);
 }
 
 void trace_request(trace *t, uint64_t spi, uint32_t id, const unmavreth_pair *packet,
                    const uint8_t nat_source[UNMAVRETH_NAT_OCTETS], const uint8_t nat_destination[UNMAVRETH_NAT_OCTETS],
-                   const message *request, const uint8_t *cookie, size_t cookie_octets, uint32_t check_id)
+                   const message *request, const uint8_t *cookie, size_t cookie_octets, uint32_t check_id,
+                   uint8_t operator_id)
 {
     told what = {0};
     what.slots[UNMAVRETH_REQUEST_SPI] = spi;
@@ -114,10 +120,11 @@ void trace_request(trace *t, uint64_t spi, uint32_t id, const unmavreth_pair *pa
     what.slots[UNMAVRETH_REQUEST_COOKIE] = offset_of(&what, cookie, cookie_octets);
     what.slots[UNMAVRETH_REQUEST_COOKIE_SIZE] = cookie_octets;
     what.slots[UNMAVRETH_REQUEST_CHECK_ID] = check_id;
+    what.slots[UNMAVRETH_REQUEST_OPERATOR] = operator_id;
     append(t, UNMAVRETH_KIND_REQUEST, &what);
 }
 
-void trace_check_response(trace *t, uint64_t spi, uint32_t id, const message *response)
+void trace_check_response(trace *t, uint64_t spi, uint32_t id, const message *response, uint8_t operator_id)
 {
     told what = {0};
     what.slots[UNMAVRETH_CHECK_RESPONSE_SPI] = spi;
@@ -125,10 +132,11 @@ void trace_check_response(trace *t, uint64_t spi, uint32_t id, const message *re
     what.slots[UNMAVRETH_CHECK_RESPONSE_FIRST] = response->first;
     what.slots[UNMAVRETH_CHECK_RESPONSE_BODY] = offset_of(&what, response->octets, response->length);
     what.slots[UNMAVRETH_CHECK_RESPONSE_BODY_SIZE] = response->length;
+    what.slots[UNMAVRETH_CHECK_RESPONSE_OPERATOR] = operator_id;
     append(t, UNMAVRETH_KIND_CHECK_RESPONSE, &what);
 }
 
-void trace_clone(trace *t, uint64_t spi, uint64_t new_spi, const message *request)
+void trace_clone(trace *t, uint64_t spi, uint64_t new_spi, const message *request, uint8_t operator_id)
 {
     told what = {0};
     what.slots[UNMAVRETH_CLONE_SPI] = spi;
@@ -136,13 +144,15 @@ void trace_clone(trace *t, uint64_t spi, uint64_t new_spi, const message *reques
     what.slots[UNMAVRETH_CLONE_FIRST] = request->first;
     what.slots[UNMAVRETH_CLONE_BODY] = offset_of(&what, request->octets, request->length);
     what.slots[UNMAVRETH_CLONE_BODY_SIZE] = request->length;
+    what.slots[UNMAVRETH_CLONE_OPERATOR] = operator_id;
     append(t, UNMAVRETH_KIND_CLONE, &what);
 }
 
-void trace_mark_deletion(trace *t, uint64_t spi)
+void trace_mark_deletion(trace *t, uint64_t spi, uint8_t operator_id)
 {
     told what = {0};
     what.slots[UNMAVRETH_MARK_DELETION_SPI] = spi;
+    what.slots[UNMAVRETH_MARK_DELETION_OPERATOR] = operator_id;
     append(t, UNMAVRETH_KIND_MARK_DELETION, &what);
 }
 

@@ -11,10 +11,9 @@
 
 #define WIFI_SPI UINT64_C(0x0e1f000000000005)
 #define WIFI_IPSEC UINT32_C(0xc1a50006)
-#define CELLULAR_SPI UINT64_C(0x0e1f000000000006)
 #define CELLULAR_IPSEC UINT32_C(0xc1a50007)
 #define FURTHER_SPI UINT64_C(0x0e1f000000000007) // of a third and a fourth record, and one that is refused
-enum { WIFI_PLACE = 1, CELLULAR_PLACE = 2, FURTHER_PLACE = 3, PEER = 5 };
+enum { WIFI_PLACE = 1, CELLULAR_PLACE = 2, FURTHER_PLACE = 3 };
 
 static const unmavreth_pair NO_PAIR;
 static const unmavreth_addresses_list NO_ADDRESSES;
@@ -31,7 +30,7 @@ static void open_on_wifi(day *d)
 {
     unmavreth_opening opening = {
         .spi = WIFI_SPI,
-        .agreed = {.mobike = true, .cloning = true, .peer = PEER},
+        .agreed = {.mobike = true, .cloning = true, .peer = FIFTH_PEER},
         .pair = pair_of(WIFI, IKE_PORT, GATEWAY, IKE_PORT),
         .child = WIFI_IPSEC,
     };

@@ -5,6 +5,7 @@
 #include <unmavreth_host.h>
 
 enum { SHORT_PAYLOAD = 4, NOTIFY = 8, SKIPPED_TYPE = 33, UNKNOWN_TYPE = 200 };
+enum { OURS = UNMAVRETH_OPERATOR_B, OTHER = UNMAVRETH_OPERATOR_A }; // the operator that the calls name, and the other
 
 // What is lent.
 static unmavreth_gateway gateway;
@@ -62,24 +63,24 @@ static void hand_out_addresses(void)
 
 static void handle(void)
 {
-    number = unmavreth_handle(&gateway.ike, gateway.ipsec, UNMAVRETH_IPSEC_PLACES, &gateway.policy, request.spi,
+    number = unmavreth_handle(&gateway.ike, gateway.ipsec, UNMAVRETH_IPSEC_PLACES, &gateway.policies, request.spi,
                               request.id, request.pair, request.nat_source.octets, UNMAVRETH_NAT_OCTETS,
                               request.nat_destination.octets, UNMAVRETH_NAT_OCTETS, cookie, sizeof cookie, 0, first,
-                              body.start, body.octets, response.octets, UNMAVRETH_RESPONSE_ROOM)
+                              body.start, body.octets, response.octets, UNMAVRETH_RESPONSE_ROOM, OURS)
                  .number;
 }
 
 static void end_check(void)
 {
     number = unmavreth_check(&gateway.ike, gateway.ipsec, UNMAVRETH_IPSEC_PLACES, request.spi, 0, first, body.start,
-                             body.octets)
+                             body.octets, OURS)
                  .number;
 }
 
 static void clone_original(void)
 {
     number = unmavreth_clone(&gateway.ike, request.spi, 9, first, body.start, body.octets, response.octets,
-                             UNMAVRETH_RESPONSE_ROOM)
+                             UNMAVRETH_RESPONSE_ROOM, OURS)
                  .number;
 }
 
@@ -103,32 +104,32 @@ static void open_both(void)
 
 static void open_ipsec(void)
 {
-    number = unmavreth_open_ipsec(&gateway.ike, gateway.ipsec, UNMAVRETH_IPSEC_PLACES, 1, opening.spi);
+    number = unmavreth_open_ipsec(&gateway.ike, gateway.ipsec, UNMAVRETH_IPSEC_PLACES, 1, opening.spi, OURS);
 }
 
 static void close_ike(void)
 {
-    number = unmavreth_close_ike(&gateway.ike, gateway.ipsec, UNMAVRETH_IPSEC_PLACES, opening.spi);
+    number = unmavreth_close_ike(&gateway.ike, gateway.ipsec, UNMAVRETH_IPSEC_PLACES, opening.spi, OURS);
 }
 
 static void close_ipsec(void)
 {
-    number = unmavreth_close_ipsec(gateway.ipsec, UNMAVRETH_IPSEC_PLACES, opening.child);
+    number = unmavreth_close_ipsec(&gateway.ike, gateway.ipsec, UNMAVRETH_IPSEC_PLACES, opening.child, OURS);
 }
 
 static void mark_deletion(void)
 {
-    number = unmavreth_mark_deletion(&gateway.ike, opening.spi);
+    number = unmavreth_mark_deletion(&gateway.ike, opening.spi, OURS);
 }
 
 static void set_policy(void)
 {
-    number = unmavreth_set_policy(&gateway.policy, UNMAVRETH_RULES_MOST, &lent_rules);
+    number = unmavreth_set_policy(&gateway.policies, UNMAVRETH_RULES_MOST, &lent_rules, OURS);
 }
 
 static void acceptable(void)
 {
-    number = !unmavreth_acceptable(&gateway.policy, request.pair);
+    number = !unmavreth_acceptable(&gateway.policies.of[OURS], request.pair);
 }
 
 static void write_redirect(void)
@@ -187,22 +188,27 @@ static void read_entry(void)
     number = unmavreth_read_entry(entry, entry_octets, 0).number;
 }
 
-// One record with as many IPsec records as there are and a check by our request 0, its cookie zeros, and a policy whose
-// last rule is the one that matches.
+// One record with as many IPsec records as its operator may have and a check by our request 0, its cookie zeros, and a
+// policy whose last rule is the one that matches. The other operator has one record, with the other IPsec records.
 static void begin(void)
 {
     memset(&gateway, 0, sizeof gateway);
     memset(&request, 0, sizeof request);
-    opening = (unmavreth_opening){.spi = 7, .agreed = {.mobike = 1}, .pair = {.family = 6}, .child = 70};
+    const unmavreth_opening others = {.spi = 6, .agreed = {.operator_id = OTHER}, .pair = {.family = 6}, .child = 200};
+    opening = (unmavreth_opening){
+        .spi = 7, .agreed = {.mobike = 1, .operator_id = OURS}, .pair = {.family = 6}, .child = 70};
     request = (unmavreth_request){.spi = 7, .pair = {.family = 6, .source = {[15] = 16}}};
     for (size_t i = 0; i < UNMAVRETH_RULES_MOST; i++)
         lent_rules.rules[i] = rules[i] =
             (unmavreth_rule){.family = 6, .source = {[15] = (uint8_t)(i + 1)}, .source_len = 128};
-    if (unmavreth_gateway_open(&gateway, &opening) ||
-        unmavreth_gateway_set_policy(&gateway, rules, UNMAVRETH_RULES_MOST))
+    if (unmavreth_gateway_open(&gateway, &opening) || unmavreth_gateway_open(&gateway, &others) ||
+        unmavreth_gateway_set_policy(&gateway, rules, UNMAVRETH_RULES_MOST, OURS))
         exit(2);
-    for (uint32_t spi = 71; spi < 70 + UNMAVRETH_IPSEC_PLACES; spi++)
-        if (unmavreth_gateway_open_ipsec(&gateway, spi, 7))
+    for (uint32_t spi = 71; spi < 70 + UNMAVRETH_IPSEC_SHARE; spi++)
+        if (unmavreth_gateway_open_ipsec(&gateway, spi, 7, OURS))
+            exit(2);
+    for (uint32_t spi = 201; spi < 200 + UNMAVRETH_IPSEC_PLACES - UNMAVRETH_IPSEC_SHARE; spi++)
+        if (unmavreth_gateway_open_ipsec(&gateway, spi, 6, OTHER))
             exit(2);
     gateway.ike.records[0].check.length = sizeof cookie;
 }
@@ -269,15 +275,16 @@ static void asked_in_full(void)
     request_in_full();
 }
 
-// The last of the records is the original, and one place is free for its clone; what is asked of the peer's records and
-// of the SPIs is asked of all 32.
+// The last of the records is the original, and one place is free for its clone; what is asked of the peer's and the
+// operator's records and of the SPIs is asked of all 32, which both operators have in turn.
 static void with_an_original(void)
 {
     for (size_t i = 0; i < UNMAVRETH_IKE_PLACES - 1; i++)
-        gateway.ike.records[i] = (unmavreth_ike){.spi = 100 + i, .agreed = {.peer = 1}};
+        gateway.ike.records[i] =
+            (unmavreth_ike){.spi = 100 + i, .agreed = {.operator_id = i % UNMAVRETH_OPERATORS, .peer = 1}};
     memset(&gateway.ike.records[UNMAVRETH_IKE_PLACES - 2], 0, sizeof gateway.ike.records[0]);
     gateway.ike.records[UNMAVRETH_IKE_PLACES - 1] =
-        (unmavreth_ike){.spi = 7, .agreed = {.cloning = 1}, .pair = {.family = 6}};
+        (unmavreth_ike){.spi = 7, .agreed = {.cloning = 1, .operator_id = OURS}, .pair = {.family = 6}};
 }
 
 // The chain is told to be no request to clone, and one with CLONE_IKE_SA as its last payload is.
@@ -327,7 +334,7 @@ static void to_mark(void)
 static void with_a_free_place(void)
 {
     begin();
-    memset(&gateway.ipsec[1], 0, sizeof gateway.ipsec[1]);
+    memset(&gateway.ipsec[2], 0, sizeof gateway.ipsec[2]);
 }
 
 static void with_free_places(void)

@@ -51,7 +51,7 @@ extern "C" {
 // The number of the interface: the layout of the structs below and the calls. It is raised with every change of them.
 // Whatever includes this header refers to the library's symbol that ends in this number, so that a header and an
 // archive of different numbers do not link.
-#define UNMAVRETH_INTERFACE 4
+#define UNMAVRETH_INTERFACE 5
 
 #define UNMAVRETH_JOINED(name, number) name##number
 #define UNMAVRETH_NAMED(name, number) UNMAVRETH_JOINED(name, number)
@@ -96,7 +96,7 @@ enum unmavreth_number {
     UNMAVRETH_OCTETS_AFTER_END = 65, // octets after the end of the chain
     UNMAVRETH_UNKNOWN_CRITICAL = 7,  // a payload of an unknown type with its critical bit set
     UNMAVRETH_ADDRESSES_ALTERED = 8, // NO_NATS_ALLOWED is not the packet's addresses and ports
-    UNMAVRETH_NOT_ACCEPTABLE = 9,    // no rule of the policy matches the packet's pair
+    UNMAVRETH_NOT_ACCEPTABLE = 9,    // no rule of the operator's policy matches the packet's pair
     UNMAVRETH_FULL = 10,
     UNMAVRETH_SPI_IN_USE = 11,
     UNMAVRETH_BAD_POLICY = 12,        // over 16 rules, or a prefix too long
@@ -113,8 +113,13 @@ enum unmavreth_number {
     UNMAVRETH_CLONING_NOT_AGREED = 40, // for the IKE SA to clone
     UNMAVRETH_CANNOT_CLONE_NOW = 41,   // the IKE SA to clone is being deleted, or no place is free
     UNMAVRETH_PEER_AT_LIMIT = 42,      // the peer of the IKE SA to clone has 4 IKE records or more
+    UNMAVRETH_OPERATOR_AT_SHARE = 43,  // the operator has 20 IKE records or more, or 80 IPsec records or more
     UNMAVRETH_NO_CLONE_REQUEST = 44    // no CLONE_IKE_SA is there
 };
+
+// The operators that share a gateway. Every call on the tables or the policies names one of them, and finds the records
+// of this one alone. An octet above 1 is neither's: no call takes it, and a record that has it is nobody's.
+enum unmavreth_operator { UNMAVRETH_OPERATOR_A = 0, UNMAVRETH_OPERATOR_B = 1 };
 
 // What became of a request's update, and of its list of additional addresses.
 enum unmavreth_update { UNMAVRETH_UPDATE_NONE = 0, UNMAVRETH_UPDATE_APPLIED = 1, UNMAVRETH_UPDATE_STALE = 2 };
@@ -135,9 +140,12 @@ enum unmavreth_limit {
     UNMAVRETH_BODY_MOST = 4096,    // the longest body that is read
     UNMAVRETH_IKE_PLACES = 32,     // IKE records
     UNMAVRETH_IPSEC_PLACES = 128,  // IPsec records; any other count of lent records is answered 1
-    UNMAVRETH_PEER_RECORDS_MOST = 4, // IKE records of one peer; none of them is cloned once there are as many
+    UNMAVRETH_OPERATORS = 2,       // that share the gateway, and policies
+    UNMAVRETH_IKE_SHARE = 20,      // IKE records of one operator; it opens and clones none once there are as many
+    UNMAVRETH_IPSEC_SHARE = 80,    // IPsec records of one operator; it opens none once there are as many
+    UNMAVRETH_PEER_RECORDS_MOST = 4, // IKE records of one peer of an operator; none is cloned once there are as many
     UNMAVRETH_ADDRESSES_MOST = 16, // additional addresses that are kept, or written
-    UNMAVRETH_RULES_MOST = 16,     // rules of the policy
+    UNMAVRETH_RULES_MOST = 16,     // rules of a policy
     UNMAVRETH_ADDRESS_OCTETS = 16, // an address as it travels, of either family
     UNMAVRETH_IP4_OCTETS = 4,      // an address in a payload
     UNMAVRETH_IP6_OCTETS = 16,
@@ -264,7 +272,7 @@ typedef struct unmavreth_rules {
 UNMAVRETH_SIZE(unmavreth_rules, 560);
 UNMAVRETH_AT(unmavreth_rules, rules, 0);
 
-// The policy: the first `count` rules; a count over 16 reads as 16. All zeros is the empty policy, to which nothing
+// A policy: the first `count` rules; a count over 16 reads as 16. All zeros is the empty policy, to which nothing
 // is acceptable.
 typedef struct unmavreth_policy {
     uint16_t count;
@@ -274,17 +282,26 @@ UNMAVRETH_SIZE(unmavreth_policy, 562);
 UNMAVRETH_AT(unmavreth_policy, count, 0);
 UNMAVRETH_AT(unmavreth_policy, rules, 2);
 
-// Sets the whole policy, in place. Numbers, in the order of the checks, each over the whole list:
-//   12  count is over 16
-//    1  one of the first `count` rules has a family other than 4 and 6, or an IPv4 prefix with a tail that is not
-//       zero
-//   12  one of them has a length over 32 (IPv4) or 128 (IPv6)
-//    0  set: the first `count` rules as they were given, zeros in the places after them
-// With 1 and 12 every field of the policy stays as it was. Rules past the count are not looked at.
-UNMAVRETH_MUST_USE
-uint8_t unmavreth_set_policy(unmavreth_policy *policy, uint16_t count, const unmavreth_rules *rules);
+// The policies: each operator's own, as a struct so that the compiler checks that both are lent.
+typedef struct unmavreth_policies {
+    unmavreth_policy of[UNMAVRETH_OPERATORS]; // by enum unmavreth_operator
+} unmavreth_policies;
+UNMAVRETH_SIZE(unmavreth_policies, 1124);
+UNMAVRETH_AT(unmavreth_policies, of, 0);
 
-// Whether some rule of the policy matches the pair. A rule with a family or a length that is not allowed matches
+// Sets the whole policy of an operator, in place. Numbers, in the order of the checks, each over the whole list:
+//   12  count is over 16
+//    1  the operator is above 1, or one of the first `count` rules has a family other than 4 and 6, or an IPv4 prefix
+//       with a tail that is not zero
+//   12  one of them has a length over 32 (IPv4) or 128 (IPv6)
+//    0  set: the first `count` rules as they were given, zeros in the places after them; the other operator's policy
+//       stays as it was
+// With 1 and 12 every field of both policies stays as it was. Rules past the count are not looked at.
+UNMAVRETH_MUST_USE
+uint8_t unmavreth_set_policy(unmavreth_policies *policies, uint16_t count, const unmavreth_rules *rules,
+                             uint8_t operator_id);
+
+// Whether some rule of this policy matches the pair. A rule with a family or a length that is not allowed matches
 // nothing.
 UNMAVRETH_MUST_USE
 bool unmavreth_acceptable(const unmavreth_policy *policy, unmavreth_pair pair);
@@ -293,15 +310,18 @@ bool unmavreth_acceptable(const unmavreth_policy *policy, unmavreth_pair pair);
 
 // What is agreed when an IKE record is opened, and with whom. Yes or no is an octet: 0 is no and every other value yes.
 // An opening stores 0 or 1, and a clone has each field as its original has it; from then on no call changes it until
-// the record is closed, whatever its value.
+// the record is closed, whatever its value. What is `operator_id` here is `operator` in the definitions, which C++ has
+// as a word of its own.
 typedef struct unmavreth_agreed {
-    uint8_t mobike;  // whether MOBIKE was agreed
-    uint8_t cloning; // whether both ends sent CLONE_IKE_SA_SUPPORTED
-    uint32_t peer;   // the host's number for the peer, one for all IKE SAs with it; any, 0 too
+    uint8_t mobike;      // whether MOBIKE was agreed
+    uint8_t cloning;     // whether both ends sent CLONE_IKE_SA_SUPPORTED
+    uint8_t operator_id; // enum unmavreth_operator: whose IKE SA it is; the IPsec records that it owns are this one's
+    uint32_t peer;       // the host's number for the peer, one for all IKE SAs of the operator with it; any, 0 too
 } unmavreth_agreed;
 UNMAVRETH_SIZE(unmavreth_agreed, 8);
 UNMAVRETH_AT(unmavreth_agreed, mobike, 0);
 UNMAVRETH_AT(unmavreth_agreed, cloning, 1);
+UNMAVRETH_AT(unmavreth_agreed, operator_id, 2);
 UNMAVRETH_AT(unmavreth_agreed, peer, 4);
 
 // The return routability check (RFC 4555, 3.7) that is under way for an IKE record: the cookie of our request, zeros
@@ -364,7 +384,7 @@ UNMAVRETH_AT(unmavreth_ipsec, pair, 16);
 // What is given to open an IKE record and its first IPsec record, the child SA that IKE_AUTH makes with it.
 typedef struct unmavreth_opening {
     uint64_t spi;            // of the IKE record
-    unmavreth_agreed agreed; // any values are allowed
+    unmavreth_agreed agreed; // any values are allowed, but for an operator above 1
     unmavreth_pair pair;     // of both records
     uint32_t child;          // the SPI of the IPsec record, the gateway's own of the child SA
 } unmavreth_opening;
@@ -376,55 +396,66 @@ UNMAVRETH_AT(unmavreth_opening, child, 56);
 
 // The calls on the tables change them in place. The IPsec records are lent as a start and how many there are, which
 // must be 128. The host begins with tables of zeros. If several places have an SPI, which no sequence of calls on
-// tables of zeros brings about, the lowest is meant. With every number but 0 each of these five calls leaves every
-// field of every place as it was.
+// tables of zeros brings about, the lowest is meant, whosever it is. With every number but 0 each of these five calls
+// leaves every field of every place as it was.
+//
+// Both operators' records stand in the same tables. An IKE record is its operator's; an IPsec record is that of the IKE
+// record with its owner's SPI, and nobody's if there is none, as no sequence of calls on tables of zeros brings about.
+// To a call that names one operator a record of the other, or of nobody, is no record (4). An SPI that either has in
+// use is in use (11). An operator's share is 20 of the 32 IKE records and 80 of the 128 IPsec records, of which every
+// place in use counts: on tables that began as zeros, one that has under 12 IKE records and under 48 IPsec records is
+// not refused for a share (43) or for want of a place (10, and 41 of a clone), whatever the other has.
 
 // Opens an IKE record and its first IPsec record: both, each at the lowest free place of its table, or neither. The
 // IKE record has no marks, no additional addresses, tally 0 and no check under way, and is not being deleted; the IPsec
 // record has the owner `spi`. Numbers, in the order of the checks:
-//    1  `records` is not 128, one of the SPIs is 0, the pair's family is not 4 or 6, or an IPv4 address of the pair has
-//       a tail that is not zero
-//   11  an IKE record has the SPI `spi`; then, an IPsec record has the SPI `child`
+//    1  `records` is not 128, one of the SPIs is 0, the operator is above 1, the pair's family is not 4 or 6, or an
+//       IPv4 address of the pair has a tail that is not zero
+//   11  an IKE record of either operator has the SPI `spi`; then, an IPsec record has the SPI `child`
+//   43  the operator has 20 IKE records or more; then, 80 IPsec records or more
 //   10  no place is free for the IKE record; then, none for the IPsec record
 //    0  both opened; no other place changes
-// Neither the policy nor what is agreed is asked whether they may be opened, nor how many records the peer has: the
-// limit of a peer's records is one for clones.
+// Neither the policy nor what else is agreed is asked whether they may be opened, nor how many records the peer has:
+// the limit of a peer's records is one for clones.
 UNMAVRETH_MUST_USE
 uint8_t unmavreth_open(unmavreth_ike_table *ike, unmavreth_ipsec *ipsec, size_t records, unmavreth_opening opening);
 
 // Opens a further IPsec record at the lowest free place, with the pair that the IKE record `owner` has, whether a check
 // is under way or not. Numbers, in the order of the checks:
-//    1  `records` is not 128, or the SPI or the owner is 0
-//    4  no IKE record has the SPI `owner`
-//   11  an IPsec record has this SPI
+//    1  `records` is not 128, the SPI or the owner is 0, or the operator is above 1
+//    4  no IKE record has the SPI `owner`, or the one that is meant is not the operator's
+//   11  an IPsec record, of either operator or nobody, has this SPI
+//   43  the operator has 80 IPsec records or more
 //   10  no place is free
 //    0  opened; no other place changes
 UNMAVRETH_MUST_USE
 uint8_t unmavreth_open_ipsec(const unmavreth_ike_table *ike, unmavreth_ipsec *ipsec, size_t records, uint32_t spi,
-                             uint64_t owner);
+                             uint64_t owner, uint8_t operator_id);
 
 // Closes an IKE record, and each IPsec record in use that it owns. Numbers, in the order of the checks:
-//    1  `records` is not 128, or the SPI is 0
-//    4  no IKE record has this SPI
+//    1  `records` is not 128, the SPI is 0, or the operator is above 1
+//    4  no IKE record has this SPI, or the one that is meant is not the operator's
 //    0  closed: every field of these places is 0; no other place changes
 UNMAVRETH_MUST_USE
-uint8_t unmavreth_close_ike(unmavreth_ike_table *ike, unmavreth_ipsec *ipsec, size_t records, uint64_t spi);
+uint8_t unmavreth_close_ike(unmavreth_ike_table *ike, unmavreth_ipsec *ipsec, size_t records, uint64_t spi,
+                            uint8_t operator_id);
 
-// Closes an IPsec record. Numbers, in the order of the checks:
-//    1  `records` is not 128, or the SPI is 0
-//    4  no IPsec record has this SPI
+// Closes an IPsec record. The IKE records, which say whose it is, are only read. Numbers, in the order of the checks:
+//    1  `records` is not 128, the SPI is 0, or the operator is above 1
+//    4  no IPsec record has this SPI, or the one that is meant is not the operator's
 //    0  closed: every field of its place is 0; no other place changes
 UNMAVRETH_MUST_USE
-uint8_t unmavreth_close_ipsec(unmavreth_ipsec *ipsec, size_t records, uint32_t spi);
+uint8_t unmavreth_close_ipsec(const unmavreth_ike_table *ike, unmavreth_ipsec *ipsec, size_t records, uint32_t spi,
+                              uint8_t operator_id);
 
 // Marks an IKE record as being deleted, for a host that begins to delete the IKE SA; it closes the record once the SA
 // is gone. A record with the mark is not cloned any more (unmavreth_clone); to all other calls it is as it was. Nothing
 // but closing the record takes the mark away. Numbers, in the order of the checks:
-//    1  the SPI is 0
-//    4  no IKE record has this SPI
+//    1  the SPI is 0, or the operator is above 1
+//    4  no IKE record has this SPI, or the one that is meant is not the operator's
 //    0  marked, whether it was before or not: `deleting` of its place is 1; no other field of any place changes
 UNMAVRETH_MUST_USE
-uint8_t unmavreth_mark_deletion(unmavreth_ike_table *ike, uint64_t spi);
+uint8_t unmavreth_mark_deletion(unmavreth_ike_table *ike, uint64_t spi, uint8_t operator_id);
 
 // --------------------------------------------------------------------------------------------------- reading a chain
 
@@ -580,14 +611,15 @@ UNMAVRETH_AT(unmavreth_reply, length, 16);
 //                                message ID that the gateway's next request of this IKE SA has; lent with every request
 //   first, body                  the decrypted payload chain
 //   out                          where the response goes
+//   operator_id                  whose the IKE SA is; its policy is the one that an update is held to
 // What is lent has its size behind it.
 // Numbers, in the order of the checks, and what each leaves of the tables and of the output:
 //    1  `records` is not 128, the SPI is 0, a NAT detection value has not 20 octets, the cookie has not 8 to 64 octets
-//       (with an update or without), the pair's family is not 4 or 6, or an IPv4 address of the pair has a tail that is
-//       not zero
+//       (with an update or without), the pair's family is not 4 or 6, an IPv4 address of the pair has a tail that is
+//       not zero, or the operator is above 1
 //    2  the output has under 128 octets, however short the response would be
 //    3  the body has over 4,096 octets
-//    4  no IKE record has this SPI
+//    4  no IKE record has this SPI, or the one that is meant is not the operator's
 //    5  MOBIKE was not agreed for it
 //         With 1 to 5 every field of every place and every octet of the output stay as they were; `length` is 0. The
 //         host answers the request itself: with 4 and 5 as one that has no MOBIKE does, by an empty response if there
@@ -597,7 +629,7 @@ UNMAVRETH_AT(unmavreth_reply, length, 16);
 //         With these every field of every place stays as it was. The response is INVALID_SYNTAX, or with 7
 //         UNSUPPORTED_CRITICAL_PAYLOAD with the payload's type; no COOKIE2.
 //    8  a new update (its ID exceeds the update mark) whose NO_NATS_ALLOWED is not the packet's addresses and ports
-//    9  a new update, and no rule of the policy matches the packet's pair
+//    9  a new update, and no rule of the operator's policy matches the packet's pair
 //         With 8 and 9 that IKE record's unknown tally grows as with 0 and its update mark becomes the ID, so that an
 //         older update is stale from now on; no other field of any place changes. The response is
 //         UNEXPECTED_NAT_DETECTED or UNACCEPTABLE_ADDRESSES, then the request's COOKIE2 if it had one. strongSwan's
@@ -619,11 +651,11 @@ UNMAVRETH_AT(unmavreth_reply, length, 16);
 // The response stands at the start of the output; octets past its `length` stay as they were.
 UNMAVRETH_MUST_USE
 unmavreth_reply unmavreth_handle(unmavreth_ike_table *ike, const unmavreth_ipsec *ipsec, size_t records,
-                                 const unmavreth_policy *policy, uint64_t spi, uint32_t id, unmavreth_pair pair,
+                                 const unmavreth_policies *policies, uint64_t spi, uint32_t id, unmavreth_pair pair,
                                  const uint8_t *nat_source, size_t nat_source_size, const uint8_t *nat_destination,
                                  size_t nat_destination_size, const uint8_t *cookie, size_t cookie_size,
                                  uint32_t check_id, uint8_t first, const uint8_t *body, size_t body_size, uint8_t *out,
-                                 size_t out_size);
+                                 size_t out_size, uint8_t operator_id);
 
 // ------------------------------------------------------------------------------------- the return routability check
 
@@ -652,10 +684,11 @@ UNMAVRETH_AT(unmavreth_assessment, cookie_len, 14);
 // with the cookie that the IKE record keeps: the host remembers nothing of the check itself.
 //   spi, id      the gateway's SPI of the IKE SA, and the message ID of the response, which is that of our request
 //   first, body  the decrypted payload chain
+//   operator_id  whose the IKE SA is
 // Numbers, in the order of the checks:
-//    1  `records` is not 128, or the SPI is 0
+//    1  `records` is not 128, the SPI is 0, or the operator is above 1
 //    3  the body has over 4,096 octets
-//    4  no IKE record has this SPI
+//    4  no IKE record has this SPI, or the one that is meant is not the operator's
 //    5  MOBIKE was not agreed for it
 //   14  it has no check under way, or one by a request of ours with another ID: a later update was applied meanwhile,
 //       or the check has ended
@@ -671,7 +704,8 @@ UNMAVRETH_AT(unmavreth_assessment, cookie_len, 14);
 //       No other field of any place changes; the tally is told, and not added to the record's.
 UNMAVRETH_MUST_USE
 unmavreth_assessment unmavreth_check(unmavreth_ike_table *ike, unmavreth_ipsec *ipsec, size_t records, uint64_t spi,
-                                     uint32_t id, uint8_t first, const uint8_t *body, size_t body_size);
+                                     uint32_t id, uint8_t first, const uint8_t *body, size_t body_size,
+                                     uint8_t operator_id);
 
 // ------------------------------------------------------------------------------------------------ cloning an IKE SA
 
@@ -679,7 +713,7 @@ unmavreth_assessment unmavreth_check(unmavreth_ike_table *ike, unmavreth_ipsec *
 typedef struct unmavreth_clone_reply {
     uint8_t number;
     uint8_t first;     // the type of the response's first payload: 41, or 0 if nothing is written
-    uint16_t payloads; // of the request, with 0, 44, 41, 42 and 11; else 0
+    uint16_t payloads; // of the request, with 0, 44, 41, 42, 11 and 43; else 0
     uint16_t offset;   // as in unmavreth_reading
     uint16_t ordinal;  // likewise
     uint16_t length;   // octets of the response
@@ -699,13 +733,14 @@ UNMAVRETH_AT(unmavreth_clone_reply, length, 8);
 //   new_spi      the SPI that the gateway draws for the new IKE SA
 //   first, body  the decrypted payload chain; SA, nonce and key exchange in it are skipped, and are the host's to read
 //   out          where the response goes
+//   operator_id  whose the IKE SA is, and the clone
 // It is read as by unmavreth_read, but for CLONE_IKE_SA and CLONE_IKE_SA_SUPPORTED, which are known here: with an SPI
 // either is 62 and with data 63, and a second one is no fault. What else is in it has no effect, and no tally grows.
 // Numbers, in the order of the checks, and what each leaves of the output:
-//    1  one of the SPIs is 0
+//    1  one of the SPIs is 0, or the operator is above 1
 //    2  the output has under 128 octets, however short the response would be
 //    3  the body has over 4,096 octets
-//    4  no IKE record has the SPI `spi`
+//    4  no IKE record has the SPI `spi`, or the one that is meant is not the operator's
 //   40  cloning was not agreed for it
 //         With 1 to 4 and 40 every octet of the output stays as it was; `length` is 0. The host answers the request
 //         itself: with 40 as one that has no cloning does, which ignores CLONE_IKE_SA; with 4 likewise, or, if both
@@ -718,22 +753,25 @@ UNMAVRETH_AT(unmavreth_clone_reply, length, 8);
 //         Every octet of the output stays as it was; `length` is 0.
 //   41  the original is being deleted (unmavreth_mark_deletion), or no place is free: the response is
 //       TEMPORARY_FAILURE, and the client may try again later
-//   42  four IKE records or more have the original's peer number, itself and those being deleted among them: the
-//       response is NO_ADDITIONAL_SAS, and the client is not to try again until one of its IKE SAs is gone
-//   11  an IKE record has the SPI `new_spi`: the host draws another one, and makes the call again
+//   42  four IKE records or more of the operator have the original's peer number, itself and those being deleted among
+//       them: the response is NO_ADDITIONAL_SAS, and the client is not to try again until one of its IKE SAs is gone
+//   11  an IKE record of either operator has the SPI `new_spi`: the host draws another one, and makes the call again
 //         Every octet of the output stays as it was; `length` is 0.
+//   43  the operator has 20 IKE records or more, clones among them: the response is NO_ADDITIONAL_SAS
 //    0  cloned. The lowest free place has the SPI `new_spi`, and of the original the pair and what is agreed, the peer
-//       number among it, each field as it stands there. It has no marks, no additional addresses, tally 0 and no check
-//       under way, and is not being deleted. No IPsec record changes: those of the original stay with it, and the
-//       clone's own are opened as child SAs are made (unmavreth_open_ipsec). The response is CLONE_IKE_SA. The host now
-//       goes on with the key exchange of the rekey, and sends its SA, nonce and key exchange with the response: RFC
-//       7791 has no notification there and says that this one is ignored, so that a host may leave it off. The
-//       original is not deleted. If the key exchange fails, the host closes the clone (unmavreth_close_ike).
+//       number and the operator among it, each field as it stands there. It has no marks, no additional addresses,
+//       tally 0 and no check under way, and is not being deleted. No IPsec record changes: those of the original stay
+//       with it, and the clone's own are opened as child SAs are made (unmavreth_open_ipsec). The response is
+//       CLONE_IKE_SA. The host now goes on with the key exchange of the rekey, and sends its SA, nonce and key
+//       exchange with the response: RFC 7791 has no notification there and says that this one is ignored, so that a
+//       host may leave it off. The original is not deleted. If the key exchange fails, the host closes the clone
+//       (unmavreth_close_ike).
 // With every number but 0 every field of every place stays as it was, and with 0 that of every place but the clone's.
 // The response stands at the start of the output; octets past its `length` stay as they were.
 UNMAVRETH_MUST_USE
 unmavreth_clone_reply unmavreth_clone(unmavreth_ike_table *ike, uint64_t spi, uint64_t new_spi, uint8_t first,
-                                      const uint8_t *body, size_t body_size, uint8_t *out, size_t out_size);
+                                      const uint8_t *body, size_t body_size, uint8_t *out, size_t out_size,
+                                      uint8_t operator_id);
 
 // ----------------------------------------------------------------------------------------------- the initiator's end
 
@@ -806,7 +844,7 @@ unmavreth_assessment unmavreth_assess(const uint8_t *sent, size_t sent_size, uin
 // A trace is the calls that were made on a gateway, as octets, one entry behind the other (docs/TRACE.md). The two
 // calls below read and write one entry. What it says stands in slots, in the order of its fields: a number in one; an
 // address in one, its offset in a lent buffer; a string in two, its offset there and its length; a list in one for its
-// count and then those of its items. Of an entry that was read the buffer is the trace itself.
+// count and then those of sixteen items, however many it has. Of an entry that was read the buffer is the trace itself.
 enum unmavreth_kind {
     UNMAVRETH_KIND_OPEN_BOTH = 0,   // unmavreth_open
     UNMAVRETH_KIND_ADD_IPSEC = 1,   // unmavreth_open_ipsec
@@ -820,9 +858,9 @@ enum unmavreth_kind {
 };
 
 enum unmavreth_entry_limit {
-    UNMAVRETH_ENTRY_SLOTS = 81,   // as many as the widest kind has, a policy
+    UNMAVRETH_ENTRY_SLOTS = 82,   // as many as the widest kind has, a policy
     UNMAVRETH_STRING_MOST = 4096, // the longest string of an entry
-    UNMAVRETH_ENTRY_MOST = 16455  // octets of the longest entry, a request with four such strings
+    UNMAVRETH_ENTRY_MOST = 16456  // octets of the longest entry, a request with four such strings
 };
 
 // The slots of each kind. Those of a pair and of a rule stand behind the one at which it begins, such as
@@ -848,13 +886,17 @@ enum unmavreth_slot {
     UNMAVRETH_OPEN_CHILD = 7,
     UNMAVRETH_OPEN_PEER = 8,
     UNMAVRETH_OPEN_CLONING = 9, // 0 or 1
+    UNMAVRETH_OPEN_OPERATOR = 10, // 0 or 1, as of every kind
 
     UNMAVRETH_ADD_SPI = 0,
     UNMAVRETH_ADD_OWNER = 1,
+    UNMAVRETH_ADD_OPERATOR = 2,
 
     UNMAVRETH_CLOSE_IKE_SPI = 0,
+    UNMAVRETH_CLOSE_IKE_OPERATOR = 1,
 
     UNMAVRETH_CLOSE_IPSEC_SPI = 0,
+    UNMAVRETH_CLOSE_IPSEC_OPERATOR = 1,
 
     UNMAVRETH_REQUEST_SPI = 0,
     UNMAVRETH_REQUEST_ID = 1,
@@ -869,32 +911,39 @@ enum unmavreth_slot {
     UNMAVRETH_REQUEST_COOKIE = 14, // an offset
     UNMAVRETH_REQUEST_COOKIE_SIZE = 15,
     UNMAVRETH_REQUEST_CHECK_ID = 16,
+    UNMAVRETH_REQUEST_OPERATOR = 17,
 
     UNMAVRETH_POLICY_COUNT = 0,
     UNMAVRETH_POLICY_RULES = 1, // where the first rule begins
+    UNMAVRETH_POLICY_OPERATOR = 81, // behind all sixteen rules, whatever the count
 
     UNMAVRETH_CHECK_RESPONSE_SPI = 0,
     UNMAVRETH_CHECK_RESPONSE_ID = 1,
     UNMAVRETH_CHECK_RESPONSE_FIRST = 2,
     UNMAVRETH_CHECK_RESPONSE_BODY = 3, // an offset
     UNMAVRETH_CHECK_RESPONSE_BODY_SIZE = 4,
+    UNMAVRETH_CHECK_RESPONSE_OPERATOR = 5,
 
     UNMAVRETH_CLONE_SPI = 0,
     UNMAVRETH_CLONE_NEW_SPI = 1,
     UNMAVRETH_CLONE_FIRST = 2,
     UNMAVRETH_CLONE_BODY = 3, // an offset
     UNMAVRETH_CLONE_BODY_SIZE = 4,
+    UNMAVRETH_CLONE_OPERATOR = 5,
 
-    UNMAVRETH_MARK_DELETION_SPI = 0
+    UNMAVRETH_MARK_DELETION_SPI = 0,
+    UNMAVRETH_MARK_DELETION_OPERATOR = 1
 };
 
 // Where the rule of this ordinal, from 0, begins in the slots of a policy.
 #define UNMAVRETH_POLICY_RULE(ordinal) (UNMAVRETH_POLICY_RULES + (ordinal) * UNMAVRETH_RULE_SLOTS)
 
-UNMAVRETH_ASSERT(UNMAVRETH_ENTRY_SLOTS == UNMAVRETH_POLICY_RULE((size_t)UNMAVRETH_RULES_MOST), "ENTRY_SLOTS");
-// Seven bits an octet: 10 octets for 64 bits, 5 for 32, 3 for 16, 2 for 8 and for a string's length.
+UNMAVRETH_ASSERT((size_t)UNMAVRETH_POLICY_OPERATOR == UNMAVRETH_POLICY_RULE((size_t)UNMAVRETH_RULES_MOST),
+                 "POLICY_OPERATOR");
+UNMAVRETH_ASSERT((size_t)UNMAVRETH_ENTRY_SLOTS == (size_t)UNMAVRETH_POLICY_OPERATOR + 1, "ENTRY_SLOTS");
+// Seven bits an octet: 10 octets for 64 bits, 5 for 32, 3 for 16, 2 for 8 and for a string's length, 1 for 1.
 UNMAVRETH_ASSERT(UNMAVRETH_ENTRY_MOST == 1 + 10 + 5 + (2 + 2 * UNMAVRETH_ADDRESS_OCTETS + 2 * 3) +
-                                             4 * (2 + UNMAVRETH_STRING_MOST) + 2 + 5,
+                                             4 * (2 + UNMAVRETH_STRING_MOST) + 2 + 5 + 1,
                  "ENTRY_MOST");
 
 typedef struct unmavreth_entry_read {
@@ -903,7 +952,7 @@ typedef struct unmavreth_entry_read {
     size_t next;                           // the offset of the first octet behind it
     uint64_t slots[UNMAVRETH_ENTRY_SLOTS]; // those of its kind; an offset is one in the trace
 } unmavreth_entry_read;
-UNMAVRETH_SIZE(unmavreth_entry_read, 664);
+UNMAVRETH_SIZE(unmavreth_entry_read, 672);
 UNMAVRETH_AT(unmavreth_entry_read, number, 0);
 UNMAVRETH_AT(unmavreth_entry_read, kind, 1);
 UNMAVRETH_AT(unmavreth_entry_read, next, 8);

@@ -13,11 +13,12 @@
 
 // ---------------------------------------------------------------------------------------------------------- arguments
 
-// What a gateway owns and lends. All zeros is the beginning: no record, and a policy to which nothing is acceptable.
+// What a gateway owns and lends. All zeros is the beginning: no record, and for each operator a policy to which nothing
+// is acceptable. A host with one operator leaves operator_id at 0 everywhere, and is refused (43) at this one's share.
 typedef struct unmavreth_gateway {
     unmavreth_ike_table ike;
     unmavreth_ipsec ipsec[UNMAVRETH_IPSEC_PLACES];
-    unmavreth_policy policy;
+    unmavreth_policies policies;
 } unmavreth_gateway;
 
 // A NAT detection value.
@@ -36,6 +37,7 @@ typedef struct unmavreth_request {
     unmavreth_part body;           // the payloads
     unmavreth_part cookie;         // 8 to 64 octets, for the check that an applied update asks for
     uint32_t check_id;             // the message ID of the gateway's next request, which that check would have
+    uint8_t operator_id;           // whose the IKE SA is
 } unmavreth_request;
 
 // Where a response goes; unmavreth_reply has its first type and its length.
@@ -64,6 +66,7 @@ typedef struct unmavreth_check_response {
     uint32_t id;         // its message ID
     uint8_t first;       // the type of the first payload
     unmavreth_part body; // the payloads
+    uint8_t operator_id; // whose the IKE SA is
 } unmavreth_check_response;
 
 // A request to clone an IKE SA as it came: a rekey of it, authenticated, decrypted, and within the message window. Its
@@ -73,6 +76,7 @@ typedef struct unmavreth_clone_request {
     uint64_t new_spi;    // the SPI that the gateway draws for the new one
     uint8_t first;       // the type of the first payload
     unmavreth_part body; // the payloads
+    uint8_t operator_id; // whose the IKE SA is, and the new one
 } unmavreth_clone_request;
 
 // A part as the exported calls take it: no pointer is null there, not even with length 0.
@@ -86,7 +90,7 @@ static inline unmavreth_part unmavreth_lent(unmavreth_part part)
 
 // --------------------------------------------------------------------------------------------------------- a gateway
 
-// As unmavreth_open.
+// As unmavreth_open; the operator is in what is agreed.
 UNMAVRETH_MUST_USE
 static inline uint8_t unmavreth_gateway_open(unmavreth_gateway *gateway, const unmavreth_opening *opening)
 {
@@ -95,49 +99,52 @@ static inline uint8_t unmavreth_gateway_open(unmavreth_gateway *gateway, const u
 
 // As unmavreth_open_ipsec.
 UNMAVRETH_MUST_USE
-static inline uint8_t unmavreth_gateway_open_ipsec(unmavreth_gateway *gateway, uint32_t spi, uint64_t owner)
+static inline uint8_t unmavreth_gateway_open_ipsec(unmavreth_gateway *gateway, uint32_t spi, uint64_t owner,
+                                                   uint8_t operator_id)
 {
-    return unmavreth_open_ipsec(&gateway->ike, gateway->ipsec, UNMAVRETH_IPSEC_PLACES, spi, owner);
+    return unmavreth_open_ipsec(&gateway->ike, gateway->ipsec, UNMAVRETH_IPSEC_PLACES, spi, owner, operator_id);
 }
 
 // As unmavreth_close_ike.
 UNMAVRETH_MUST_USE
-static inline uint8_t unmavreth_gateway_close_ike(unmavreth_gateway *gateway, uint64_t spi)
+static inline uint8_t unmavreth_gateway_close_ike(unmavreth_gateway *gateway, uint64_t spi, uint8_t operator_id)
 {
-    return unmavreth_close_ike(&gateway->ike, gateway->ipsec, UNMAVRETH_IPSEC_PLACES, spi);
+    return unmavreth_close_ike(&gateway->ike, gateway->ipsec, UNMAVRETH_IPSEC_PLACES, spi, operator_id);
 }
 
 // As unmavreth_close_ipsec.
 UNMAVRETH_MUST_USE
-static inline uint8_t unmavreth_gateway_close_ipsec(unmavreth_gateway *gateway, uint32_t spi)
+static inline uint8_t unmavreth_gateway_close_ipsec(unmavreth_gateway *gateway, uint32_t spi, uint8_t operator_id)
 {
-    return unmavreth_close_ipsec(gateway->ipsec, UNMAVRETH_IPSEC_PLACES, spi);
+    return unmavreth_close_ipsec(&gateway->ike, gateway->ipsec, UNMAVRETH_IPSEC_PLACES, spi, operator_id);
 }
 
 // As unmavreth_mark_deletion.
 UNMAVRETH_MUST_USE
-static inline uint8_t unmavreth_gateway_mark_deletion(unmavreth_gateway *gateway, uint64_t spi)
+static inline uint8_t unmavreth_gateway_mark_deletion(unmavreth_gateway *gateway, uint64_t spi, uint8_t operator_id)
 {
-    return unmavreth_mark_deletion(&gateway->ike, spi);
+    return unmavreth_mark_deletion(&gateway->ike, spi, operator_id);
 }
 
 // As unmavreth_set_policy, with all of these rules; over 16 of them are refused there.
 UNMAVRETH_MUST_USE
 static inline uint8_t unmavreth_gateway_set_policy(unmavreth_gateway *gateway, const unmavreth_rule *rules,
-                                                   size_t count)
+                                                   size_t count, uint8_t operator_id)
 {
     unmavreth_rules places;
     memset(&places, 0, sizeof places);
     for (size_t i = 0; i < count && i < UNMAVRETH_RULES_MOST; i++)
         places.rules[i] = rules[i];
-    return unmavreth_set_policy(&gateway->policy, (uint16_t)(count < UINT16_MAX ? count : UINT16_MAX), &places);
+    return unmavreth_set_policy(&gateway->policies, (uint16_t)(count < UINT16_MAX ? count : UINT16_MAX), &places,
+                                operator_id);
 }
 
-// As unmavreth_acceptable.
+// As unmavreth_acceptable, of the operator's policy; with an operator above 1, which has none, no pair is.
 UNMAVRETH_MUST_USE
-static inline bool unmavreth_gateway_acceptable(const unmavreth_gateway *gateway, unmavreth_pair pair)
+static inline bool unmavreth_gateway_acceptable(const unmavreth_gateway *gateway, unmavreth_pair pair,
+                                                uint8_t operator_id)
 {
-    return unmavreth_acceptable(&gateway->policy, pair);
+    return operator_id < UNMAVRETH_OPERATORS && unmavreth_acceptable(&gateway->policies.of[operator_id], pair);
 }
 
 // As unmavreth_handle.
@@ -146,11 +153,11 @@ static inline unmavreth_reply unmavreth_gateway_handle(unmavreth_gateway *gatewa
                                                        unmavreth_response *response)
 {
     const unmavreth_part body = unmavreth_lent(request->body), cookie = unmavreth_lent(request->cookie);
-    return unmavreth_handle(&gateway->ike, gateway->ipsec, UNMAVRETH_IPSEC_PLACES, &gateway->policy, request->spi,
+    return unmavreth_handle(&gateway->ike, gateway->ipsec, UNMAVRETH_IPSEC_PLACES, &gateway->policies, request->spi,
                             request->id, request->pair, request->nat_source.octets, UNMAVRETH_NAT_OCTETS,
                             request->nat_destination.octets, UNMAVRETH_NAT_OCTETS, cookie.start, cookie.octets,
                             request->check_id, request->first, body.start, body.octets, response->octets,
-                            UNMAVRETH_RESPONSE_ROOM);
+                            UNMAVRETH_RESPONSE_ROOM, request->operator_id);
 }
 
 // As unmavreth_check.
@@ -160,7 +167,7 @@ static inline unmavreth_assessment unmavreth_gateway_check(unmavreth_gateway *ga
 {
     const unmavreth_part body = unmavreth_lent(response->body);
     return unmavreth_check(&gateway->ike, gateway->ipsec, UNMAVRETH_IPSEC_PLACES, response->spi, response->id,
-                           response->first, body.start, body.octets);
+                           response->first, body.start, body.octets, response->operator_id);
 }
 
 // As unmavreth_clone.
@@ -171,7 +178,7 @@ static inline unmavreth_clone_reply unmavreth_gateway_clone(unmavreth_gateway *g
 {
     const unmavreth_part body = unmavreth_lent(request->body);
     return unmavreth_clone(&gateway->ike, request->spi, request->new_spi, request->first, body.start, body.octets,
-                           response->octets, UNMAVRETH_RESPONSE_ROOM);
+                           response->octets, UNMAVRETH_RESPONSE_ROOM, request->operator_id);
 }
 
 // ------------------------------------------------------------------------------------------------- looking at records
@@ -194,14 +201,40 @@ static inline const unmavreth_ipsec *unmavreth_find_ipsec(const unmavreth_gatewa
     return NULL;
 }
 
-// How many IKE records in use have this peer number: a clone of one of them is refused at
+// How many IKE records in use are of this operator and have this peer number: a clone of one of them is refused at
 // UNMAVRETH_PEER_RECORDS_MOST.
-static inline size_t unmavreth_peer_records(const unmavreth_gateway *gateway, uint32_t peer)
+static inline size_t unmavreth_peer_records(const unmavreth_gateway *gateway, uint32_t peer, uint8_t operator_id)
+{
+    size_t records = 0;
+    for (size_t at = 0; at < UNMAVRETH_IKE_PLACES; at++) {
+        const unmavreth_ike *record = &gateway->ike.records[at];
+        if (record->spi != 0 && record->agreed.operator_id == operator_id && record->agreed.peer == peer)
+            records++;
+    }
+    return records;
+}
+
+// How many IKE records in use are of this operator: a further one is refused at UNMAVRETH_IKE_SHARE.
+static inline size_t unmavreth_operator_ike_records(const unmavreth_gateway *gateway, uint8_t operator_id)
 {
     size_t records = 0;
     for (size_t at = 0; at < UNMAVRETH_IKE_PLACES; at++)
-        if (gateway->ike.records[at].spi != 0 && gateway->ike.records[at].agreed.peer == peer)
+        if (gateway->ike.records[at].spi != 0 && gateway->ike.records[at].agreed.operator_id == operator_id)
             records++;
+    return records;
+}
+
+// How many IPsec records in use are of this operator, by the IKE record that owns each: a further one is refused at
+// UNMAVRETH_IPSEC_SHARE.
+static inline size_t unmavreth_operator_ipsec_records(const unmavreth_gateway *gateway, uint8_t operator_id)
+{
+    size_t records = 0;
+    for (size_t at = 0; at < UNMAVRETH_IPSEC_PLACES; at++) {
+        const unmavreth_ipsec *record = &gateway->ipsec[at];
+        const unmavreth_ike *owner = record->spi != 0 ? unmavreth_find_ike(gateway, record->owner) : NULL;
+        if (owner != NULL && owner->agreed.operator_id == operator_id)
+            records++;
+    }
     return records;
 }
 

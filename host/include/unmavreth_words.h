@@ -33,6 +33,7 @@ static inline const char *unmavreth_number_words(uint8_t number)
     case UNMAVRETH_CLONING_NOT_AGREED: return "cloning not agreed";
     case UNMAVRETH_CANNOT_CLONE_NOW: return "the IKE SA to clone is being deleted, or all places in use";
     case UNMAVRETH_PEER_AT_LIMIT: return "the peer has four IKE records or more";
+    case UNMAVRETH_OPERATOR_AT_SHARE: return "the operator has its share of the records or more";
     case UNMAVRETH_NO_CLONE_REQUEST: return "no CLONE_IKE_SA in the request";
     case UNMAVRETH_BAD_CHAIN_LENGTH: return "a payload cut short or of a length that cannot be";
     case UNMAVRETH_BAD_NOTIFY: return "a Notify of a length or with an SPI that cannot be";

@@ -14,33 +14,33 @@ void drop(unmavreth_gateway *g, const unmavreth_opening *opening, const unmavret
           uint8_t *out, unmavreth_part b)
 {
     unmavreth_interface();
-    unmavreth_mark_deletion(&g->ike, 7);
-    unmavreth_clone(&g->ike, 7, 8, 0, b.start, b.octets, out, 0);
-    unmavreth_set_policy(&g->policy, 0, rules);
-    unmavreth_acceptable(&g->policy, request->pair);
+    unmavreth_mark_deletion(&g->ike, 7, 0);
+    unmavreth_clone(&g->ike, 7, 8, 0, b.start, b.octets, out, 0, 0);
+    unmavreth_set_policy(&g->policies, 0, rules, 0);
+    unmavreth_acceptable(&g->policies.of[0], request->pair);
     unmavreth_open(&g->ike, g->ipsec, UNMAVRETH_IPSEC_PLACES, *opening);
-    unmavreth_open_ipsec(&g->ike, g->ipsec, UNMAVRETH_IPSEC_PLACES, 1, 7);
-    unmavreth_close_ike(&g->ike, g->ipsec, UNMAVRETH_IPSEC_PLACES, 7);
-    unmavreth_close_ipsec(g->ipsec, UNMAVRETH_IPSEC_PLACES, 1);
+    unmavreth_open_ipsec(&g->ike, g->ipsec, UNMAVRETH_IPSEC_PLACES, 1, 7, 0);
+    unmavreth_close_ike(&g->ike, g->ipsec, UNMAVRETH_IPSEC_PLACES, 7, 0);
+    unmavreth_close_ipsec(&g->ike, g->ipsec, UNMAVRETH_IPSEC_PLACES, 1, 0);
     unmavreth_read(0, b.start, b.octets);
     unmavreth_no_nats(b.start, b.octets, 0, 0);
     unmavreth_addresses(b.start, b.octets, seen->list);
-    unmavreth_handle(&g->ike, g->ipsec, 0, &g->policy, 7, 0, request->pair, out, 0, out, 0, out, 0, 0, 0, out, 0, out,
-                     0);
-    unmavreth_check(&g->ike, g->ipsec, UNMAVRETH_IPSEC_PLACES, 7, 0, 0, b.start, b.octets);
+    unmavreth_handle(&g->ike, g->ipsec, 0, &g->policies, 7, 0, request->pair, out, 0, out, 0, out, 0, 0, 0, out, 0, out,
+                     0, 0);
+    unmavreth_check(&g->ike, g->ipsec, UNMAVRETH_IPSEC_PLACES, 7, 0, 0, b.start, b.octets, 0);
     unmavreth_write(draft->ask, draft->pair, draft->addresses, out, 0, out, 0, out, 0, out, 0);
     unmavreth_assess(b.start, b.octets, 0, b.start, b.octets);
     unmavreth_read_entry(b.start, b.octets, 0);
     unmavreth_write_entry(0, slots, b.start, b.octets, out, 0);
     unmavreth_gateway_open(g, opening);
-    unmavreth_gateway_open_ipsec(g, 1, 7);
-    unmavreth_gateway_close_ike(g, 7);
-    unmavreth_gateway_close_ipsec(g, 1);
-    unmavreth_gateway_set_policy(g, rules->rules, 1);
-    unmavreth_gateway_acceptable(g, request->pair);
+    unmavreth_gateway_open_ipsec(g, 1, 7, 0);
+    unmavreth_gateway_close_ike(g, 7, 0);
+    unmavreth_gateway_close_ipsec(g, 1, 0);
+    unmavreth_gateway_set_policy(g, rules->rules, 1, 0);
+    unmavreth_gateway_acceptable(g, request->pair, 0);
     unmavreth_gateway_handle(g, request, response);
     unmavreth_gateway_check(g, checked);
-    unmavreth_gateway_mark_deletion(g, 7);
+    unmavreth_gateway_mark_deletion(g, 7, 0);
     unmavreth_gateway_clone(g, cloned, response);
     unmavreth_write_clone_supported(message);
     unmavreth_write_clone(message);

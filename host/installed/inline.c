@@ -5,6 +5,7 @@
 #include "holds.h"
 
 enum { SPI = 7, CHILD = 70, COOKIE_AT = 16, COOKIE_OCTETS = 8, CHECK_ID = 5 };
+enum { A = UNMAVRETH_OPERATOR_A, B = UNMAVRETH_OPERATOR_B, NEITHER = 2 };
 
 static const unmavreth_part nothing = {NULL, 0};
 static const uint8_t cookie[COOKIE_OCTETS] = {1, 2, 3, 4, 5, 6, 7, 8};
@@ -60,11 +61,12 @@ static void try_nothing(void)
     HOLDS(unmavreth_addresses_part(nothing, &none).list[0].family == 0);
     HOLDS(unmavreth_read_entry_part(nothing, 0).number == UNMAVRETH_CUT);
     static uint8_t out[UNMAVRETH_ENTRY_MOST];
-    const uint64_t slots[UNMAVRETH_ENTRY_SLOTS] = {SPI};
+    const uint64_t slots[UNMAVRETH_ENTRY_SLOTS] = {SPI, B};
     const unmavreth_entry_written entry = unmavreth_write_entry_part(UNMAVRETH_KIND_CLOSE_IKE, slots, nothing, out);
-    HOLDS(entry.number == UNMAVRETH_DONE && entry.length == 2);
+    HOLDS(entry.number == UNMAVRETH_DONE && entry.length == 3);
     const unmavreth_part trace = {out, entry.length};
     HOLDS(unmavreth_read_entry_part(trace, 0).slots[UNMAVRETH_CLOSE_IKE_SPI] == SPI);
+    HOLDS(unmavreth_read_entry_part(trace, 0).slots[UNMAVRETH_CLOSE_IKE_OPERATOR] == B);
 }
 
 // A REDIRECT with a nonce, written, read and decided on; and a REDIRECTED_FROM.
@@ -113,8 +115,8 @@ static void try_gateway(void)
     opening.pair.family = 4;
     opening.child = CHILD;
     HOLDS(unmavreth_gateway_open(&gateway, &opening) == UNMAVRETH_DONE);
-    HOLDS(unmavreth_gateway_open_ipsec(&gateway, CHILD + 1, SPI) == UNMAVRETH_DONE);
-    HOLDS(unmavreth_gateway_open_ipsec(&gateway, CHILD, SPI) == UNMAVRETH_SPI_IN_USE);
+    HOLDS(unmavreth_gateway_open_ipsec(&gateway, CHILD + 1, SPI, A) == UNMAVRETH_DONE);
+    HOLDS(unmavreth_gateway_open_ipsec(&gateway, CHILD, SPI, A) == UNMAVRETH_SPI_IN_USE);
     HOLDS(unmavreth_find_ike(&gateway, SPI) == &gateway.ike.records[0] && unmavreth_find_ike(&gateway, 0) == NULL);
     HOLDS(unmavreth_find_ipsec(&gateway, CHILD + 1) == &gateway.ipsec[1] && unmavreth_find_ipsec(&gateway, 0) == NULL);
     HOLDS(unmavreth_find_ike(&gateway, SPI + 1) == NULL && unmavreth_find_ipsec(&gateway, SPI) == NULL);
@@ -125,12 +127,16 @@ static void try_gateway(void)
     memset(rules, 0, sizeof rules);
     for (size_t i = 0; i < UNMAVRETH_RULES_MOST + 1; i++)
         rules[i].family = 4;
-    HOLDS(unmavreth_gateway_set_policy(&gateway, rules, UNMAVRETH_RULES_MOST + 1) == UNMAVRETH_BAD_POLICY);
-    HOLDS(unmavreth_gateway_set_policy(&gateway, rules, (size_t)UINT16_MAX + 1) == UNMAVRETH_BAD_POLICY);
-    HOLDS(unmavreth_gateway_set_policy(&gateway, rules, UNMAVRETH_RULES_MOST) == UNMAVRETH_DONE);
-    HOLDS(unmavreth_gateway_acceptable(&gateway, opening.pair));
-    HOLDS(unmavreth_gateway_set_policy(&gateway, NULL, 0) == UNMAVRETH_DONE && gateway.policy.count == 0);
-    HOLDS(!unmavreth_gateway_acceptable(&gateway, opening.pair));
+    HOLDS(unmavreth_gateway_set_policy(&gateway, rules, UNMAVRETH_RULES_MOST + 1, A) == UNMAVRETH_BAD_POLICY);
+    HOLDS(unmavreth_gateway_set_policy(&gateway, rules, (size_t)UINT16_MAX + 1, A) == UNMAVRETH_BAD_POLICY);
+    HOLDS(unmavreth_gateway_set_policy(&gateway, rules, UNMAVRETH_RULES_MOST, NEITHER) == UNMAVRETH_BAD_ARGUMENT);
+    HOLDS(unmavreth_gateway_set_policy(&gateway, rules, UNMAVRETH_RULES_MOST, A) == UNMAVRETH_DONE);
+    HOLDS(unmavreth_gateway_set_policy(&gateway, rules, 1, B) == UNMAVRETH_DONE && gateway.policies.of[B].count == 1);
+    HOLDS(unmavreth_gateway_acceptable(&gateway, opening.pair, A));
+    HOLDS(unmavreth_gateway_set_policy(&gateway, NULL, 0, A) == UNMAVRETH_DONE && gateway.policies.of[A].count == 0);
+    HOLDS(!unmavreth_gateway_acceptable(&gateway, opening.pair, A));
+    HOLDS(unmavreth_gateway_acceptable(&gateway, opening.pair, B));
+    HOLDS(!unmavreth_gateway_acceptable(&gateway, opening.pair, NEITHER));
     unmavreth_request request; // with no payload, an empty request: it is handled, and answered by an empty response
     unmavreth_response response;
     memset(&request, 0, sizeof request);
@@ -141,9 +147,47 @@ static void try_gateway(void)
     request.cookie.octets = sizeof cookie;
     const unmavreth_reply reply = unmavreth_gateway_handle(&gateway, &request, &response);
     HOLDS(reply.number == UNMAVRETH_DONE && reply.first == 0 && reply.length == 0);
-    HOLDS(unmavreth_gateway_close_ipsec(&gateway, CHILD) == UNMAVRETH_DONE);
+    request.operator_id = B;
+    HOLDS(unmavreth_gateway_handle(&gateway, &request, &response).number == UNMAVRETH_NO_SUCH_RECORD);
+    HOLDS(unmavreth_gateway_close_ipsec(&gateway, CHILD, B) == UNMAVRETH_NO_SUCH_RECORD);
+    HOLDS(unmavreth_gateway_close_ipsec(&gateway, CHILD, A) == UNMAVRETH_DONE);
     HOLDS(unmavreth_next_owned(&gateway, SPI, 0) == 1);
-    HOLDS(unmavreth_gateway_close_ike(&gateway, SPI) == UNMAVRETH_DONE && unmavreth_find_ike(&gateway, SPI) == NULL);
+    HOLDS(unmavreth_gateway_close_ike(&gateway, SPI, B) == UNMAVRETH_NO_SUCH_RECORD);
+    HOLDS(unmavreth_gateway_close_ike(&gateway, SPI, A) == UNMAVRETH_DONE && unmavreth_find_ike(&gateway, SPI) == NULL);
+}
+
+// One operator opens as many as its share, and the other what is left of the places.
+static void try_operators(void)
+{
+    static unmavreth_gateway gateway;
+    unmavreth_opening opening;
+    memset(&opening, 0, sizeof opening);
+    opening.pair.family = 4;
+    opening.agreed.operator_id = B;
+    for (opening.spi = 1; opening.spi <= UNMAVRETH_IKE_SHARE; opening.spi++) {
+        opening.child = (uint32_t)opening.spi;
+        HOLDS(unmavreth_gateway_open(&gateway, &opening) == UNMAVRETH_DONE);
+    }
+    opening.child = (uint32_t)opening.spi;
+    HOLDS(unmavreth_gateway_open(&gateway, &opening) == UNMAVRETH_OPERATOR_AT_SHARE);
+    HOLDS(unmavreth_operator_ike_records(&gateway, B) == UNMAVRETH_IKE_SHARE);
+    opening.agreed.operator_id = A;
+    for (; opening.spi <= UNMAVRETH_IKE_PLACES; opening.spi++) {
+        opening.child = (uint32_t)opening.spi;
+        HOLDS(unmavreth_gateway_open(&gateway, &opening) == UNMAVRETH_DONE);
+    }
+    opening.child = (uint32_t)opening.spi;
+    HOLDS(unmavreth_gateway_open(&gateway, &opening) == UNMAVRETH_FULL);
+    HOLDS(unmavreth_operator_ike_records(&gateway, A) == UNMAVRETH_IKE_PLACES - UNMAVRETH_IKE_SHARE);
+    for (uint32_t spi = 101; spi <= 100 + UNMAVRETH_IPSEC_SHARE - UNMAVRETH_IKE_SHARE; spi++)
+        HOLDS(unmavreth_gateway_open_ipsec(&gateway, spi, 1, B) == UNMAVRETH_DONE);
+    HOLDS(unmavreth_gateway_open_ipsec(&gateway, 100, 1, B) == UNMAVRETH_OPERATOR_AT_SHARE);
+    HOLDS(unmavreth_operator_ipsec_records(&gateway, B) == UNMAVRETH_IPSEC_SHARE);
+    HOLDS(unmavreth_operator_ipsec_records(&gateway, A) == UNMAVRETH_IKE_PLACES - UNMAVRETH_IKE_SHARE);
+    HOLDS(unmavreth_operator_ike_records(&gateway, NEITHER) == 0);
+    gateway.ipsec[0].owner = 1000; // which nobody has: the record is nobody's
+    HOLDS(unmavreth_operator_ipsec_records(&gateway, B) == UNMAVRETH_IPSEC_SHARE - 1);
+    HOLDS(unmavreth_gateway_close_ipsec(&gateway, 1, B) == UNMAVRETH_NO_SUCH_RECORD);
 }
 
 static void open_one(unmavreth_gateway *gateway, unmavreth_pair pair)
@@ -158,7 +202,7 @@ static void open_one(unmavreth_gateway *gateway, unmavreth_pair pair)
     opening.child = CHILD;
     rule.family = 4;
     HOLDS(unmavreth_gateway_open(gateway, &opening) == UNMAVRETH_DONE);
-    HOLDS(unmavreth_gateway_set_policy(gateway, &rule, 1) == UNMAVRETH_DONE);
+    HOLDS(unmavreth_gateway_set_policy(gateway, &rule, 1, A) == UNMAVRETH_DONE);
 }
 
 static unmavreth_request update_from(unmavreth_pair pair)
@@ -205,6 +249,9 @@ static void try_check(bool copied, uint8_t outcome)
     came.first = copied ? written.first : (uint8_t)0;
     came.body.start = copied ? message.octets : NULL;
     came.body.octets = copied ? written.length : 0;
+    came.operator_id = B;
+    HOLDS(unmavreth_gateway_check(&gateway, &came).number == UNMAVRETH_NO_SUCH_RECORD);
+    came.operator_id = A;
     HOLDS(unmavreth_gateway_check(&gateway, &came).outcome == outcome);
     HOLDS((unmavreth_find_ike(&gateway, SPI) != NULL) == copied);
     HOLDS(!copied || unmavreth_same_pair(&gateway.ipsec[0].pair, &now));
@@ -236,14 +283,20 @@ static void try_clone(void)
     request.first = written.first;
     request.body.start = message.octets;
     request.body.octets = written.length;
-    HOLDS(unmavreth_peer_records(&gateway, 0) == 1 && unmavreth_peer_records(&gateway, 1) == 0);
+    HOLDS(unmavreth_peer_records(&gateway, 0, A) == 1 && unmavreth_peer_records(&gateway, 1, A) == 0);
+    HOLDS(unmavreth_peer_records(&gateway, 0, B) == 0);
+    request.operator_id = B;
+    HOLDS(unmavreth_gateway_clone(&gateway, &request, &response).number == UNMAVRETH_NO_SUCH_RECORD);
+    request.operator_id = A;
     const unmavreth_clone_reply reply = unmavreth_gateway_clone(&gateway, &request, &response);
     HOLDS(reply.number == UNMAVRETH_DONE && reply.first == written.first && reply.length == written.length);
     HOLDS(reply.payloads == 1 && memcmp(response.octets, message.octets, reply.length) == 0);
-    HOLDS(unmavreth_find_ike(&gateway, SPI + 1) == &gateway.ike.records[1] && unmavreth_peer_records(&gateway, 0) == 2);
+    HOLDS(unmavreth_find_ike(&gateway, SPI + 1) == &gateway.ike.records[1]);
+    HOLDS(unmavreth_peer_records(&gateway, 0, A) == 2);
     HOLDS(unmavreth_gateway_clone(&gateway, &request, &response).number == UNMAVRETH_SPI_IN_USE);
-    HOLDS(unmavreth_gateway_mark_deletion(&gateway, SPI + 2) == UNMAVRETH_NO_SUCH_RECORD);
-    HOLDS(unmavreth_gateway_mark_deletion(&gateway, SPI) == UNMAVRETH_DONE && gateway.ike.records[0].deleting == 1);
+    HOLDS(unmavreth_gateway_mark_deletion(&gateway, SPI + 2, A) == UNMAVRETH_NO_SUCH_RECORD);
+    HOLDS(unmavreth_gateway_mark_deletion(&gateway, SPI, B) == UNMAVRETH_NO_SUCH_RECORD);
+    HOLDS(unmavreth_gateway_mark_deletion(&gateway, SPI, A) == UNMAVRETH_DONE && gateway.ike.records[0].deleting == 1);
     HOLDS(unmavreth_gateway_clone(&gateway, &request, &response).number == UNMAVRETH_CANNOT_CLONE_NOW);
 }
 
@@ -254,6 +307,7 @@ int main(void)
     try_redirects();
     try_nothing();
     try_gateway();
+    try_operators();
     try_check(true, UNMAVRETH_OUTCOME_ACCEPTED);
     try_check(false, UNMAVRETH_OUTCOME_CLOSE);
     try_clone();

@@ -19,7 +19,8 @@ uint8_t mobike_auth_list(unmavreth_gateway *gateway, uint64_t spi, uint32_t id, 
         return UNMAVRETH_NO_SUCH_RECORD;
     const uint8_t none[UNMAVRETH_COOKIE_LEAST] = {0}; // any will do: there is no update, and so no check
     unmavreth_request request = {.spi = spi, .id = id, .pair = record->pair, .first = written.first,
-                                 .body = {message.octets, written.length}, .cookie = {none, sizeof none}};
+                                 .body = {message.octets, written.length}, .cookie = {none, sizeof none},
+                                 .operator_id = record->agreed.operator_id};
     unmavreth_response response;
     return unmavreth_gateway_handle(gateway, &request, &response).number;
 }

@@ -10,7 +10,7 @@ uint8_t mobike_clone(unmavreth_gateway *gateway, const struct ike_sa *sa, const 
                      uint64_t new_spi)
 {
     unmavreth_clone_request request = {.spi = sa->own_spi, .new_spi = new_spi, .first = came->first,
-                                       .body = {came->payloads, came->octets}};
+                                       .body = {came->payloads, came->octets}, .operator_id = sa->operator_id};
     unmavreth_response response;
     unmavreth_clone_reply reply = unmavreth_gateway_clone(gateway, &request, &response);
     if (reply.number != UNMAVRETH_DONE && reply.length != 0)

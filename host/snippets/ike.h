@@ -6,12 +6,13 @@
 #include <unmavreth_host.h>
 
 struct ike_sa {
-    uint64_t own_spi;   // the SPI that the gateway chose for the IKE SA
-    uint32_t child_spi; // and for its first child SA
-    uint8_t mobike;     // whether both ends sent MOBIKE_SUPPORTED
-    uint8_t cloning;    // whether both ends sent CLONE_IKE_SA_SUPPORTED
-    uint32_t client;    // the number that the host has for whom IKE_AUTH authenticated
-    uint32_t next_id;   // the message ID of the next request of ours
+    uint64_t own_spi;    // the SPI that the gateway chose for the IKE SA
+    uint32_t child_spi;  // and for its first child SA
+    uint8_t mobike;      // whether both ends sent MOBIKE_SUPPORTED
+    uint8_t cloning;     // whether both ends sent CLONE_IKE_SA_SUPPORTED
+    uint8_t operator_id; // of those who share the gateway, whose client IKE_AUTH authenticated
+    uint32_t client;     // the number that the host has for this client
+    uint32_t next_id;    // the message ID of the next request of ours
     const struct sockaddr *peer, *own;
 };
 

@@ -18,10 +18,11 @@ uint8_t mobike_rekey(unmavreth_gateway *gateway, uint64_t old_spi, uint64_t new_
     if (count == 0)
         return UNMAVRETH_NO_SUCH_RECORD; // an IKE record is opened with an IPsec record
     unmavreth_opening opening = {.spi = new_spi, .agreed = record->agreed, .pair = record->pair, .child = children[0]};
-    uint8_t number = unmavreth_gateway_close_ike(gateway, old_spi);
+    const uint8_t operator_id = record->agreed.operator_id;
+    uint8_t number = unmavreth_gateway_close_ike(gateway, old_spi, operator_id);
     if (number == UNMAVRETH_DONE)
         number = unmavreth_gateway_open(gateway, &opening);
     for (size_t i = 1; i < count && number == UNMAVRETH_DONE; i++)
-        number = unmavreth_gateway_open_ipsec(gateway, children[i], new_spi);
+        number = unmavreth_gateway_open_ipsec(gateway, children[i], new_spi, operator_id);
     return number;
 }

@@ -13,6 +13,7 @@
 #define NEW_SPI UINT64_C(0x0a11ce0000000002)
 #define CLONE_SPI UINT64_C(0x0a11ce0000000009)
 enum { CHILD = 70, CHILD_2 = 71, CHILD_3 = 72, PORT = 4500, COOKIE_AT = 16, COOKIE_OCTETS = 8 };
+enum { OURS = UNMAVRETH_OPERATOR_B }; // whose SAs these are
 
 // An update with a cookie.
 static const uint8_t update[] = {41, 0, 0, 8,  0, 0, 0x40, 0x10, 0, 0, 0, 16,
@@ -99,16 +100,16 @@ static void try_closed(const struct ike_sa *sa, const struct ike_request *came)
     HOLDS(unmavreth_find_ike(&gateway, SPI) == NULL && unmavreth_find_ipsec(&gateway, CHILD) == NULL);
 }
 
-// README's snippet: a record is opened, and an update from an IPv4-mapped address is refused without a rule, applied
-// with one, answered and checked; last, another cookie comes back, and the SA is closed.
+// README's snippet: a record is opened, and an update from an IPv4-mapped address is refused without a rule and with
+// the other operator's, applied with one, answered and checked; last, another cookie comes back, and the SA is closed.
 static void try_update(void)
 {
     const struct sockaddr_storage old = socket_address(AF_INET, "203.0.113.5", PORT);
     const struct sockaddr_storage own = socket_address(AF_INET, "192.0.2.1", PORT);
     const struct sockaddr_storage from = socket_address(AF_INET6, "::ffff:198.51.100.7", PORT);
     const struct sockaddr_storage to = socket_address(AF_INET6, "::ffff:192.0.2.1", PORT);
-    const struct ike_sa sa = {.own_spi = SPI, .child_spi = CHILD, .mobike = 1, .cloning = 1, .client = 5,
-                              .next_id = 30, .peer = (const struct sockaddr *)&old,
+    const struct ike_sa sa = {.own_spi = SPI, .child_spi = CHILD, .mobike = 1, .cloning = 1, .operator_id = OURS,
+                              .client = 5, .next_id = 30, .peer = (const struct sockaddr *)&old,
                               .own = (const struct sockaddr *)&own};
     struct ike_request came = {.id = 4, .from = (const struct sockaddr *)&from, .to = (const struct sockaddr *)&to,
                                .nat_source = {{0}}, .nat_destination = {{0}}, .first = 41, .payloads = update,
@@ -119,10 +120,13 @@ static void try_update(void)
     HOLDS(seen.first == 41 && seen.octets == 8 + COOKIE_AT && seen.payloads[7] == UNMAVRETH_UNACCEPTABLE_ADDRESSES);
     const unmavreth_rule rule = {.family = 4, .source = {198, 51, 100}, .destination = {192, 0, 2, 1},
                                  .source_len = 24, .destination_len = 32};
-    HOLDS(unmavreth_gateway_set_policy(&gateway, &rule, 1) == UNMAVRETH_DONE);
+    HOLDS(unmavreth_gateway_set_policy(&gateway, &rule, 1, UNMAVRETH_OPERATOR_A) == UNMAVRETH_DONE);
     came.id = 5;
+    HOLDS(mobike_request(&sa, &came) == UNMAVRETH_NOT_ACCEPTABLE && seen.asks == 0); // that rule is the other's
+    HOLDS(unmavreth_gateway_set_policy(&gateway, &rule, 1, OURS) == UNMAVRETH_DONE);
+    came.id = 6;
     HOLDS(mobike_request(&sa, &came) == UNMAVRETH_DONE);
-    HOLDS(seen.id == 5 && seen.first == 41 && seen.octets == COOKIE_AT);
+    HOLDS(seen.id == 6 && seen.first == 41 && seen.octets == COOKIE_AT);
     HOLDS(memcmp(seen.payloads + 8, update + COOKIE_AT, COOKIE_OCTETS) == 0);
     const unmavreth_pair now = unmavreth_pair_of(came.from, came.to);
     const unmavreth_pair before = unmavreth_pair_of(sa.peer, sa.own);
@@ -133,7 +137,7 @@ static void try_update(void)
     came.octets = UNMAVRETH_BODY_MOST + 1; // answered 3, before anything of the body is looked at
     HOLDS(mobike_request(&sa, &came) == UNMAVRETH_BODY_TOO_LONG && seen.first == 0 && seen.octets == 0);
     came.octets = sizeof update;
-    came.id = 6;
+    came.id = 7;
     try_closed(&sa, &came);
     HOLDS(mobike_open(&sa) == UNMAVRETH_DONE);
 }
@@ -144,19 +148,19 @@ static void try_moved(void)
     const unmavreth_pair was = unmavreth_find_ike(&gateway, SPI)->pair;
     unmavreth_request request = {.spi = SPI, .id = 6, .pair = was, .nat_source = {{0}}, .nat_destination = {{0}},
                                  .first = 41, .body = {update, sizeof update}, .cookie = {cookie, sizeof cookie},
-                                 .check_id = 31};
+                                 .check_id = 31, .operator_id = OURS};
     unmavreth_response response;
     unmavreth_message check;
     static const uint8_t there[UNMAVRETH_IP4_OCTETS] = {198, 51, 100, 9};
     memcpy(request.pair.source, there, sizeof there);
-    HOLDS(unmavreth_gateway_open_ipsec(&gateway, CHILD_2, SPI) == UNMAVRETH_DONE);
-    const unmavreth_opening other = {.spi = NEW_SPI + 1, .agreed = {.mobike = 1}, .pair = was, .child = CHILD_3};
+    HOLDS(unmavreth_gateway_open_ipsec(&gateway, CHILD_2, SPI, OURS) == UNMAVRETH_DONE);
+    const unmavreth_opening other = {.spi = NEW_SPI + 1, .agreed = {.mobike = 1}, .pair = was, .child = CHILD_3}; // A's
     HOLDS(unmavreth_gateway_open(&gateway, &other) == UNMAVRETH_DONE);
     const unmavreth_reply reply = unmavreth_gateway_handle(&gateway, &request, &response);
     HOLDS(reply.update == UNMAVRETH_UPDATE_APPLIED);
     const unmavreth_written written = unmavreth_write_check(&reply, &request, &check);
     const unmavreth_check_response copied = {.spi = SPI, .id = 31, .first = written.first,
-                                             .body = {check.octets, written.length}};
+                                             .body = {check.octets, written.length}, .operator_id = OURS};
     HOLDS(mobike_move(&gateway, &copied).outcome == UNMAVRETH_OUTCOME_ACCEPTED);
     HOLDS(seen.moves == 2 && unmavreth_same_pair(&seen.was, &was) && unmavreth_same_pair(&seen.is, &request.pair));
     HOLDS(mobike_move(&gateway, &copied).number == UNMAVRETH_CHECK_NOT_PENDING && seen.moves == 2);
@@ -184,25 +188,26 @@ static void try_auth_list(void)
 static void try_clone(void)
 {
     static const uint8_t rekey[] = {33, 0, 0, 8, 0, 0, 0x40, 0x31, 0, 0, 0, 4};
-    const struct ike_sa sa = {.own_spi = SPI, .child_spi = CHILD, .mobike = 1, .cloning = 1, .client = 5,
-                              .next_id = 32, .peer = NULL, .own = NULL};
-    struct ike_request came = {.id = 7, .from = NULL, .to = NULL, .nat_source = {{0}}, .nat_destination = {{0}},
+    const struct ike_sa sa = {.own_spi = SPI, .child_spi = CHILD, .mobike = 1, .cloning = 1, .operator_id = OURS,
+                              .client = 5, .next_id = 32, .peer = NULL, .own = NULL};
+    struct ike_request came = {.id = 70, .from = NULL, .to = NULL, .nat_source = {{0}}, .nat_destination = {{0}},
                                .first = 41, .payloads = rekey, .octets = sizeof rekey, .fresh = {0}};
     const unmavreth_ike was = *unmavreth_find_ike(&gateway, SPI);
     HOLDS(mobike_clone(&gateway, &sa, &came, SPI) == UNMAVRETH_SPI_IN_USE);
-    HOLDS(mobike_clone(&gateway, &sa, &came, CLONE_SPI) == UNMAVRETH_DONE && seen.id != 7);
+    HOLDS(mobike_clone(&gateway, &sa, &came, CLONE_SPI) == UNMAVRETH_DONE && seen.id != 70);
     const unmavreth_ike *is = unmavreth_find_ike(&gateway, CLONE_SPI);
     HOLDS(is != NULL && is->agreed.cloning == 1 && is->agreed.peer == 5 && unmavreth_same_pair(&is->pair, &was.pair));
-    HOLDS(is->list_mark == 0 && unmavreth_peer_records(&gateway, 5) == 2);
+    HOLDS(is->agreed.operator_id == OURS && unmavreth_operator_ike_records(&gateway, OURS) == 2);
+    HOLDS(is->list_mark == 0 && unmavreth_peer_records(&gateway, 5, OURS) == 2);
     came.first = 33;
     came.payloads = rekey + UNMAVRETH_NOTIFY_HEADER;
     came.octets = sizeof rekey - UNMAVRETH_NOTIFY_HEADER;
-    HOLDS(mobike_clone(&gateway, &sa, &came, CLONE_SPI + 1) == UNMAVRETH_NO_CLONE_REQUEST && seen.id != 7);
+    HOLDS(mobike_clone(&gateway, &sa, &came, CLONE_SPI + 1) == UNMAVRETH_NO_CLONE_REQUEST && seen.id != 70);
     came.first = 41;
     came.payloads = rekey;
     came.octets = sizeof rekey;
-    HOLDS(unmavreth_gateway_mark_deletion(&gateway, SPI) == UNMAVRETH_DONE);
-    HOLDS(mobike_clone(&gateway, &sa, &came, CLONE_SPI + 1) == UNMAVRETH_CANNOT_CLONE_NOW && seen.id == 7);
+    HOLDS(unmavreth_gateway_mark_deletion(&gateway, SPI, OURS) == UNMAVRETH_DONE);
+    HOLDS(mobike_clone(&gateway, &sa, &came, CLONE_SPI + 1) == UNMAVRETH_CANNOT_CLONE_NOW && seen.id == 70);
     HOLDS(seen.first == 41 && seen.octets == 8 && seen.payloads[7] == UNMAVRETH_TEMPORARY_FAILURE);
 }
 
@@ -217,6 +222,7 @@ static void try_rekey(void)
     const unmavreth_ike *is = unmavreth_find_ike(&gateway, NEW_SPI);
     HOLDS(is != NULL && is->agreed.mobike == was.agreed.mobike && unmavreth_same_pair(&is->pair, &was.pair));
     HOLDS(is->agreed.cloning == was.agreed.cloning && is->agreed.peer == was.agreed.peer && is->deleting == 0);
+    HOLDS(is->agreed.operator_id == OURS);
     HOLDS(is->update_mark == 0 && is->list_mark == 0 && is->count == 0);
     for (uint32_t child = CHILD; child <= CHILD_2; child++) {
         const unmavreth_ipsec *of = unmavreth_find_ipsec(&gateway, child);

@@ -8,12 +8,14 @@ pub struct Agreed {
     pub mobike: u8,
     /// That the IKE SA may be cloned.
     pub cloning: u8,
+    /// Whose the record is: 0 or 1; in tables not reached from empty ones any octet, and one above 1 is neither's.
+    pub operator: u8,
     /// The peer's number, any.
     pub peer: u32,
 }
 
 impl Agreed {
-    pub const NOTHING: Agreed = Agreed { mobike: 0, cloning: 0, peer: 0 };
+    pub const NOTHING: Agreed = Agreed { mobike: 0, cloning: 0, operator: 0, peer: 0 };
 }
 
 #[cfg(test)]

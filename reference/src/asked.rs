@@ -28,6 +28,21 @@ impl Asked {
         }
     }
 
+    pub fn operator(&self) -> u8 {
+        match self {
+            Asked::Request(request) => request.operator,
+            Asked::Check(response) => response.operator,
+        }
+    }
+
+    /// The same, to be changed.
+    pub fn operator_mut(&mut self) -> &mut u8 {
+        match self {
+            Asked::Request(request) => &mut request.operator,
+            Asked::Check(response) => &mut response.operator,
+        }
+    }
+
     pub fn request(&self) -> Option<&Request> {
         match self {
             Asked::Request(request) => Some(request),
@@ -58,6 +73,13 @@ impl Asked {
 }
 
 impl Given<'_> {
+    pub fn number(&self) -> u8 {
+        match self {
+            Given::Handled(handled) => handled.reply.number,
+            Given::Assessed(assessed) => assessed.number,
+        }
+    }
+
     /// Whether another call gave the same answer, a cookie by its octets.
     pub fn same_answer(&self, other: &Given) -> bool {
         match (self, other) {

@@ -2,7 +2,7 @@
 use crate::address::AddressPair;
 use crate::closing::{close_ike, close_ipsec};
 use crate::deleting::mark_deletion;
-use crate::opening::open_ipsec;
+use crate::opening::{open_ipsec, Adding};
 use crate::opening_both::{open_both, Opening};
 use crate::policy::{set, RuleList};
 use crate::rules::{PolicyRules, Rules};
@@ -13,26 +13,29 @@ pub enum Call {
     /// Of an IKE record and its first IPsec record.
     OpenBoth(Opening),
     /// Of another one.
-    OpenIpsec {
-        spi: u32,
-        owner: u64,
-    },
+    OpenIpsec(Adding),
     CloseIke {
         spi: u64,
+        operator: u8,
     },
     CloseIpsec {
         spi: u32,
+        operator: u8,
     },
     /// Of an IKE record that is being deleted.
     MarkDeletion {
         spi: u64,
+        operator: u8,
     },
     SetPolicy {
         count: u16,
         rules: Box<RuleList>,
+        operator: u8,
     },
+    /// By the policy of A or of B.
     Acceptable {
         pair: AddressPair,
+        operator: u8,
     },
 }
 
@@ -51,6 +54,7 @@ pub enum Refusal {
     CloningNotAgreed = 40,
     CannotCloneNow = 41,
     PeerAtLimit = 42,
+    OperatorAtShare = 43,
     NoCloneRequest = 44,
 }
 
@@ -73,18 +77,49 @@ pub fn refuse_if(refused: bool, refusal: Refusal) -> Result<(), Refusal> {
 }
 
 impl Call {
+    /// The operator that it names.
+    pub fn operator(&self) -> u8 {
+        match self {
+            Call::OpenBoth(opening) => opening.agreed.operator,
+            Call::OpenIpsec(adding) => adding.operator,
+            Call::CloseIke { operator, .. }
+            | Call::CloseIpsec { operator, .. }
+            | Call::MarkDeletion { operator, .. }
+            | Call::SetPolicy { operator, .. }
+            | Call::Acceptable { operator, .. } => *operator,
+        }
+    }
+
+    /// The same, to be changed.
+    pub fn operator_mut(&mut self) -> &mut u8 {
+        match self {
+            Call::OpenBoth(opening) => &mut opening.agreed.operator,
+            Call::OpenIpsec(adding) => &mut adding.operator,
+            Call::CloseIke { operator, .. }
+            | Call::CloseIpsec { operator, .. }
+            | Call::MarkDeletion { operator, .. }
+            | Call::SetPolicy { operator, .. }
+            | Call::Acceptable { operator, .. } => operator,
+        }
+    }
+
     /// Makes the call on the tables; its number, or for `Acceptable` 1 if the pair is, else 0.
     pub fn make(&self, tables: &mut Tables, rules: &impl Rules) -> u8 {
         let (of_tables, of_policy) = (rules.tables(), rules.policy());
         let result = match self {
             Call::OpenBoth(opening) => open_both(tables, opening, of_tables),
-            Call::OpenIpsec { spi, owner } => open_ipsec(tables, *spi, *owner, of_tables),
-            Call::CloseIke { spi } => close_ike(tables, *spi, of_tables),
-            Call::CloseIpsec { spi } => close_ipsec(tables, *spi, of_tables),
-            Call::MarkDeletion { spi } => mark_deletion(tables, *spi, of_tables),
-            Call::SetPolicy { count, rules } => set(&mut tables.policy, *count, rules, of_policy),
-            Call::Acceptable { pair } => {
-                return u8::from(of_policy.asked(&mut tables.policy, pair));
+            Call::OpenIpsec(adding) => open_ipsec(tables, adding, of_tables),
+            Call::CloseIke { spi, operator } => close_ike(tables, *spi, *operator, of_tables),
+            Call::CloseIpsec { spi, operator } => close_ipsec(tables, *spi, *operator, of_tables),
+            Call::MarkDeletion { spi, operator } => {
+                mark_deletion(tables, *spi, *operator, of_tables)
+            }
+            Call::SetPolicy { count, rules: list, operator } => {
+                set(&mut tables.policies, (*count, list), *operator, rules)
+            }
+            Call::Acceptable { pair, operator } => {
+                let policy = &mut tables.policies[usize::from(*operator)];
+                return u8::from(of_policy.asked(policy, pair));
             }
         };
         result.map_or_else(|refusal| refusal as u8, |()| 0)

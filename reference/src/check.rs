@@ -3,7 +3,7 @@ use crate::assess::{assess, Assessed, Verdict};
 use crate::calls::{refuse_if, Refusal, User};
 use crate::closing;
 use crate::rules::{ChainRules, CheckRules, Rules, TableRules};
-use crate::tables::{find, Record, Tables};
+use crate::tables::{Record, Tables};
 
 #[derive(Debug, Clone, PartialEq, Eq)]
 pub struct CheckResponse {
@@ -12,6 +12,7 @@ pub struct CheckResponse {
     pub id: u32,
     pub first: u8,
     pub body: Vec<u8>,
+    pub operator: u8,
 }
 
 #[derive(Debug, Clone, Copy, PartialEq, Eq)]
@@ -20,6 +21,8 @@ pub enum Check {
     Spi,
     /// 1, of the IPsec list.
     List,
+    /// 1, of the operator.
+    Operator,
     /// 3.
     Body,
     /// 4.
@@ -46,7 +49,8 @@ pub fn decide<'a>(
     tables: &mut Tables,
     rules: &impl Rules,
 ) -> Assessed<'a> {
-    let place = find(&tables.ike.records, response.spi, rules.tables());
+    let named = rules.tables().named(response.operator);
+    let place = rules.tables().meant_of(&tables.ike.records, response.spi, named);
     let order = rules.checks().order().iter();
     let failed = order.copied().find_map(|check| {
         response.refusal(check, place, tables, rules).map(|refused| (check, refused))
@@ -99,6 +103,9 @@ impl CheckResponse {
             Check::List => {
                 let allowed = rules.tables().allows_list(User::CheckResponse, list);
                 refuse_if(!allowed, Refusal::Argument)
+            }
+            Check::Operator => {
+                refuse_if(rules.tables().named(self.operator).is_none(), Refusal::Argument)
             }
             Check::Body => {
                 refuse_if(self.body.len() > rules.chain().longest_body(), Refusal::BodyTooLong)
@@ -180,7 +187,7 @@ mod tests {
             body.extend_from_slice(data);
         }
         let first = if body.is_empty() { 0 } else { 41 };
-        CheckResponse { spi: 7, id: 3, first, body }
+        CheckResponse { spi: 7, id: 3, first, body, operator: 0 }
     }
 
     fn decided(response: &CheckResponse, tables: &mut Tables) -> (u8, u8) {
@@ -239,6 +246,8 @@ mod tests {
         let refused = [
             (tables(), with(0, 4, &long), 1),
             (short, with(9, 4, &long), 1),
+            (tables(), CheckResponse { operator: 2, ..with(9, 4, &long) }, 1),
+            (tables(), CheckResponse { operator: 1, ..right.clone() }, 4),
             (tables(), with(9, 4, &long), 3),
             (tables(), with(9, 4, &flawed), 4),
             (disagreed, with(7, 4, &flawed), 5),

@@ -8,7 +8,7 @@ use crate::reply::written_and_rest;
 use crate::rules::{ChainRules, CloneRules, Rules, TableRules};
 use crate::show;
 use crate::summary::Summary;
-use crate::tables::{find, free_place, Record, Tables, IKE_PLACES};
+use crate::tables::{free_place, Record, Tables, IKE_PLACES};
 
 /// A CREATE_CHILD_SA request given as an IKE rekey.
 #[derive(Debug, Clone, PartialEq, Eq)]
@@ -18,6 +18,7 @@ pub struct CloneRequest {
     pub new_spi: u64,
     pub first: u8,
     pub body: Vec<u8>,
+    pub operator: u8,
     /// What the output holds before the call.
     pub output: Vec<u8>,
 }
@@ -28,6 +29,8 @@ pub enum Check {
     Spi,
     /// 1, of the new one.
     NewSpi,
+    /// 1, of the operator.
+    Operator,
     /// 2.
     Output,
     /// 3.
@@ -48,6 +51,8 @@ pub enum Check {
     Peer,
     /// 11.
     InUse,
+    /// 43.
+    Share,
 }
 
 /// What a request comes to.
@@ -107,7 +112,8 @@ impl Cloned {
 /// Clones the IKE SA, or refuses to; the IPsec list isn't looked at.
 pub fn clone(request: &CloneRequest, tables: &mut Tables, rules: &impl Rules) -> Cloned {
     let of_clones = rules.clones();
-    let meant = find(&tables.ike.records, request.spi, rules.tables());
+    let named = rules.tables().named(request.operator);
+    let meant = rules.tables().meant_of(&tables.ike.records, request.spi, named);
     let (answer, summary) = request.check(meant, tables, rules);
     let original = meant.map(|place| tables.ike.records[place]);
     if let (Some(place), Some(original)) = (meant, original) {
@@ -172,11 +178,13 @@ impl CloneRequest {
     ) -> Result<(), Refusal> {
         let of_clones = rules.clones();
         let records = &tables.ike.records;
+        let named = rules.tables().named(self.operator);
         let original = meant.map(|place| &records[place]);
         let is_agreed = original.is_some_and(|it| rules.tables().is_yes(of_clones.agreement(it)));
         match check {
             Check::Spi => refuse_if(self.spi == 0, Refusal::Argument),
             Check::NewSpi => refuse_if(self.new_spi == 0, Refusal::Argument),
+            Check::Operator => refuse_if(named.is_none(), Refusal::Argument),
             Check::Output => {
                 refuse_if(self.output.len() < of_clones.least_output(), Refusal::OutputTooShort)
             }
@@ -209,9 +217,12 @@ impl CloneRequest {
             }
             Check::InUse => {
                 let mut in_use = records.iter().filter(|record| record.is_in_use());
-                let spi = original.map(|it| it.spi);
-                let is_in_use = in_use.any(|it| of_clones.is_in_use(spi, self.new_spi, it.spi));
+                let is_in_use = in_use.any(|it| of_clones.is_in_use(original, self.new_spi, it));
                 refuse_if(is_in_use, Refusal::SpiInUse)
+            }
+            Check::Share => {
+                let is_at_share = rules.tables().ikes(records, named) >= rules.tables().ike_share();
+                refuse_if(is_at_share, Refusal::OperatorAtShare)
             }
         }
     }
@@ -221,6 +232,7 @@ impl CloneRequest {
         let fields = [
             ("SPI", self.spi.to_string()),
             ("new SPI", self.new_spi.to_string()),
+            ("operator", self.operator.to_string()),
             ("first type", self.first.to_string()),
             ("body length", self.body.len().to_string()),
             ("body", show::hex(&self.body)),
@@ -241,7 +253,7 @@ mod tests {
     use crate::tables::{IkeRecord, IpsecRecord};
 
     const PAIR: AddressPair = AddressPair { family: 5, source_port: 1, ..AddressPair::ZERO };
-    const AGREED: Agreed = Agreed { mobike: 3, cloning: 2, peer: 9 };
+    const AGREED: Agreed = Agreed { mobike: 3, cloning: 2, operator: 0, peer: 9 };
     const CLONE: [u8; 4] = [0, 0, 0x40, 0x31];
     const SUPPORTED: [u8; 4] = [0, 0, 0x40, 0x30];
 
@@ -302,7 +314,7 @@ mod tests {
         }
         body.extend([0, 0, 0, 4]);
         let first = if notifications.is_empty() { 200 } else { 41 };
-        CloneRequest { spi: 7, new_spi: 8, first, body, output: vec![0xff; 128] }
+        CloneRequest { spi: 7, new_spi: 8, first, body, operator: 0, output: vec![0xff; 128] }
     }
 
     /// The number, the count of payloads and the response; the rest of the output is as it was.
@@ -374,6 +386,48 @@ mod tests {
             let before = tables.clone();
             assert_eq!(made(&mut tables, &request), (number, payloads, response));
             assert_eq!(tables, before);
+        }
+    }
+
+    #[test]
+    fn a_share_and_a_peer_are_those_of_one_operator() {
+        let asked = request(&[&CLONE]);
+        // Of so many records of A and of B, which have the peer or haven't.
+        let of_both = |of_a: usize, of_b: usize, peer: u32| {
+            let mut tables = tables();
+            for place in 2..=of_a + of_b {
+                let operator = u8::from(place > of_a);
+                let agreed = Agreed { operator, peer, ..Agreed::NOTHING };
+                let spi = 100 + place as u64;
+                tables.ike_mut()[place] = IkeRecord { spi, agreed, ..IkeRecord::FREE };
+            }
+            tables
+        };
+        let cases = [
+            (of_both(19, 12, 8), 8, 0),
+            (of_both(20, 11, 8), 8, 43),
+            (of_both(21, 0, 8), 8, 43),
+            (of_both(20, 11, 8), 7, 11),
+            (of_both(20, 11, 8), 122, 11),
+            (of_both(20, 11, 9), 8, 42),
+            (of_both(3, 20, 9), 8, 0),
+            (of_both(3, 20, 9), 104, 11),
+        ];
+        for (mut tables, new_spi, number) in cases {
+            let before = tables.clone();
+            let asked = CloneRequest { new_spi, ..asked.clone() };
+            let response = match number {
+                0 => vec![0, 0, 0, 8, 0, 0, 0x40, 0x31],
+                42 | 43 => notify(35),
+                _ => vec![],
+            };
+            let of_other = CloneRequest { operator: 1, ..asked.clone() };
+            assert_eq!(made(&mut tables, &of_other), (4, 0, vec![]));
+            let of_none = CloneRequest { operator: 2, ..asked.clone() };
+            assert_eq!(made(&mut tables, &of_none), (1, 0, vec![]));
+            assert_eq!(tables, before);
+            assert_eq!(made(&mut tables, &asked), (number, 2, response));
+            assert_eq!(tables == before, number != 0);
         }
     }
 

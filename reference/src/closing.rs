@@ -1,21 +1,24 @@
 // Closing records: a place is set free, and with an IKE record those of the IPsec records it owns.
 use crate::calls::{refuse_if, Refusal, User};
 use crate::rules::TableRules;
-use crate::tables::{self, find, IpsecRecord, Record, Tables};
+use crate::tables::{IpsecRecord, Record, Tables};
 
 #[derive(Debug, Clone, Copy, PartialEq, Eq)]
 pub enum Check {
     Spi0,
     List,
+    Operator,
     Record,
 }
 
 pub fn close_ike(
     tables: &mut Tables,
     spi: u64,
+    operator: u8,
     rules: &(impl TableRules + ?Sized),
 ) -> Result<(), Refusal> {
-    let place = place_of(&tables.ike.records, spi, tables, rules)?;
+    let place = rules.meant_of(&tables.ike.records, spi, rules.named(operator));
+    let place = checked(place, spi, operator, tables, rules)?;
     close_place(tables, place, |owned| owned, rules);
     Ok(())
 }
@@ -39,21 +42,23 @@ pub fn close_place(
 pub fn close_ipsec(
     tables: &mut Tables,
     spi: u32,
+    operator: u8,
     rules: &(impl TableRules + ?Sized),
 ) -> Result<(), Refusal> {
-    let place = place_of(&tables.ipsec.records, u64::from(spi), tables, rules)?;
+    let place = rules.closable(tables, spi, rules.named(operator));
+    let place = checked(place, u64::from(spi), operator, tables, rules)?;
     tables.ipsec_mut()[place] = IpsecRecord::FREE;
     Ok(())
 }
 
-/// The place that the SPI means, unless a check fails.
-fn place_of<R: tables::Record>(
-    records: &[R],
+/// The place that is meant, unless a check fails.
+fn checked(
+    place: Option<usize>,
     spi: u64,
+    operator: u8,
     tables: &Tables,
     rules: &(impl TableRules + ?Sized),
 ) -> Result<usize, Refusal> {
-    let place = find(records, spi, rules).ok_or(Refusal::NoSuchRecord);
     for check in rules.order_of_closing() {
         match check {
             Check::Spi0 => refuse_if(spi == 0, Refusal::Argument)?,
@@ -61,10 +66,11 @@ fn place_of<R: tables::Record>(
                 let allowed = rules.allows_list(User::Closing, tables.ipsec.records.len());
                 refuse_if(!allowed, Refusal::Argument)?;
             }
-            Check::Record => refuse_if(place.is_err(), Refusal::NoSuchRecord)?,
+            Check::Operator => refuse_if(rules.named(operator).is_none(), Refusal::Argument)?,
+            Check::Record => refuse_if(place.is_none(), Refusal::NoSuchRecord)?,
         }
     }
-    place
+    place.ok_or(Refusal::NoSuchRecord)
 }
 
 #[cfg(test)]
@@ -96,7 +102,7 @@ mod tests {
     #[test]
     fn an_ike_record_closes_with_those_it_owns_and_no_others() {
         let mut tables = tables(&[6, 7], &[(1, 7), (2, 6), (0, 7), (1, 7), (3, (1 << 32) + 7)]);
-        assert_eq!(close_ike(&mut tables, 7, &Plain), Ok(()));
+        assert_eq!(close_ike(&mut tables, 7, 0, &Plain), Ok(()));
         assert_eq!(tables.ike.records[1], IkeRecord::FREE);
         assert_eq!(tables.ike.records[0].spi, 6);
         let left = [(0, 0), (2, 6), (0, 7), (0, 0), (3, (1 << 32) + 7)];
@@ -107,19 +113,51 @@ mod tests {
     #[test]
     fn a_twin_stays_but_not_the_ipsec_records() {
         let mut tables = tables(&[0, 7, 7], &[(1, 7)]);
-        assert_eq!(close_ike(&mut tables, 7, &Plain), Ok(()));
+        assert_eq!(close_ike(&mut tables, 7, 0, &Plain), Ok(()));
         assert_eq!(tables.ike.records.map(|record| record.spi)[..3], [0, 0, 7]);
         assert_eq!(tables.ike.records[0].unknown, 5);
         assert_eq!(ipsec(&tables, 1), [(0, 0)]);
-        assert_eq!(close_ike(&mut tables, 7, &Plain), Ok(()));
-        assert_eq!(close_ike(&mut tables, 7, &Plain), Err(Refusal::NoSuchRecord));
+        assert_eq!(close_ike(&mut tables, 7, 0, &Plain), Ok(()));
+        assert_eq!(close_ike(&mut tables, 7, 0, &Plain), Err(Refusal::NoSuchRecord));
     }
 
     #[test]
-    fn the_lowest_ipsec_twin_closes_and_orphans_do() {
-        let mut tables = tables(&[], &[(0, 7), (1, 7), (1, 8)]);
-        assert_eq!(close_ipsec(&mut tables, 1, &Plain), Ok(()));
+    fn the_lowest_ipsec_twin_closes_and_orphans_do_not() {
+        let mut tables = tables(&[7], &[(0, 7), (1, 7), (1, 8)]);
+        assert_eq!(close_ipsec(&mut tables, 1, 0, &Plain), Ok(()));
         assert_eq!(ipsec(&tables, 3), [(0, 7), (0, 0), (1, 8)]);
+        for operator in [0, 1] {
+            let refused = Err(Refusal::NoSuchRecord);
+            assert_eq!(close_ipsec(&mut tables, 1, operator, &Plain), refused);
+        }
+    }
+
+    #[test]
+    fn the_lowest_place_is_meant_whosever_it_is() {
+        for [low, high] in [[0, 1], [1, 0], [0, 2], [2, 0], [2, 3]] {
+            let mut tables = tables(&[6, 7, 7], &[(1, 7)]);
+            tables.ike_mut()[1].agreed.operator = low;
+            tables.ike_mut()[2].agreed.operator = high;
+            let before = tables.clone();
+            for operator in [0, 1] {
+                let refused = Err(Refusal::NoSuchRecord);
+                if operator != low {
+                    assert_eq!(close_ike(&mut tables, 7, operator, &Plain), refused);
+                    assert_eq!(close_ipsec(&mut tables, 1, operator, &Plain), refused);
+                }
+            }
+            for operator in [2, 3, 255] {
+                let refused = Err(Refusal::Argument);
+                assert_eq!(close_ike(&mut tables, 7, operator, &Plain), refused);
+                assert_eq!(close_ipsec(&mut tables, 1, operator, &Plain), refused);
+            }
+            assert_eq!(tables, before);
+            if low < 2 {
+                assert_eq!(close_ipsec(&mut tables, 1, low, &Plain), Ok(()));
+                assert_eq!(close_ike(&mut tables, 7, low, &Plain), Ok(()));
+                assert_eq!(tables.ike.records[2].spi, 7);
+            }
+        }
     }
 
     #[test]
@@ -129,8 +167,8 @@ mod tests {
             let before = tables.clone();
             for spi in [0, 1, 7] {
                 let refused = Err(Refusal::Argument);
-                assert_eq!(close_ike(&mut tables, u64::from(spi), &Plain), refused);
-                assert_eq!(close_ipsec(&mut tables, spi, &Plain), refused);
+                assert_eq!(close_ike(&mut tables, u64::from(spi), 0, &Plain), refused);
+                assert_eq!(close_ipsec(&mut tables, spi, 0, &Plain), refused);
             }
             assert_eq!(tables, before);
         }
@@ -140,9 +178,9 @@ mod tests {
     fn an_spi_of_0_is_refused_though_places_are_free() {
         let mut tables = tables(&[0], &[(0, 7)]);
         let before = tables.clone();
-        assert_eq!(close_ike(&mut tables, 0, &Plain), Err(Refusal::Argument));
-        assert_eq!(close_ipsec(&mut tables, 0, &Plain), Err(Refusal::Argument));
-        assert_eq!(close_ike(&mut tables, 7, &Plain), Err(Refusal::NoSuchRecord));
+        assert_eq!(close_ike(&mut tables, 0, 0, &Plain), Err(Refusal::Argument));
+        assert_eq!(close_ipsec(&mut tables, 0, 0, &Plain), Err(Refusal::Argument));
+        assert_eq!(close_ike(&mut tables, 7, 0, &Plain), Err(Refusal::NoSuchRecord));
         assert_eq!(tables, before);
     }
 }

@@ -6,18 +6,22 @@ use crate::tables::Tables;
 #[derive(Debug, Clone, Copy, PartialEq, Eq)]
 pub enum Check {
     Spi0,
+    Operator,
     Record,
 }
 
 pub fn mark_deletion(
     tables: &mut Tables,
     spi: u64,
+    operator: u8,
     rules: &(impl TableRules + ?Sized),
 ) -> Result<(), Refusal> {
-    let place = rules.markable(&tables.ike.records, spi);
+    let named = rules.named(operator);
+    let place = rules.markable(&tables.ike.records, spi, named);
     for check in rules.order_of_marking() {
         match check {
             Check::Spi0 => refuse_if(spi == 0, Refusal::Argument)?,
+            Check::Operator => refuse_if(named.is_none(), Refusal::Argument)?,
             Check::Record => refuse_if(place.is_none(), Refusal::NoSuchRecord)?,
         }
     }
@@ -46,7 +50,7 @@ mod tests {
         for deleting in [0, 1, 2, 255] {
             let (mut marked, mut expected) = (tables(deleting), tables(deleting));
             for _ in 0..2 {
-                assert_eq!(mark_deletion(&mut marked, 7, &Plain), Ok(()));
+                assert_eq!(mark_deletion(&mut marked, 7, 0, &Plain), Ok(()));
                 expected.ike_mut()[1].deleting = 1;
                 assert_eq!(marked, expected);
             }
@@ -56,9 +60,9 @@ mod tests {
     #[test]
     fn refusals_change_nothing() {
         let mut marked = tables(0);
-        assert_eq!(mark_deletion(&mut marked, 0, &Plain), Err(Refusal::Argument));
-        assert_eq!(mark_deletion(&mut marked, 8, &Plain), Err(Refusal::NoSuchRecord));
-        let other = mark_deletion(&mut marked, (1 << 32) + 7, &Plain);
+        assert_eq!(mark_deletion(&mut marked, 0, 0, &Plain), Err(Refusal::Argument));
+        assert_eq!(mark_deletion(&mut marked, 8, 0, &Plain), Err(Refusal::NoSuchRecord));
+        let other = mark_deletion(&mut marked, (1 << 32) + 7, 0, &Plain);
         assert_eq!(other, Err(Refusal::NoSuchRecord));
         assert_eq!(marked, tables(0));
     }
@@ -67,7 +71,7 @@ mod tests {
     fn the_ipsec_list_is_not_looked_at() {
         for length in [0, 127, 129] {
             let mut marked = tables(0).with_ipsec_length(length);
-            assert_eq!(mark_deletion(&mut marked, 7, &Plain), Ok(()));
+            assert_eq!(mark_deletion(&mut marked, 7, 0, &Plain), Ok(()));
         }
     }
 }

@@ -98,8 +98,8 @@ mod tests {
         tables.ike_mut()[0] = IkeRecord { spi: 7, agreed, pair: OLD, ..IkeRecord::FREE };
         tables.ipsec_mut()[0] = IpsecRecord { spi: 1, owner: 7, pair: OLD };
         tables.ipsec_mut()[1] = IpsecRecord { spi: 2, owner: 8, pair: OLD };
-        tables.policy.count = 1;
-        tables.policy.rules[0] = Rule { family: 4, ..Rule::ZERO };
+        tables.policies[0].count = 1;
+        tables.policies[0].rules[0] = Rule { family: 4, ..Rule::ZERO };
         tables
     }
 
@@ -127,6 +127,7 @@ mod tests {
             nat_destination,
             cookie,
             check_id,
+            operator: 0,
             first,
             body,
             output,
@@ -246,6 +247,32 @@ mod tests {
         let flawed = request(1, NEW, &[&UPDATE, &cookie, &UPDATE]);
         let handed_out = handle(&flawed, &mut tables(), &Plain).reply.handed_out;
         assert_eq!(handed_out, Place::default());
+    }
+
+    #[test]
+    fn a_request_is_its_operators_and_is_judged_by_that_ones_policy() {
+        let mut tables = tables();
+        let asked = request(1, NEW, &[&UPDATE]);
+        let before = tables.clone();
+        for (operator, number) in [(1, 4), (2, 1), (255, 1)] {
+            let asked = Request { operator, ..asked.clone() };
+            assert_eq!(made(&mut tables, &asked), (number, 0, 0));
+            assert!(!asked.is_sound(&tables, &Plain));
+        }
+        assert_eq!(tables, before);
+        tables.ike_mut()[0].agreed.operator = 1;
+        let asked = Request { operator: 1, ..asked };
+        assert_eq!(made(&mut tables, &asked), (9, 0, 0));
+        tables.policies[1] = tables.policies[0];
+        tables.policies[0].count = 0;
+        let asked = Request { id: 2, ..asked };
+        assert_eq!(made(&mut tables, &asked), (0, 1, 0));
+        // The lowest place is meant, whosever it is.
+        tables.ike_mut()[1] = tables.ike.records[0];
+        tables.ike_mut()[0].agreed.operator = 0;
+        assert_eq!(made(&mut tables, &asked), (4, 0, 0));
+        tables.ike_mut()[0].agreed.operator = 2;
+        assert_eq!(made(&mut tables, &asked), (4, 0, 0));
     }
 
     fn detection(last: u8) -> Vec<u8> {

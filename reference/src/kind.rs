@@ -10,6 +10,10 @@ pub enum Kind {
     /// Of requests to clone an IKE SA.
     Clones,
     Orders,
+    /// Of two runs, which one operator must not tell apart.
+    Isolation,
+    /// Of what each operator has of the places.
+    Shares,
     Assess,
     Writer,
     RoundTrips,
@@ -21,13 +25,15 @@ pub enum Kind {
 }
 
 impl Kind {
-    pub const ALL: [Kind; 12] = [
+    pub const ALL: [Kind; 14] = [
         Kind::Reader,
         Kind::Tables,
         Kind::Requests,
         Kind::Checks,
         Kind::Clones,
         Kind::Orders,
+        Kind::Isolation,
+        Kind::Shares,
         Kind::Assess,
         Kind::Writer,
         Kind::RoundTrips,
@@ -44,6 +50,8 @@ impl Kind {
             Kind::Checks => "checks",
             Kind::Clones => "clones",
             Kind::Orders => "orders",
+            Kind::Isolation => "isolation",
+            Kind::Shares => "shares",
             Kind::Assess => "responses",
             Kind::Writer => "writer",
             Kind::RoundTrips => "round-trips",

@@ -1,8 +1,9 @@
-// Tables as they are lent to the library: each list is the middle of a longer one, the policy stands
+// Tables as they are lent to the library: each list is the middle of a longer one, the policies stand
 // between rules, and what is around them must stay as it is.
 use crate::address::AddressPair;
 use crate::agreed::Agreed;
 use crate::lent_rules::BetweenRules;
+use crate::operator::OPERATORS;
 use crate::pending::{PendingCheck, MOST_COOKIE};
 use crate::policy::Policy;
 use crate::rules::Plain;
@@ -16,7 +17,7 @@ const AROUND: usize = 2;
 pub const NO_SPI_GIVEN: u32 = 1;
 
 /// What the records around have, so that any change shows.
-const AGREED: Agreed = Agreed { mobike: 0xa5, cloning: 0x5a, peer: 0xa55a_5aa5 };
+const AGREED: Agreed = Agreed { mobike: 0xa5, cloning: 0x5a, operator: 0, peer: 0xa55a_5aa5 };
 const DELETING: u8 = 0xa5;
 const PAIR: AddressPair = AddressPair {
     family: 6,
@@ -55,27 +56,27 @@ impl<R: Record + Copy + PartialEq> Lent<R> {
     }
 }
 
-/// Both tables and the policy, lent for one call.
+/// Both tables and the policies, lent for one call.
 pub struct LentTables {
     ike: Lent<IkeRecord>,
     ipsec: Lent<IpsecRecord>,
-    policy: BetweenRules<Policy>,
+    policies: BetweenRules<[Policy; OPERATORS]>,
 }
 
 impl LentTables {
-    /// The tables, for a call that gives these SPIs of an IKE and of an IPsec record.
-    pub fn new(tables: &Tables, spi: u64, ipsec_spi: u32) -> Self {
-        // Of the peer that the record has, so that it would count for it.
+    /// The tables, for a call that gives these SPIs of an IKE and of an IPsec record and names this operator.
+    pub fn new(tables: &Tables, (spi, ipsec_spi): (u64, u32), operator: u8) -> Self {
+        // Of the peer that the record has and of the operator that is named, so that it would count for both.
         let meant = find(&tables.ike.records, spi, &Plain);
         let peer = meant.map_or(AGREED.peer, |place| tables.ike.records[place].agreed.peer);
-        let agreed = Agreed { peer, ..AGREED };
+        let agreed = Agreed { peer, operator, ..AGREED };
         let ike = IkeRecord { agreed, pair: PAIR, check: CHECK, ..IkeRecord::FREE };
         let ike = IkeRecord { spi, deleting: DELETING, ..ike };
         let ipsec = IpsecRecord { spi: ipsec_spi, owner: spi, pair: PAIR };
         LentTables {
             ike: Lent::new(&tables.ike.records, ike),
             ipsec: Lent::new(&tables.ipsec.records, ipsec),
-            policy: BetweenRules::new(tables.policy),
+            policies: BetweenRules::new(tables.policies),
         }
     }
 
@@ -87,8 +88,9 @@ impl LentTables {
         self.ipsec.list()
     }
 
-    pub fn policy(&mut self) -> *mut Policy {
-        self.policy.start()
+    /// Both, one behind the other.
+    pub fn policies(&mut self) -> *mut [Policy; OPERATORS] {
+        self.policies.start()
     }
 
     /// Puts all as it is now into the tables, what was lent for reading too, so that a change of it
@@ -97,9 +99,9 @@ impl LentTables {
         let records = self.ike().try_into().expect("the table has its places");
         tables.ike = Rc::new(IkeTable { records });
         tables.ipsec = Rc::new(IpsecTable { records: self.ipsec().to_vec() });
-        tables.policy = self.policy.lent();
+        tables.policies = self.policies.lent();
         let kept_records = self.ike.is_kept_around() && self.ipsec.is_kept_around();
-        kept_records && self.policy.is_kept_around()
+        kept_records && self.policies.is_kept_around()
     }
 }
 
@@ -109,7 +111,7 @@ mod tests {
 
     fn lent() -> (Tables, LentTables) {
         let tables = Tables::empty();
-        let lent = LentTables::new(&tables, 7, 9);
+        let lent = LentTables::new(&tables, (7, 9), 1);
         (tables, lent)
     }
 
@@ -118,10 +120,10 @@ mod tests {
         let (mut tables, mut lent) = lent();
         lent.ike()[31].spi = 1;
         lent.ipsec()[127].owner = 2;
-        lent.policy = BetweenRules::new(Policy { count: 3, ..Policy::EMPTY });
+        lent.policies = BetweenRules::new([Policy::EMPTY, Policy { count: 3, ..Policy::EMPTY }]);
         assert!(lent.give_back(&mut tables));
         assert_eq!((tables.ike.records[31].spi, tables.ipsec.records[127].owner), (1, 2));
-        assert_eq!(tables.policy.count, 3);
+        assert_eq!(tables.policies[1].count, 3);
     }
 
     #[test]

@@ -1,5 +1,6 @@
-// A policy, or a list of rules, as it is lent to the library: between rules that are known and must
+// Policies, or a list of rules, as they are lent to the library: between rules that are known and must
 // stay as they are.
+use crate::operator::OPERATORS;
 use crate::policy::{Policy, Rule, RuleList};
 use std::mem::size_of;
 
@@ -20,7 +21,10 @@ pub struct BetweenRules<T> {
 
 // No octet lies between what is lent and the rules around it.
 const RULES_AROUND: usize = 4 * size_of::<Rule>();
-const _: () = assert!(size_of::<BetweenRules<Policy>>() == size_of::<Policy>() + RULES_AROUND);
+const _: () = assert!(
+    size_of::<BetweenRules<[Policy; OPERATORS]>>()
+        == OPERATORS * size_of::<Policy>() + RULES_AROUND
+);
 const _: () = assert!(size_of::<BetweenRules<RuleList>>() == size_of::<RuleList>() + RULES_AROUND);
 
 impl<T: Copy> BetweenRules<T> {

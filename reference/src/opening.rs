@@ -1,27 +1,40 @@
 // Opening another IPsec record of an IKE record: the checks in their order, then the place that is taken.
 use crate::calls::Refusal;
 use crate::rules::TableRules;
-use crate::tables::{find, free_place, Tables};
+use crate::tables::{free_place, Tables};
+
+/// What the call is given.
+#[derive(Debug, Clone, Copy, PartialEq, Eq)]
+pub struct Adding {
+    pub spi: u32,
+    /// The SPI of the IKE record.
+    pub owner: u64,
+    pub operator: u8,
+}
 
 #[derive(Debug, Clone, Copy, PartialEq, Eq)]
 pub enum Check {
     Spi0,
     Owner0,
     List,
+    Operator,
     Owner,
     InUse,
+    Share,
     Full,
 }
 
 pub fn open_ipsec(
     tables: &mut Tables,
-    spi: u32,
-    owner: u64,
+    adding: &Adding,
     rules: &(impl TableRules + ?Sized),
 ) -> Result<(), Refusal> {
+    let Adding { spi, owner, operator } = *adding;
     let mut order = rules.order_of_opening().iter();
-    order.try_for_each(|&check| rules.check_opening(check, tables, (spi, owner)))?;
-    let ike_place = find(&tables.ike.records, owner, rules).ok_or(Refusal::NoSuchRecord)?;
+    order.try_for_each(|&check| rules.check_opening(check, tables, adding))?;
+    let named = rules.named(operator);
+    let ike_place =
+        rules.meant_of(&tables.ike.records, owner, named).ok_or(Refusal::NoSuchRecord)?;
     let place = free_place(&tables.ipsec.records, rules).ok_or(Refusal::AllInUse)?;
     tables.ipsec_mut()[place] = rules.new_ipsec(spi, owner, &tables.ike.records[ike_place]);
     Ok(())
@@ -48,7 +61,7 @@ mod tests {
     }
 
     fn open(tables: &mut Tables, spi: u32, owner: u64) -> Result<(), Refusal> {
-        open_ipsec(tables, spi, owner, &Plain)
+        open_ipsec(tables, &Adding { spi, owner, operator: 0 }, &Plain)
     }
 
     #[test]
@@ -60,14 +73,42 @@ mod tests {
     }
 
     #[test]
-    fn the_owner_comes_before_the_spi_and_the_spi_before_the_room() {
-        let mut tables = tables(&[1]);
-        for spi in 1..=128 {
+    fn the_owner_comes_before_the_spi_then_the_share_and_then_the_room() {
+        let mut tables = tables(&[1, 2]);
+        tables.ike_mut()[1].agreed.operator = 1;
+        let open_for = |tables: &mut Tables, spi, owner, operator| {
+            open_ipsec(tables, &Adding { spi, owner, operator }, &Plain)
+        };
+        for spi in 1..=80 {
             assert_eq!(open(&mut tables, spi, 1), Ok(()));
         }
-        assert_eq!(open(&mut tables, 5, 33), Err(Refusal::NoSuchRecord));
-        assert_eq!(open(&mut tables, 5, 1), Err(Refusal::SpiInUse));
-        assert_eq!(open(&mut tables, 129, 1), Err(Refusal::AllInUse));
+        for (spi, owner, refusal) in [
+            (5, 33, Refusal::NoSuchRecord),
+            (5, 2, Refusal::NoSuchRecord),
+            (5, 1, Refusal::SpiInUse),
+            (129, 1, Refusal::OperatorAtShare),
+        ] {
+            assert_eq!(open(&mut tables, spi, owner), Err(refusal));
+        }
+        for spi in 81..=128 {
+            assert_eq!(open_for(&mut tables, spi, 1, 1), Err(Refusal::NoSuchRecord));
+            assert_eq!(open_for(&mut tables, spi, 2, 1), Ok(()));
+        }
+        assert_eq!(open_for(&mut tables, 129, 2, 1), Err(Refusal::AllInUse));
+        assert_eq!(open_for(&mut tables, 129, 2, 2), Err(Refusal::Argument));
+        assert_eq!(open(&mut tables, 129, 1), Err(Refusal::OperatorAtShare));
+    }
+
+    #[test]
+    fn orphans_count_for_nobody_but_fill_places() {
+        let mut tables = tables(&[1]);
+        for (place, record) in tables.ipsec_mut().iter_mut().enumerate() {
+            *record = IpsecRecord { spi: 1000 + place as u32, owner: 9, pair: IPV4 };
+        }
+        assert_eq!(open(&mut tables, 5, 1), Err(Refusal::AllInUse));
+        tables.ipsec_mut()[7].spi = 0;
+        assert_eq!(open(&mut tables, 1000, 1), Err(Refusal::SpiInUse));
+        assert_eq!(open(&mut tables, 5, 1), Ok(()));
     }
 
     #[test]

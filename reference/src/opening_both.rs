@@ -24,8 +24,11 @@ pub enum Check {
     Pair,
     ChildSpi0,
     List,
+    Operator,
     IkeInUse,
     ChildInUse,
+    IkeShare,
+    ChildShare,
     IkeFull,
     ChildFull,
 }
@@ -68,8 +71,11 @@ pub fn failing(
 impl Check {
     fn refusal(self) -> Refusal {
         match self {
-            Check::IkeSpi0 | Check::Pair | Check::ChildSpi0 | Check::List => Refusal::Argument,
+            Check::IkeSpi0 | Check::Pair | Check::ChildSpi0 | Check::List | Check::Operator => {
+                Refusal::Argument
+            }
             Check::IkeInUse | Check::ChildInUse => Refusal::SpiInUse,
+            Check::IkeShare | Check::ChildShare => Refusal::OperatorAtShare,
             Check::IkeFull | Check::ChildFull => Refusal::AllInUse,
         }
     }
@@ -97,13 +103,15 @@ mod tests {
         assert_eq!(after, *tables);
     }
 
-    /// Records with these SPIs, from the lowest places on.
+    /// Records with these SPIs, from the lowest places on, the IKE records of either operator in turn.
     fn with_spis(
         ike: impl IntoIterator<Item = u64>,
         ipsec: impl IntoIterator<Item = u32>,
     ) -> Tables {
         let mut tables = Tables::empty();
-        tables.ike_mut().iter_mut().zip(ike).for_each(|(record, spi)| record.spi = spi);
+        for (place, (record, spi)) in tables.ike_mut().iter_mut().zip(ike).enumerate() {
+            (record.spi, record.agreed.operator) = (spi, (place % 2) as u8);
+        }
         tables.ipsec_mut().iter_mut().zip(ipsec).for_each(|(record, spi)| record.spi = spi);
         tables
     }
@@ -152,6 +160,38 @@ mod tests {
                 assert_refused(&tables, (200, IPV4, 200), Refusal::AllInUse);
             }
         }
+    }
+
+    #[test]
+    fn a_share_comes_behind_every_spi_in_use_and_before_every_full_table() {
+        let open_for = |tables: &Tables, spi, child, operator| {
+            let agreed = Agreed { operator, ..Agreed::NOTHING };
+            let opening = Opening { spi, agreed, pair: IPV4, child };
+            open_both(&mut tables.clone(), &opening, &Plain)
+        };
+        for (of_a, of_b, number) in
+            [(19, 12, 0), (20, 11, 43), (20, 12, 43), (21, 0, 43), (19, 13, 10)]
+        {
+            let mut tables = with_spis(1..=of_a + of_b, [5]);
+            for (place, record) in tables.ike_mut().iter_mut().enumerate() {
+                record.agreed.operator = u8::from(place as u64 >= of_a);
+            }
+            let number_of = |result: Result<(), Refusal>| result.map_or_else(|it| it as u8, |()| 0);
+            assert_eq!(number_of(open_for(&tables, 200, 200, 0)), number);
+            assert_eq!(number_of(open_for(&tables, 1, 200, 0)), 11);
+            assert_eq!(number_of(open_for(&tables, of_a + of_b, 200, 0)), 11);
+            assert_eq!(number_of(open_for(&tables, 200, 5, 0)), 11);
+            assert_eq!(number_of(open_for(&tables, 1, 5, 2)), 1);
+        }
+        let mut tables = with_spis([1, 2], 1..=128);
+        tables.ipsec_mut().iter_mut().for_each(|record| record.owner = 1);
+        assert_eq!(open_for(&tables, 200, 200, 0), Err(Refusal::OperatorAtShare));
+        assert_eq!(open_for(&tables, 200, 200, 1), Err(Refusal::AllInUse));
+        assert_eq!(open_for(&tables, 200, 7, 0), Err(Refusal::SpiInUse));
+        // Those that name the new SPI are not yet the operator's.
+        tables.ipsec_mut().iter_mut().for_each(|record| record.owner = 200);
+        tables.ipsec_mut()[9].spi = 0;
+        assert_eq!(open_for(&tables, 200, 200, 0), Ok(()));
     }
 
     #[test]

@@ -3,7 +3,7 @@ use crate::address::AddressPair;
 use crate::asked::{Asked, Given};
 use crate::request::Request;
 use crate::rules::{OrderRules, Plain, Rules};
-use crate::tables::{find, Record, Tables};
+use crate::tables::{find, IkeRecord, Record, Tables};
 use std::collections::BTreeSet;
 
 /// A list of calls in the order in which they are made, each by its place in the list.
@@ -27,7 +27,7 @@ impl Orders {
         let kept_spis =
             spis.iter().copied().filter(|&spi| rules.orders().keeps_sequence(spi)).collect();
         let others = &spis - &freed_spis;
-        let keeping = |spis| keeping(spis, list, chance, rules.orders());
+        let keeping = |spis| keeping(spis, tables, list, chance, rules.orders());
         Orders { kept: keeping(&kept_spis), freed: keeping(&others), freed_spis }
     }
 }
@@ -40,13 +40,16 @@ fn spis(tables: &Tables) -> BTreeSet<u64> {
 /// The order left to chance, but that each of these SPIs has its calls in sequence.
 fn keeping(
     spis: &BTreeSet<u64>,
+    tables: &Tables,
     list: &[Asked],
     chance: &Order,
     rules: &(impl OrderRules + ?Sized),
 ) -> Order {
     let mut order = chance.clone();
     for &spi in spis {
-        let gives = |number: &usize| list[*number].spi() == spi && rules.counts(&list[*number]);
+        let record = record_of(tables, spi);
+        let gives =
+            |number: &usize| rules.gives(&list[*number], record) && rules.counts(&list[*number]);
         let places = (0..order.len()).filter(|&place| gives(&order[place]));
         let sequence = (0..list.len()).filter(gives);
         for (place, number) in places.collect::<Vec<_>>().into_iter().zip(sequence) {
@@ -56,19 +59,39 @@ fn keeping(
     order
 }
 
-/// The requests of the list that give this SPI.
-fn requests_of(list: &[Asked], spi: u64) -> impl Iterator<Item = &Request> {
-    list.iter().filter_map(Asked::request).filter(move |request| request.spi == spi)
+/// The record that the SPI of an SA means.
+fn record_of(tables: &Tables, spi: u64) -> &IkeRecord {
+    let place = find(&tables.ike.records, spi, &Plain).expect("an SA has a record");
+    &tables.ike.records[place]
+}
+
+/// The requests of the list that are this SA's, each for the operator for which it is judged.
+fn requests_of(
+    tables: &Tables,
+    list: &[Asked],
+    spi: u64,
+    rules: &(impl OrderRules + ?Sized),
+) -> Vec<Request> {
+    let record = record_of(tables, spi);
+    let own = list.iter().filter(|asked| rules.gives(asked, record));
+    let judged = |request: &Request| {
+        let operator = rules.judged_for(request, record);
+        Request { operator, ..request.clone() }
+    };
+    own.filter_map(Asked::request).map(judged).collect()
 }
 
 /// Whether the SA has no check responses, and its requests are all sound on these tables and no two have the same ID.
 fn is_freed(tables: &Tables, list: &[Asked], spi: u64, rules: &impl Rules) -> bool {
-    let is_response = |asked: &Asked| asked.spi() == spi && asked.request().is_none();
+    let of_orders = rules.orders();
+    let record = record_of(tables, spi);
+    let is_response = |asked: &Asked| of_orders.gives(asked, record) && asked.request().is_none();
     let without_responses = !list.iter().any(is_response);
-    let all_sound = requests_of(list, spi).all(|request| request.is_sound(tables, rules));
+    let requests = requests_of(tables, list, spi, of_orders);
+    let all_sound = requests.iter().all(|request| request.is_sound(tables, rules));
     let mut ids = BTreeSet::new();
-    let ids_differ = requests_of(list, spi).all(|request| ids.insert(request.id));
-    rules.orders().is_freed(all_sound, ids_differ, without_responses)
+    let ids_differ = requests.iter().all(|request| ids.insert(request.id));
+    of_orders.is_freed(all_sound, ids_differ, without_responses)
 }
 
 fn carries_update(request: &Request, tables: &Tables) -> bool {
@@ -82,9 +105,9 @@ fn pair_at_end(
     spi: u64,
     rules: &(impl OrderRules + ?Sized),
 ) -> AddressPair {
-    let place = find(&tables.ike.records, spi, &Plain).expect("an SA has a record");
-    let record = &tables.ike.records[place];
-    let updates = requests_of(list, spi).filter(|request| carries_update(request, tables));
+    let record = record_of(tables, spi);
+    let requests = requests_of(tables, list, spi, rules);
+    let updates = requests.iter().filter(|request| carries_update(request, tables));
     let deciding = rules.deciding(&updates.collect::<Vec<_>>());
     let moving = deciding.filter(|request| rules.moves(request.id, record.update_mark));
     moving.map_or(record.pair, |request| request.pair)

@@ -1,7 +1,8 @@
 // The policy and its rules as they are held, and how a new list replaces them.
 use crate::address::AddressOctets;
 use crate::calls::Refusal;
-use crate::rules::PolicyRules;
+use crate::operator::OPERATORS;
+use crate::rules::{PolicyRules, Rules, TableRules};
 
 pub const RULE_PLACES: usize = 16;
 
@@ -42,18 +43,24 @@ impl Policy {
     pub const EMPTY: Self = Policy { count: 0, rules: [Rule::ZERO; RULE_PLACES] };
 }
 
-/// Replaces the whole list, unless it is refused.
+/// Replaces the whole list of the operator that is named, unless it is refused.
 pub fn set(
-    policy: &mut Policy,
-    count: u16,
-    list: &RuleList,
-    rules: &(impl PolicyRules + ?Sized),
+    policies: &mut [Policy; OPERATORS],
+    (count, list): (u16, &RuleList),
+    operator: u8,
+    rules: &impl Rules,
 ) -> Result<(), Refusal> {
-    let checked = rules.check(usize::from(count), list);
-    *policy = match checked {
-        Ok(()) => rules.kept(policy, count, list),
-        Err(_) => rules.left(policy, count, list),
-    };
+    let of_policy = rules.policy();
+    let named = rules.tables().named(operator);
+    let checked = of_policy.check(usize::from(count), list, named);
+    for (place, policy) in policies.iter_mut().enumerate() {
+        if named.is_some_and(|named| of_policy.is_replaced(place as u8, named)) {
+            *policy = match checked {
+                Ok(()) => of_policy.kept(policy, count, list),
+                Err(_) => of_policy.left(policy, count, list),
+            };
+        }
+    }
     checked
 }
 
@@ -88,9 +95,10 @@ mod tests {
 
     #[test]
     fn setting_checks_the_count_then_1_then_the_lengths() {
-        let before = Policy { count: 17, rules: [TOO_LONG; RULE_PLACES] };
+        let before = [Policy { count: 17, rules: [TOO_LONG; RULE_PLACES] }; OPERATORS];
         let mut set = before;
-        let mut setting = |count, first: &[Rule]| super::set(&mut set, count, &list(first), &Plain);
+        let mut setting =
+            |count, first: &[Rule]| super::set(&mut set, (count, &list(first)), 1, &Plain);
         assert_eq!(setting(17, &[ALL_IPV4; 16]), Err(Refusal::Policy));
         assert_eq!(setting(17, &[UNSOUND]), Err(Refusal::Policy));
         assert_eq!(setting(2, &[TOO_LONG, UNSOUND]), Err(Refusal::Argument));
@@ -100,12 +108,28 @@ mod tests {
 
     #[test]
     fn a_list_is_kept_as_given_with_zeros_past_its_count() {
-        let mut set = policy(&[ALL_IPV4; 16]);
+        let whole = policy(&[ALL_IPV4; 16]);
+        let mut set = [whole; OPERATORS];
         let rule = Rule { family: 6, source: [255; 16], source_length: 1, ..Rule::ZERO };
-        assert_eq!(super::set(&mut set, 1, &list(&[rule]), &Plain), Ok(()));
-        assert_eq!(set, policy(&[rule]));
-        assert_eq!(super::set(&mut set, 0, &list(&[]), &Plain), Ok(()));
-        assert_eq!(set, Policy::EMPTY);
+        assert_eq!(super::set(&mut set, (1, &list(&[rule])), 1, &Plain), Ok(()));
+        assert_eq!(set, [whole, policy(&[rule])]);
+        assert_eq!(super::set(&mut set, (0, &list(&[])), 0, &Plain), Ok(()));
+        assert_eq!(set, [Policy::EMPTY, policy(&[rule])]);
+    }
+
+    #[test]
+    fn an_operator_that_there_is_not_is_refused_behind_the_count() {
+        let before = [policy(&[ALL_IPV4]), policy(&[])];
+        for operator in [2, 3, 254, 255] {
+            let mut set = before;
+            let mut setting = |count, first: &[Rule]| {
+                super::set(&mut set, (count, &list(first)), operator, &Plain)
+            };
+            assert_eq!(setting(17, &[ALL_IPV4; 16]), Err(Refusal::Policy));
+            assert_eq!(setting(1, &[ALL_IPV4]), Err(Refusal::Argument));
+            assert_eq!(setting(1, &[TOO_LONG]), Err(Refusal::Argument));
+            assert_eq!(set, before);
+        }
     }
 
     #[test]

@@ -6,7 +6,7 @@ use crate::reader::{self, Answer};
 use crate::rules::{ChainRules, RequestRules, Rules, TableRules};
 use crate::steps;
 use crate::summary::Summary;
-use crate::tables::{find, Tables};
+use crate::tables::Tables;
 
 pub const NAT_VALUE_LENGTH: usize = 20;
 
@@ -25,6 +25,7 @@ pub struct Request {
     /// For the check of an update that is applied: the cookie of our request, and its ID.
     pub cookie: Vec<u8>,
     pub check_id: u32,
+    pub operator: u8,
     pub first: u8,
     pub body: Vec<u8>,
     /// What the output holds before the call.
@@ -72,7 +73,8 @@ impl From<Refusal> for Failed {
 impl Request {
     /// Checks 1 to 7 in their order, 61 to 65 in the place of 6, and these and 7 as the reader tells them.
     pub fn check(&self, tables: &Tables, rules: &impl Rules) -> Result<Passed<'_>, Failed> {
-        let place = find(&tables.ike.records, self.spi, rules.tables());
+        let named = rules.tables().named(self.operator);
+        let place = rules.tables().meant_of(&tables.ike.records, self.spi, named);
         let mut summary = None;
         for check in rules.requests().order() {
             match check {
@@ -119,12 +121,13 @@ impl Request {
     }
 
     /// 1: "family not 4 or 6, IPv4 tail not zero, an SPI of 0, .. a lent NAT value not of 20 octets"; E6: "1 for
-    /// another cookie length".
+    /// another cookie length"; an operator that there isn't is 1 by decision.
     fn has_sound_arguments(&self, rules: &impl Rules) -> bool {
         self.spi != 0
             && rules.tables().is_pair_sound(&self.pair)
             && rules.requests().allows_values(&self.nat_source, &self.nat_destination)
             && rules.requests().allows_cookie(self)
+            && rules.tables().named(self.operator).is_some()
     }
 
     /// "A request is sound if checks 1 to 7 pass and, where it carries an update, those of 8 and 9 would pass too,

@@ -12,6 +12,7 @@ pub fn of(request: &Request) -> Vec<(String, String)> {
         ("lent NAT destination", show::hex(&request.nat_destination)),
         ("lent cookie", show::hex(&request.cookie)),
         ("ID of our request", request.check_id.to_string()),
+        ("operator", request.operator.to_string()),
         ("first type", request.first.to_string()),
         ("body length", request.body.len().to_string()),
         ("body", show::hex(&request.body)),
@@ -24,6 +25,7 @@ pub fn of_check(response: &CheckResponse) -> Vec<(String, String)> {
     let fields = [
         ("SPI", response.spi.to_string()),
         ("ID", response.id.to_string()),
+        ("operator", response.operator.to_string()),
         ("first type", response.first.to_string()),
         ("body length", response.body.len().to_string()),
         ("body", show::hex(&response.body)),

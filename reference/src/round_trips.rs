@@ -26,7 +26,7 @@ pub trait Program {
         let agreed = Agreed { cloning: 1, ..Agreed::NOTHING };
         tables.ike_mut()[0] = IkeRecord { spi: 7, agreed, ..IkeRecord::FREE };
         let (body, output) = (body.to_vec(), vec![0x5a; request::LEAST_OUTPUT]);
-        let request = CloneRequest { spi: 7, new_spi: 8, first, body, output };
+        let request = CloneRequest { spi: 7, new_spi: 8, first, body, operator: 0, output };
         let CloneReply { number, payloads, .. } = self.clone(&request, &mut tables);
         (number, payloads)
     }

@@ -1,7 +1,7 @@
 // Steps 1 to 3 of a request that passed its checks: the tally, the update with its pending check, and the address list.
 use crate::address::{Address, AddressPair};
 use crate::request::{Passed, Request};
-use crate::rules::{PolicyRules, RequestRules, Rules};
+use crate::rules::{PolicyRules, RequestRules, Rules, TableRules};
 use crate::summary::Summary;
 use crate::tables::{IkeRecord, IpsecRecord, Tables};
 
@@ -38,7 +38,9 @@ pub fn is_fit(
     let seen = of_requests.compared(old, request.pair);
     let no_nats = passed.summary.no_nats;
     let altered = no_nats.is_some_and(|no_nats| !of_requests.same_path(no_nats.pair, seen));
-    let acceptable = rules.policy().accepts(&tables.policy, &request.pair);
+    let named = rules.tables().named(request.operator);
+    let policy = named.and_then(|it| rules.policy().judging(&tables.policies, it));
+    let acceptable = policy.is_some_and(|it| rules.policy().accepts(it, &request.pair));
     of_requests.fitness(altered, acceptable)
 }
 

@@ -1,6 +1,7 @@
 // Tables and calls as they are shown: the fields of a place by name, a call in a line.
 use crate::agreed::Agreed;
 use crate::calls::Call;
+use crate::opening::Adding;
 use crate::opening_both::Opening;
 use crate::policy::{Policy, Rule};
 use crate::show;
@@ -18,7 +19,8 @@ pub fn of_differing_places(one: &Tables, other: &Tables) -> [Fields; 2] {
         let ike = ike.clone().flat_map(|place| ike_fields(place, &tables.ike.records[place]));
         let ipsec = ipsec.clone().flat_map(|place| ipsec_fields(place, &ipsec_at(tables, place)));
         let length = ("IPsec records".to_string(), tables.ipsec.records.len().to_string());
-        ike.chain([length]).chain(ipsec).chain(policy_fields(&tables.policy)).collect()
+        let policies = tables.policies.iter().enumerate().flat_map(policy_fields);
+        ike.chain([length]).chain(ipsec).chain(policies).collect()
     })
 }
 
@@ -31,6 +33,7 @@ fn ike_fields(place: usize, record: &IkeRecord) -> Fields {
         ("SPI", record.spi.to_string()),
         ("MOBIKE", record.agreed.mobike.to_string()),
         ("cloning", record.agreed.cloning.to_string()),
+        ("operator", record.agreed.operator.to_string()),
         ("peer", record.agreed.peer.to_string()),
         ("pair", show::pair(&record.pair)),
         ("update mark", record.update_mark.to_string()),
@@ -60,10 +63,10 @@ fn ipsec_fields(place: usize, record: &IpsecRecord) -> Fields {
     own.map(|(name, value)| (format!("IPsec place {place}, {name}"), value)).to_vec()
 }
 
-fn policy_fields(policy: &Policy) -> Fields {
-    let mut fields = vec![("policy count".to_string(), policy.count.to_string())];
+fn policy_fields((operator, policy): (usize, &Policy)) -> Fields {
+    let mut fields = vec![(format!("policy of {operator}, count"), policy.count.to_string())];
     for (place, rule) in policy.rules.iter().enumerate() {
-        fields.push((format!("policy rule {place}"), show_rule(rule)));
+        fields.push((format!("policy of {operator}, rule {place}"), show_rule(rule)));
     }
     fields
 }
@@ -77,18 +80,24 @@ fn show_rule(rule: &Rule) -> String {
 pub fn call_line(call: &Call) -> String {
     match call {
         Call::OpenBoth(Opening { spi, agreed, pair, child }) => {
-            let (Agreed { mobike, cloning, peer }, pair) = (agreed, show::pair(pair));
+            let (Agreed { mobike, cloning, operator, peer }, pair) = (agreed, show::pair(pair));
             let agreed = format!("MOBIKE {mobike}, cloning {cloning}, peer {peer}");
-            format!("open IKE {spi} and IPsec {child}, {agreed}, {pair}")
+            format!("open IKE {spi} and IPsec {child}, for {operator}, {agreed}, {pair}")
         }
-        Call::OpenIpsec { spi, owner } => format!("open IPsec {spi}, owner {owner}"),
-        Call::CloseIke { spi } => format!("close IKE {spi}"),
-        Call::CloseIpsec { spi } => format!("close IPsec {spi}"),
-        Call::MarkDeletion { spi } => format!("mark IKE {spi} as being deleted"),
-        Call::SetPolicy { count, rules } => {
+        Call::OpenIpsec(Adding { spi, owner, operator }) => {
+            format!("open IPsec {spi}, for {operator}, owner {owner}")
+        }
+        Call::CloseIke { spi, operator } => format!("close IKE {spi}, for {operator}"),
+        Call::CloseIpsec { spi, operator } => format!("close IPsec {spi}, for {operator}"),
+        Call::MarkDeletion { spi, operator } => {
+            format!("mark IKE {spi} as being deleted, for {operator}")
+        }
+        Call::SetPolicy { count, rules, operator } => {
             let rules: Vec<String> = rules.rules.iter().map(show_rule).collect();
-            format!("set policy, count {count}: {}", rules.join("; "))
+            format!("set policy, for {operator}, count {count}: {}", rules.join("; "))
         }
-        Call::Acceptable { pair } => format!("acceptable: {}", show::pair(pair)),
+        Call::Acceptable { pair, operator } => {
+            format!("acceptable, for {operator}: {}", show::pair(pair))
+        }
     }
 }

@@ -1,6 +1,7 @@
 // The tables: IKE records and IPsec records in their places, and which place an SPI means.
 use crate::address::{Address, AddressPair};
 use crate::agreed::Agreed;
+use crate::operator::OPERATORS;
 use crate::pending::PendingCheck;
 use crate::policy::Policy;
 use crate::rules::TableRules;
@@ -64,7 +65,8 @@ pub struct IpsecTable {
 pub struct Tables {
     pub ike: Rc<IkeTable>,
     pub ipsec: Rc<IpsecTable>,
-    pub policy: Policy,
+    /// One for each operator.
+    pub policies: [Policy; OPERATORS],
 }
 
 impl Record for IkeRecord {
@@ -99,7 +101,7 @@ impl Tables {
         Tables {
             ike: Rc::new(IkeTable { records: [IkeRecord::FREE; IKE_PLACES] }),
             ipsec: Rc::new(IpsecTable { records: vec![IpsecRecord::FREE; IPSEC_PLACES] }),
-            policy: Policy::EMPTY,
+            policies: [Policy::EMPTY; OPERATORS],
         }
     }
 
@@ -118,7 +120,7 @@ impl Tables {
     }
 }
 
-/// The place that the SPI means.
+/// The place that the SPI means, whosever it is.
 pub fn find<R: Record>(
     records: &[R],
     spi: u64,

@@ -1,6 +1,7 @@
 // Decides the response to a return routability check.
 use super::assess::{assess, Assessment};
 use super::notify::is_cookie;
+use super::shares::is_operator;
 use unmavreth::limits::BODY_MOST;
 use unmavreth::{CheckResponse, IkeRecord, IpsecRecord, Pair, PendingCheck};
 
@@ -15,14 +16,15 @@ pub fn check(
 ) -> Assessment {
     let refused = |number| Assessment { number, ..Assessment::default() };
     let Ok(ipsec) = <&mut [IpsecRecord; 128]>::try_from(ipsec) else { return refused(1) };
-    if response.spi == 0 {
+    if response.spi == 0 || !is_operator(response.operator) {
         return refused(1);
     }
     if response.body.len() > BODY_MOST {
         return refused(3);
     }
     let found = ike.iter_mut().find(|record| record.spi == response.spi);
-    let Some(record) = found else { return refused(4) };
+    let own = found.filter(|record| record.agreed.operator == response.operator);
+    let Some(record) = own else { return refused(4) };
     if !record.agreed.mobike.is_set() {
         return refused(5);
     }

@@ -2,8 +2,9 @@
 use super::notify::{CLONE_IKE_SA, NO_ADDITIONAL_SAS, TEMPORARY_FAILURE};
 use super::reader::{read_rekey, Reading};
 use super::response::{self, ROOM};
-use unmavreth::limits::{BODY_MOST, PEER_RECORDS_MOST};
-use unmavreth::{CloneRequest, IkeRecord};
+use super::shares::{ike_of, is_operator};
+use unmavreth::limits::{BODY_MOST, IKE_SHARE, PEER_RECORDS_MOST};
+use unmavreth::{Agreed, CloneRequest, IkeRecord};
 
 #[derive(Default)]
 pub struct CloneReply {
@@ -22,7 +23,7 @@ pub fn clone_ike(
     out: &mut [u8],
 ) -> CloneReply {
     let refused = |number| CloneReply { number, ..CloneReply::default() };
-    if request.spi == 0 || request.new_spi == 0 {
+    if request.spi == 0 || request.new_spi == 0 || !is_operator(request.operator) {
         return refused(1);
     }
     let Some(out) = out.first_chunk_mut::<ROOM>() else { return refused(2) };
@@ -30,7 +31,8 @@ pub fn clone_ike(
         return refused(3);
     }
     let found = ike.iter().find(|record| record.spi == request.spi);
-    let Some(&IkeRecord { agreed, pair, deleting, .. }) = found else { return refused(4) };
+    let own = found.filter(|record| record.agreed.operator == request.operator);
+    let Some(&IkeRecord { agreed, pair, deleting, .. }) = own else { return refused(4) };
     if !agreed.cloning.is_set() {
         return refused(40);
     }
@@ -54,11 +56,14 @@ pub fn clone_ike(
     let Some(place) = free.filter(|_| !deleting.is_set()) else {
         return told(41, TEMPORARY_FAILURE);
     };
-    if records_of(ike, agreed.peer) >= PEER_RECORDS_MOST {
+    if records_of(ike, &agreed) >= PEER_RECORDS_MOST {
         return told(42, NO_ADDITIONAL_SAS);
     }
     if ike.iter().any(|record| record.spi == request.new_spi) {
         return CloneReply { number: 11, payloads, ..CloneReply::default() };
+    }
+    if ike_of(ike, agreed.operator) >= IKE_SHARE {
+        return told(43, NO_ADDITIONAL_SAS);
     }
     let clone = &mut ike[place];
     *clone = IkeRecord::FREE;
@@ -66,10 +71,12 @@ pub fn clone_ike(
     told(0, CLONE_IKE_SA)
 }
 
-/// Not inlined, for the compiler would keep every SPI from one search to the next.
+/// Those of its operator and its peer. Not inlined, for the compiler would keep every SPI from one search to the
+/// next.
 #[inline(never)]
-fn records_of(ike: &[IkeRecord; 32], peer: u32) -> usize {
-    ike.iter().filter(|record| record.spi != 0 && record.agreed.peer == peer).count()
+fn records_of(ike: &[IkeRecord; 32], of: &Agreed) -> usize {
+    let is_of = |agreed: &Agreed| (agreed.operator, agreed.peer) == (of.operator, of.peer);
+    ike.iter().filter(|record| record.spi != 0 && is_of(&record.agreed)).count()
 }
 
 #[cold]

@@ -4,7 +4,7 @@ use super::notify::{is_cookie, UNACCEPTABLE_ADDRESSES, UNEXPECTED_NAT_DETECTED};
 use super::policy::acceptable;
 use super::reader::{read, Reading};
 use super::response::{self, ROOM};
-use unmavreth::limits::{BODY_MOST, IPSEC_PLACES};
+use unmavreth::limits::{BODY_MOST, IPSEC_PLACES, OPERATORS};
 use unmavreth::{Address, IkeRecord, IpsecRecord, Pair, PendingCheck, Policy, Request, Seen};
 
 #[derive(Default)]
@@ -29,7 +29,7 @@ const STALE: u8 = 2;
 pub fn handle(
     ike: &mut [IkeRecord; 32],
     ipsec: &[IpsecRecord],
-    policy: &Policy,
+    policies: &[Policy; OPERATORS],
     request: &Request<'_>,
     out: &mut [u8],
 ) -> Reply {
@@ -42,12 +42,15 @@ pub fn handle(
     if request.spi == 0 || !is_sound(&request.pair) {
         return refused(1);
     }
+    let named = usize::from(u8::from(request.operator));
+    let Some(policy) = policies.get(named) else { return refused(1) };
     let Some(out) = out.first_chunk_mut::<ROOM>() else { return refused(2) };
     if request.body.len() > BODY_MOST {
         return refused(3);
     }
     let found = ike.iter_mut().find(|record| record.spi == request.spi);
-    let Some(record) = found else { return refused(4) };
+    let own = found.filter(|record| record.agreed.operator == request.operator);
+    let Some(record) = own else { return refused(4) };
     if !record.agreed.mobike.is_set() {
         return refused(5);
     }

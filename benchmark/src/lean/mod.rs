@@ -15,6 +15,7 @@ mod policy;
 mod reader;
 mod redirect;
 mod response;
+mod shares;
 mod writer;
 
 pub use assess::{assess, Assessment};

@@ -1,16 +1,23 @@
 // Opens an IKE record and its first IPsec record.
 use super::addresses::is_sound;
+use super::shares::{ike_of, ipsec_of, is_operator};
+use unmavreth::limits::{IKE_SHARE, IPSEC_SHARE};
 use unmavreth::{IkeRecord, IpsecRecord, Opening};
 
 #[inline]
 pub fn open(ike: &mut [IkeRecord; 32], ipsec: &mut [IpsecRecord], opening: &Opening) -> u8 {
     let Opening { spi, agreed, pair, child } = *opening;
     let Ok(ipsec) = <&mut [IpsecRecord; 128]>::try_from(ipsec) else { return 1 };
-    if spi == 0 || child == 0 || !is_sound(&pair) {
+    if spi == 0 || child == 0 || !is_sound(&pair) || !is_operator(agreed.operator) {
         return 1;
     }
     if ike_has(ike, spi) || ipsec_has(ipsec, child) {
         return 11;
+    }
+    if ike_of(ike, agreed.operator) >= IKE_SHARE
+        || ipsec_of(ike, ipsec, agreed.operator) >= IPSEC_SHARE
+    {
+        return 43;
     }
     let Some(record) = ike.iter_mut().find(|record| record.spi == 0) else { return 10 };
     let Some(owned) = ipsec.iter_mut().find(|record| record.spi == 0) else { return 10 };

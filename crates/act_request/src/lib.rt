@@ -6,6 +6,7 @@ use given::reading::Slots;
 use given::reading::string_at;
 use host::handler::unmavreth_handle;
 use octets::limits::IKE_PLACES;
+use octets::limits::OPERATORS;
 use policy::rules::Policy;
 use records::ike::IkeRecord;
 use records::ipsec::IpsecRecord;
@@ -16,15 +17,15 @@ ghost use Rattle.acts.specs.Performed.{Performs, handledBy};
 pub fn request_entry(
     ike: &mut [IkeRecord; IKE_PLACES],
     ipsec: &mut [IpsecRecord],
-    policy: &mut Policy,
+    policies: &mut [Policy; OPERATORS],
     window: &[u8],
     e: Slots,
     out: &mut [u8],
 ) -> Outcome
     ensures { λ r. ⌜ (
         let act = handledBy (now (window .entry)) (e .slots) (length (now (out .entry))) in
-        Performs act (now (ike .entry)) (now (ipsec .entry)) (now (policy .entry))
-        r (now (ike .exit)) (now (ipsec .exit)) (now (policy .exit))
+        Performs act (now (ike .entry)) (now (ipsec .entry)) (now (policies .entry))
+        r (now (ike .exit)) (now (ipsec .exit)) (now (policies .exit))
         ) ⌝ }
 {
     let q = request_in(window, e);
@@ -35,7 +36,7 @@ pub fn request_entry(
     let r = unmavreth_handle(
         ike,
         ipsec,
-        policy,
+        policies,
         q.spi,
         q.id,
         q.pair,
@@ -46,6 +47,7 @@ pub fn request_entry(
         q.first,
         body,
         out,
+        q.operator,
     );
     replied(r)
 }

@@ -7,6 +7,7 @@ use given::reading::Slots;
 use lent_ike::ike::ike_at;
 use lent_ipsec::places::ipsec_at;
 use octets::limits::IKE_PLACES;
+use octets::limits::OPERATORS;
 use policy::rules::Policy;
 use records::ike::IkeRecord;
 use records::ipsec::IpsecRecord;
@@ -16,15 +17,15 @@ ghost use Rattle.acts.specs.Performed.{Performs, ikeShownBy, ipsecShownBy};
 pub fn show_ike(
     ike: &mut [IkeRecord; IKE_PLACES],
     ipsec: &mut [IpsecRecord],
-    policy: &mut Policy,
+    policies: &mut [Policy; OPERATORS],
     window: &[u8],
     e: Slots,
     out: &mut [u8],
 ) -> Outcome
     ensures { λ r. ⌜ (
         let act = ikeShownBy (e .slots) in
-        Performs act (now (ike .entry)) (now (ipsec .entry)) (now (policy .entry))
-        r (now (ike .exit)) (now (ipsec .exit)) (now (policy .exit))
+        Performs act (now (ike .entry)) (now (ipsec .entry)) (now (policies .entry))
+        r (now (ike .exit)) (now (ipsec .exit)) (now (policies .exit))
         ) ⌝ }
 {
     let place = place_in(e);
@@ -36,15 +37,15 @@ pub fn show_ike(
 pub fn show_ipsec(
     ike: &mut [IkeRecord; IKE_PLACES],
     ipsec: &mut [IpsecRecord],
-    policy: &mut Policy,
+    policies: &mut [Policy; OPERATORS],
     window: &[u8],
     e: Slots,
     out: &mut [u8],
 ) -> Outcome
     ensures { λ r. ⌜ (
         let act = ipsecShownBy (e .slots) in
-        Performs act (now (ike .entry)) (now (ipsec .entry)) (now (policy .entry))
-        r (now (ike .exit)) (now (ipsec .exit)) (now (policy .exit))
+        Performs act (now (ike .entry)) (now (ipsec .entry)) (now (policies .entry))
+        r (now (ike .exit)) (now (ipsec .exit)) (now (policies .exit))
         ) ⌝ }
 {
     let place = place_in(e);

@@ -14,6 +14,7 @@ use given::outcome::Outcome;
 use given::reading::SHOW_IKE;
 use given::reading::Slots;
 use octets::limits::IKE_PLACES;
+use octets::limits::OPERATORS;
 use policy::rules::Policy;
 use records::ike::IkeRecord;
 use records::ipsec::IpsecRecord;
@@ -43,46 +44,46 @@ const DELETION_MARK: u8 = 8;
 pub fn perform(
     ike: &mut [IkeRecord; IKE_PLACES],
     ipsec: &mut [IpsecRecord],
-    policy: &mut Policy,
+    policies: &mut [Policy; OPERATORS],
     window: &[u8],
     e: Slots,
     out: &mut [u8],
 ) -> Outcome
     ensures { λ r. ⌜ (
         let act = performed (e .kind) (now (window .entry)) (e .slots) (length (now (out .entry))) in
-        Performs act (now (ike .entry)) (now (ipsec .entry)) (now (policy .entry))
-        r (now (ike .exit)) (now (ipsec .exit)) (now (policy .exit))
+        Performs act (now (ike .entry)) (now (ipsec .entry)) (now (policies .entry))
+        r (now (ike .exit)) (now (ipsec .exit)) (now (policies .exit))
         ) ⌝ }
 {
     if e.kind == OPEN_BOTH {
-        return open_entry(ike, ipsec, policy, window, e, out);
+        return open_entry(ike, ipsec, policies, window, e, out);
     }
     if e.kind == ADD_IPSEC {
-        return add_entry(ike, ipsec, policy, window, e, out);
+        return add_entry(ike, ipsec, policies, window, e, out);
     }
     if e.kind == CLOSE_IKE {
-        return close_entry(ike, ipsec, policy, window, e, out);
+        return close_entry(ike, ipsec, policies, window, e, out);
     }
     if e.kind == CLOSE_IPSEC {
-        return close_child_entry(ike, ipsec, policy, window, e, out);
+        return close_child_entry(ike, ipsec, policies, window, e, out);
     }
     if e.kind == REQUEST {
-        return request_entry(ike, ipsec, policy, window, e, out);
+        return request_entry(ike, ipsec, policies, window, e, out);
     }
     if e.kind == POLICY {
-        return policy_entry(ike, ipsec, policy, window, e, out);
+        return policy_entry(ike, ipsec, policies, window, e, out);
     }
     if e.kind == CHECK_RESPONSE {
-        return check_entry(ike, ipsec, policy, window, e, out);
+        return check_entry(ike, ipsec, policies, window, e, out);
     }
     if e.kind == CLONE {
-        return clone_entry(ike, ipsec, policy, window, e, out);
+        return clone_entry(ike, ipsec, policies, window, e, out);
     }
     if e.kind == DELETION_MARK {
-        return mark_entry(ike, ipsec, policy, window, e, out);
+        return mark_entry(ike, ipsec, policies, window, e, out);
     }
     if e.kind == SHOW_IKE {
-        return show_ike(ike, ipsec, policy, window, e, out);
+        return show_ike(ike, ipsec, policies, window, e, out);
     }
-    show_ipsec(ike, ipsec, policy, window, e, out)
+    show_ipsec(ike, ipsec, policies, window, e, out)
 }

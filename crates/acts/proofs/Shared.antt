@@ -1,18 +1,19 @@
 -- The steps that the walks of several acts take.
 --     opened           what an act is given, parameter by parameter, each with its token
 --     gives-up-ref, gives-up-list      a `&mut T` or a `&mut [T]` is given up at the value that it holds: what says it
---     tables-opened    the same of an act that only the tables are for: the policy and the output are given up, and
+--     tables-opened    the same of an act that only the tables are for: the policies and the output are given up, and
 --                      what is had stands as `exits` takes it
---     policy-opened    the same of the act that sets the policy: the tables and the output are given up
+--     policy-opened    the same of the act that sets a policy: the tables and the output are given up
 --     gives-both       two references go to a call for good, with plain arguments; `both-last`: what is had after it
 --     parts            two facts that one fact gives
---     numbers          the call of `numbered`
+--     numbers          the call of `numbered`.        names-closer     the call of `closer_in`
 -- Assumes `Given`, and that the table of calls is monotone under a frame.
 use Rattle.walks.proofs.Kit.{_≡_, refl, ℕ, _<_, _^_, List, [], _∷_, URA, Place, Body, erased, w8, seq, call, vint}
 use Rattle.walks.proofs.Kit.{SProp, ent, sep, emp, via, id⊢, Lft, Share, Fml, fsep, flft, fres, Memory, Routine, Heap}
 use Rattle.walks.proofs.Kit.{Env, Calls, Loops, Atoms, Lfts, Shares, Fun, fact, Goal, Post, Given, Item, ‵, runs, lands}
 use Rattle.walks.proofs.Kit.{Seq, Step, step, _$_, move, drop, split, join, fsplit, fsplit3, fjoin, feqL, use1, Opds}
 use Rattle.walks.proofs.Kit.{FmC, RattleType, Denots, Valss, owns, Is, Are, Ises, Makess, uint-makes, uint-vals, u8}
+use Rattle.walks.proofs.Kit.{uint-tells, only}
 use Rattle.walks.proofs.Kit.{RefT, MutRef, ptr-vals, MutSlice, ShrSlice, slice-vals, heres, codedHoleys, finally}
 use Rattle.walks.proofs.Kit.{res-finally, typesAt, Triple}
 use mir.Syntax.{Opd as Operand}
@@ -20,17 +21,23 @@ use base.Fml.{feq}
 use base.Logic.{monoL, emp∗}
 use contract.Monad.{factI, fact-use}
 use denote.Struct.Laws as LL
+use Rattle.calling.specs.Calling.{closerIn}
 use Rattle.given.specs.Outcome.{numberedBy}
+use Rattle.given.specs.declared.reading.Slots.{Slots}
 use Rattle.given.proofs.outcome.Outcome as O
 use Rattle.given.proofs.outcome.Outcome.Laws as O′
+use Rattle.given.proofs.reading.Slots as S
+use Rattle.given.proofs.reading.Slots.Laws as S′
+use Rattle.calling.proofs.closer_in as closer
+use Rattle.calling.proofs.closer_in.Symbol as closer-def
 use Rattle.given.proofs.outcome.numbered as number
 use Rattle.given.proofs.outcome.numbered.Symbol as number-def
 use Rattle.walks.proofs.Calls.{_&_, tokens, Told, token, no-token, plainly, beside, calls-for}
 use Rattle.lent_ike.proofs.IkeTable.{Q}
 use Rattle.lent_ipsec.proofs.IpsecTable.{R as Rᵢ}
-use Rattle.lent_policy.proofs.PolicyTypes.{R as Rₚ}
-use Rattle.acts.proofs.Signed.{signature, Params, vals, ike, ipsec, policy, window, out, outcome-vals}
-use Rattle.acts.proofs.Signed.{outcome-val}
+use Rattle.lent_policy.proofs.PolicyTable.{Q as Qₚ}
+use Rattle.acts.proofs.Signed.{signature, Params, vals, ike, ipsec, policies, window, out, outcome-vals}
+use Rattle.acts.proofs.Signed.{outcome-val, slots-vals}
 
 -- two facts that one fact gives
 pub parts : {M : Type 1} (𝓤 : URA M) {φ χ ψ : Type 0} → (φ → χ) → (φ → ψ)
@@ -44,7 +51,7 @@ module _ {M : Type 1} {𝓤 : URA M} {H : Heap 𝓤} {A : Atoms 𝓤} {K : Type 
   pub opened : {κs : Lfts 5} {qs : Shares 5} (a : Params)
       → Step K W (‵ (MutRef erased (κs .0) Q .own (ike a) (ptr-vals (ike a))) ∷ ‵ (flft (κs .0) (qs .0))
       ∷ ‵ (MutSlice erased (κs .1 .0) Rᵢ .own (ipsec a) (slice-vals (ipsec a))) ∷ ‵ (flft (κs .1 .0) (qs .1 .0))
-      ∷ ‵ (MutRef erased (κs .1 .1 .0) Rₚ .own (policy a) (ptr-vals (policy a))) ∷ ‵ (flft (κs .1 .1 .0) (qs .1 .1 .0))
+      ∷ ‵ (MutRef erased (κs .1 .1 .0) Qₚ .own (policies a) (ptr-vals (policies a))) ∷ ‵ (flft (κs .1 .1 .0) (qs .1 .1 .0))
       ∷ ‵ (ShrSlice erased (κs .1 .1 .1 .0) u8 .own (window a) (slice-vals (window a)))
       ∷ ‵ (flft (κs .1 .1 .1 .0) (qs .1 .1 .1 .0))
       ∷ ‵ (MutSlice erased (κs .1 .1 .1 .1 .0) u8 .own (out a) (slice-vals (out a)))
@@ -76,16 +83,16 @@ module _ {M : Type 1} {𝓤 : URA M} {H : Heap 𝓤} {A : Atoms 𝓤} {K : Type 
   pub tables-opened : {κs : Lfts 5} {qs : Shares 5} (a : Params)
       → Step K W (‵ (MutRef erased (κs .0) Q .own (ike a) (ptr-vals (ike a))) ∷ ‵ (flft (κs .0) (qs .0))
       ∷ ‵ (MutSlice erased (κs .1 .0) Rᵢ .own (ipsec a) (slice-vals (ipsec a))) ∷ ‵ (flft (κs .1 .0) (qs .1 .0))
-      ∷ ‵ (fres (policy a .name) (Rₚ .coded .code (policy a .now))) ∷ ‵ (flft (κs .1 .1 .0) (qs .1 .1 .0))
+      ∷ ‵ (fres (policies a .name) (Qₚ .coded .code (policies a .now))) ∷ ‵ (flft (κs .1 .1 .0) (qs .1 .1 .0))
       ∷ ‵ (flft (κs .1 .1 .1 .0) (qs .1 .1 .1 .0)) ∷ ‵ (finally u8 (out a .name) (out a .now))
       ∷ ‵ (flft (κs .1 .1 .1 .1 .0) (qs .1 .1 .1 .1 .0)) ∷ Γ) G
       (tokens 𝓤 5 κs qs ∷ ‵ (owns (typesAt (signature .params) κs) a (vals κs a)) ∷ Γ) G
   tables-opened a = step (λ s.
-      opened t a $ move t (4 ∷ []) $ gives-up-ref t Rₚ (policy a) $ move t (8 ∷ []) $ gives-up-list t u8 (out a) $
+      opened t a $ move t (4 ∷ []) $ gives-up-ref t Qₚ (policies a) $ move t (8 ∷ []) $ gives-up-list t u8 (out a) $
       move t (7 ∷ []) $ drop t $ move t (2 ∷ 3 ∷ 4 ∷ 5 ∷ 1 ∷ 6 ∷ 7 ∷ 0 ∷ 8 ∷ []) $ s)
 
   pub policy-opened : {κs : Lfts 5} {qs : Shares 5} (a : Params)
-      → Step K W (‵ (MutRef erased (κs .1 .1 .0) Rₚ .own (policy a) (ptr-vals (policy a)))
+      → Step K W (‵ (MutRef erased (κs .1 .1 .0) Qₚ .own (policies a) (ptr-vals (policies a)))
       ∷ ‵ (flft (κs .1 .1 .0) (qs .1 .1 .0))
       ∷ ‵ (ShrSlice erased (κs .1 .1 .1 .0) u8 .own (window a) (slice-vals (window a)))
       ∷ ‵ (flft (κs .1 .1 .1 .0) (qs .1 .1 .1 .0)) ∷ ‵ (fres (ike a .name) (Q .coded .code (ike a .now)))
@@ -125,3 +132,16 @@ module _ {M : Type 1} {𝓤 : URA M} {H : Heap 𝓤} {A : Atoms 𝓤} {K : Type 
       calls-for t fm number.ended (number.clauses 𝓤 H A at-mem run) known
       ((tt, tt, tt, (n, tt), (uint-vals w8 n, tt)), tt) (id⊢ 𝓤 _) (os _) outcome-vals (LL.tells O.the-type O′.the-laws)
       (numberedBy n) (λ r ws. id⊢ 𝓤 _) (λ is. drop t $ s is)
+
+  -- the operator that closes or marks a record, by the slots
+  pub names-closer : Triple 𝓤 (C closer-def.name) (Told 𝓤 H A closer.ended (closer.clauses 𝓤 H A at-mem run))
+      → (e : Slots) → Is S.the-row e (slots-vals e)
+      → ((i : Item 𝓤) → Opds K W (i ∷ Γ) E ops (only (slots-vals e) ∷ []))
+      → (Is u8 (closerIn (e .slots)) (uint-vals w8 (closerIn (e .slots)))
+      → Seq K W Γ (lands C Λ E d (vint w8 (closerIn (e .slots))) rest p))
+      → Seq K W Γ (runs C Λ E (seq (call closer-def.name ops d) rest) p)
+  names-closer known e e-is os s =
+      plainly t (S.the-row ∷ []) (LL.makes S.the-type S′.the-plain 𝓤 H A, tt) (e, tt) (slots-vals e, tt) (e-is, tt) $
+      calls-for t fm closer.ended (closer.clauses 𝓤 H A at-mem run) known
+      ((tt, tt, tt, (e, tt), (slots-vals e, tt)), tt) (id⊢ 𝓤 _) (os _) (uint-vals w8) (uint-tells w8)
+      (closerIn (e .slots)) (λ r ws. id⊢ 𝓤 _) (λ is. drop t $ s is)

@@ -36,7 +36,7 @@ use Rattle.walks.proofs.Walk.{closes}
 use Rattle.walks.proofs.Calls.{_&_, Told}
 use Rattle.lent_ike.proofs.IkeTable.{Q, table-slot}
 use Rattle.lent_ipsec.proofs.IpsecTable.{R as Rᵢ}
-use Rattle.lent_policy.proofs.PolicyTypes.{R as Rₚ}
+use Rattle.lent_policy.proofs.PolicyTable.{Q as Qₚ, policies-slot}
 use Rattle.acts.specs.Performed.{Gateway, Performed, Performs}
 
 -- ---- the signature, and the contract
@@ -48,7 +48,7 @@ signature = record {
   lifetimes = 5;
   outlives = [];
   params = RefMutOf (0 ∷ []) tt table-slot (λ κs. tt) ∷ SliceRefMutOf (1 ∷ []) tt (val Rᵢ) (λ κs. tt)
-      ∷ RefMutOf (2 ∷ []) tt (val Rₚ) (λ κs. tt) ∷ SliceRefOf (3 ∷ []) tt (val u8) (λ κs. tt) ∷ val E.the-row
+      ∷ RefMutOf (2 ∷ []) tt policies-slot (λ κs. tt) ∷ SliceRefOf (3 ∷ []) tt (val u8) (λ κs. tt) ∷ val E.the-row
       ∷ SliceRefMutOf (4 ∷ []) tt (val u8) (λ κs. tt) ∷ [];
   result = val O.the-row;
 }
@@ -64,7 +64,7 @@ Act = List ℕ → Slots → ℕ → Gateway → Performed
 abbrev pub Params : Type 0
 Params =
     RefT (List IkeRecord)
-    × (RefT (List IpsecRecord) × (RefT Policy × (RefT (List ℕ) × (Slots × (RefT (List ℕ) × Unit {0})))))
+    × (RefT (List IpsecRecord) × (RefT (List Policy) × (RefT (List ℕ) × (Slots × (RefT (List ℕ) × Unit {0})))))
 
 module _ (a : Params) where
   abbrev pub ike : RefT (List IkeRecord)
@@ -73,8 +73,8 @@ module _ (a : Params) where
   abbrev pub ipsec : RefT (List IpsecRecord)
   ipsec = a .1 .0
 
-  abbrev pub policy : RefT Policy
-  policy = a .1 .1 .0
+  abbrev pub policies : RefT (List Policy)
+  policies = a .1 .1 .0
 
   abbrev pub window : RefT (List ℕ)
   window = a .1 .1 .1 .0
@@ -86,8 +86,8 @@ module _ (a : Params) where
   out = a .1 .1 .1 .1 .1 .0
 
   -- what an act on these parameters comes to
-  abbrev pub Says : Act → Outcome → List IkeRecord → List IpsecRecord → Policy → Type 0
-  Says act = Performs (act (window .now) entry (length (out .now))) (ike .now) (ipsec .now) (policy .now)
+  abbrev pub Says : Act → Outcome → List IkeRecord → List IpsecRecord → List Policy → Type 0
+  Says act = Performs (act (window .now) entry (length (out .now))) (ike .now) (ipsec .now) (policies .now)
 
 abbrev pub clauses : {M : Type 1} (𝓤 : URA M) → Act → Clauses 𝓤 ended
 clauses 𝓤 act κs a = record {
@@ -99,7 +99,7 @@ clauses 𝓤 act κs a = record {
 -- ---- at exit
 abbrev pub stayed : Stays (ended .signature .params) (ended .kept)
 stayed =
-    gave-ref (0 ∷ []) tt table-slot & gave-slice (1 ∷ []) tt (val Rᵢ) & gave-ref (2 ∷ []) tt (val Rₚ)
+    gave-ref (0 ∷ []) tt table-slot & gave-slice (1 ∷ []) tt (val Rᵢ) & gave-ref (2 ∷ []) tt policies-slot
     & stay-dropped (shrSliceOf (3 ∷ []) tt (val u8)) yes & stay-dropped (val E.the-row) yes
     & gave-slice (4 ∷ []) tt (val u8) & tt
 
@@ -123,22 +123,22 @@ module _ {M : Type 1} (𝓤 : URA M) (H : Heap 𝓤) (A : Atoms 𝓤) (κs : Lft
   Post act = walkOf 𝓤 H A ended stayed (clauses 𝓤 act) .post ((κs, qs, tt, a, vals κs a), tt)
 
   -- each last value, and the tokens
-  abbrev pub End : List IkeRecord → List IpsecRecord → Policy → List ℕ → List (Item 𝓤)
-  End zs us p ws =
+  abbrev pub End : List IkeRecord → List IpsecRecord → List Policy → List ℕ → List (Item 𝓤)
+  End zs us ps ws =
       ‵ (fres (ike a .name) (Q .coded .code zs)) ∷ ‵ (flft (κs .0) (qs .0)) ∷ ‵ (finally Rᵢ (ipsec a .name) us)
-      ∷ ‵ (flft (κs .1 .0) (qs .1 .0)) ∷ ‵ (fres (policy a .name) (Rₚ .coded .code p))
+      ∷ ‵ (flft (κs .1 .0) (qs .1 .0)) ∷ ‵ (fres (policies a .name) (Qₚ .coded .code ps))
       ∷ ‵ (flft (κs .1 .1 .0) (qs .1 .1 .0)) ∷ ‵ (flft (κs .1 .1 .1 .0) (qs .1 .1 .1 .0))
       ∷ ‵ (finally u8 (out a .name) ws) ∷ ‵ (flft (κs .1 .1 .1 .1 .0) (qs .1 .1 .1 .1 .0)) ∷ []
 
-  pub exits : Given 𝓤 H A → (act : Act) (r : Outcome) (zs : List IkeRecord) (us : List IpsecRecord) (p : Policy)
+  pub exits : Given 𝓤 H A → (act : Act) (r : Outcome) (zs : List IkeRecord) (us : List IpsecRecord) (ps : List Policy)
       (ws : List ℕ)
       → Is O.the-row r (outcome-vals r) → length us ≡ length (ipsec a .now) → length ws ≡ length (out a .now)
-      → Says a act r zs us p
-      → ent 𝓤 (⋆ 𝓤 H A (End zs us p ws)) (Post act (outcome-val r))
-  exits W act r zs us p ws is l₁ l₂ e =
-      qed W (End zs us p ws) ∵
+      → Says a act r zs us ps
+      → ent 𝓤 (⋆ 𝓤 H A (End zs us ps ws)) (Post act (outcome-val r))
+  exits W act r zs us ps ws is l₁ l₂ e =
+      qed W (End zs us ps ws) ∵
       suffices ! _ (ends-at 𝓤 H A ended stayed (clauses 𝓤 act) W ((κs, qs, tt, a, vals κs a), tt) (outcome-val r) r
-      (zs & us & p & tt & tt & ws & tt) (tt & l₁ & tt & tt & tt & l₂ & tt)) $ says ! e $
+      (zs & us & ps & tt & tt & ws & tt) (tt & l₁ & tt & tt & tt & l₂ & tt)) $ says ! e $
       nothing ! $ move ! (9 ∷ 0 ∷ []) $ join ! $ move ! (7 ∷ 0 ∷ []) $ join ! $ move ! (6 ∷ 0 ∷ []) $ join ! $
       move ! (4 ∷ 0 ∷ []) $ join ! $ move ! (2 ∷ 0 ∷ []) $ join ! $ frame ! $
       nothing ! $ move ! (4 ∷ 0 ∷ []) $ fjoin ! $ nothing ! $ fjoin ! $ nothing ! $ fjoin ! $ move ! (3 ∷ 0 ∷ []) $
@@ -151,12 +151,12 @@ module _ {M : Type 1} (𝓤 : URA M) (H : Heap 𝓤) (A : Atoms 𝓤) where
   goes W =
       let no = goes-dropped 𝓤 H A W 5 in
       goes-gave-ref 𝓤 H A W 5 0 tt table-slot & goes-gave-slice 𝓤 H A W 5 1 tt (val Rᵢ)
-      & goes-gave-ref 𝓤 H A W 5 2 tt (val Rₚ) & no (shrSliceOf (3 ∷ []) tt (val u8)) yes (λ κs x f. refl)
+      & goes-gave-ref 𝓤 H A W 5 2 tt policies-slot & no (shrSliceOf (3 ∷ []) tt (val u8)) yes (λ κs x f. refl)
       & no (val E.the-row) yes (λ κs x f. refl) & goes-gave-slice 𝓤 H A W 5 4 tt (val u8) & tt
 
   tells : (κs : Lfts 5) → Tellss (typesAt (signature .params) κs) (Ises (typesAt (signature .params) κs)) (spelled κs)
   tells κs =
-      mut-tells (named 0) (κs .0) Q & mut-slice-tells (named 1) (κs .1 .0) Rᵢ & mut-tells (named 2) (κs .1 .1 .0) Rₚ
+      mut-tells (named 0) (κs .0) Q & mut-slice-tells (named 1) (κs .1 .0) Rᵢ & mut-tells (named 2) (κs .1 .1 .0) Qₚ
       & shr-slice-tells (named 3) (κs .1 .1 .1 .0) u8 & LL.tells E.the-type E′.the-laws
       & mut-slice-tells (named 4) (κs .1 .1 .1 .1 .0) u8 & tt
 

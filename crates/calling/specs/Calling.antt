@@ -3,12 +3,13 @@
 --   pairIn, openingIn, requestIn   a pair, an opening, a request
 --   responseIn, cloneIn            the response to a check, a clone request
 --   spiIn, childIn, ownerIn        the SPI that leads an entry, of an IKE or an IPsec record, and an owner's
+--   closerIn, adderIn              the operator that closes or marks a record, and that adds one
 use Prim.Native.Nat.{ℕ, _%_, _^_}
 use mathlib.Core.List.{List}
 use lib.ListN.{getD}
 use Rattle.address.specs.declared.pair.Pair.{Pair}
 use Rattle.tables.specs.declared.calls.Opening.{Opening}
-use Rattle.given.specs.Given.{addressIn}
+use Rattle.given.specs.Given.{addressIn, operatorIn}
 use Rattle.given.specs.declared.reading.Span.{Span}
 use Rattle.calling.specs.declared.Given.{Given}
 use Rattle.calling.specs.declared.GivenResponse.{GivenResponse}
@@ -25,7 +26,7 @@ module _ (s slots : List ℕ) where
         «destination_port» = getD slots 6 0 % 2 ^ 16;
       }
 
-  -- the peer and whether cloning is agreed stand behind the IPsec SPI
+  -- the peer, whether cloning is agreed and the operator stand behind the IPsec SPI
   abbrev pub openingIn : Opening
   openingIn =
       record {
@@ -33,6 +34,7 @@ module _ (s slots : List ℕ) where
         agreed = record {
           mobike = getD slots 1 0 % 2 ^ 8;
           cloning = getD slots 9 0 % 2 ^ 8;
+          operator = operatorIn 10 slots;
           peer = getD slots 8 0 % 2 ^ 32;
         };
         pair = pairIn;
@@ -52,6 +54,7 @@ module _ (s slots : List ℕ) where
         body = record { at = getD slots 12 0; size = getD slots 13 0 };
         cookie = record { at = getD slots 14 0; size = getD slots 15 0 };
         «check_id» = getD slots 16 0 % 2 ^ 32;
+        operator = operatorIn 17 slots;
       }
 
 abbrev pub responseIn : List ℕ → GivenResponse
@@ -61,6 +64,7 @@ responseIn slots =
       id = getD slots 1 0 % 2 ^ 32;
       first = getD slots 2 0 % 2 ^ 8;
       body = record { at = getD slots 3 0; size = getD slots 4 0 };
+      operator = operatorIn 5 slots;
     }
 
 abbrev pub cloneIn : List ℕ → GivenClone
@@ -70,6 +74,7 @@ cloneIn slots =
       «new_spi» = getD slots 1 0;
       first = getD slots 2 0 % 2 ^ 8;
       body = record { at = getD slots 3 0; size = getD slots 4 0 };
+      operator = operatorIn 5 slots;
     }
 
 abbrev pub spiIn : List ℕ → ℕ
@@ -80,3 +85,10 @@ childIn slots = getD slots 0 0 % 2 ^ 32
 
 abbrev pub ownerIn : List ℕ → ℕ
 ownerIn slots = getD slots 1 0
+
+-- behind the SPI; behind the owner's
+abbrev pub closerIn : List ℕ → ℕ
+closerIn = operatorIn 1
+
+abbrev pub adderIn : List ℕ → ℕ
+adderIn = operatorIn 2

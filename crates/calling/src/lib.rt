@@ -7,7 +7,7 @@ use records::ike::Agreed;
 use tables::calls::Opening;
 ghost use mathlib.Core.Path.{_≡_};
 ghost use Rattle.calling.specs.Calling.{pairIn, openingIn, spiIn, childIn, ownerIn, requestIn, responseIn};
-ghost use Rattle.calling.specs.Calling.{cloneIn};
+ghost use Rattle.calling.specs.Calling.{cloneIn, closerIn, adderIn};
 
 // A request as an entry gives it.
 pub struct Given {
@@ -21,6 +21,8 @@ pub struct Given {
     // of the check that an update begins
     pub cookie: Span,
     pub check_id: u32,
+    // that it came to
+    pub operator: u8,
 }
 
 // The response to a check, as an entry gives it.
@@ -29,6 +31,7 @@ pub struct GivenResponse {
     pub id: u32,
     pub first: u8,
     pub body: Span,
+    pub operator: u8,
 }
 
 // A clone request, as an entry gives it.
@@ -37,6 +40,7 @@ pub struct GivenClone {
     pub new_spi: u64,
     pub first: u8,
     pub body: Span,
+    pub operator: u8,
 }
 
 // The pair of an opening or of a request, which stands in the same slots of both.
@@ -61,6 +65,7 @@ pub fn opening_in(s: &[u8], e: Slots) -> Opening
     let agreed = Agreed {
         mobike: (e.slots[1] % 0x100) as u8,
         cloning: (e.slots[9] % 0x100) as u8,
+        operator: (e.slots[10] % 0x100) as u8,
         peer: (e.slots[8] % 0x1_0000_0000) as u32,
     };
     Opening {
@@ -99,6 +104,20 @@ pub fn owner_in(e: Slots) -> u64
     e.slots[1]
 }
 
+// The operator that closes or marks the record whose SPI leads an entry.
+pub fn closer_in(e: Slots) -> u8
+    ensures { λ r. ⌜ r ≡ closerIn (e .slots) ⌝ }
+{
+    (e.slots[1] % 0x100) as u8
+}
+
+// The operator that adds an IPsec record.
+pub fn adder_in(e: Slots) -> u8
+    ensures { λ r. ⌜ r ≡ adderIn (e .slots) ⌝ }
+{
+    (e.slots[2] % 0x100) as u8
+}
+
 pub fn request_in(s: &[u8], e: Slots) -> Given
     ensures { λ r. ⌜ r ≡ requestIn (now (s .entry)) (e .slots) ⌝ }
 {
@@ -129,6 +148,7 @@ pub fn request_in(s: &[u8], e: Slots) -> Given
         body,
         cookie,
         check_id: (e.slots[16] % 0x1_0000_0000) as u32,
+        operator: (e.slots[17] % 0x100) as u8,
     }
 }
 
@@ -144,6 +164,7 @@ pub fn response_in(e: Slots) -> GivenResponse
         id: (e.slots[1] % 0x1_0000_0000) as u32,
         first: (e.slots[2] % 0x100) as u8,
         body,
+        operator: (e.slots[5] % 0x100) as u8,
     }
 }
 
@@ -160,5 +181,6 @@ pub fn clone_in(e: Slots) -> GivenClone
         new_spi: e.slots[1],
         first,
         body,
+        operator: (e.slots[5] % 0x100) as u8,
     }
 }

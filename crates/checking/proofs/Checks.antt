@@ -9,6 +9,7 @@ use lib.ListN.{length}
 use Rattle.octets.specs.Limits.{bodyMost, ipsecPlaces, natOctets, responseRoom}
 use Rattle.octets.specs.Checks.{Check}
 use Rattle.octets.specs.Flags.{isYes}
+use Rattle.octets.specs.Operators.{isOperator}
 use Rattle.octets.specs.Lists.{all}
 use Rattle.octets.proofs.Checks.{EachFailed, all-passed, first-failed, numbers-pass}
 use Rattle.octets.proofs.Small.{both}
@@ -19,6 +20,7 @@ use Rattle.checking.specs.Checks.{Request, argumentsFit, requestChecks, 
 
 module _ (lent : ℕ) (there : Bool) (agreed : Agreed) (q : Request) where
   pub record Passed : Type 0 where
+    pub operator : isOperator (q .operator) ≡ true
     pub named : not (eqb (q .spi) 0) ≡ true
     pub nat-source : length (q .asks .nat-source) ≡ natOctets
     pub nat-destination : length (q .asks .nat-destination) ≡ natOctets
@@ -27,6 +29,7 @@ module _ (lent : ℕ) (there : Bool) (agreed : Agreed) (q : Request) where
     pub room-enough : responseRoom ≤ q .room
     pub short : length (q .asks .body) ≤ bodyMost
     pub found : there ≡ true
+    pub own : agreed .operator ≡ q .operator
     pub mobike : isYes (agreed .mobike) ≡ true
 
   pub passed : earlyNumberBy lent there agreed q ≡ 0 → Passed
@@ -39,15 +42,17 @@ module _ (lent : ℕ) (there : Bool) (agreed : Agreed) (q : Request) where
       let destination = both (eqb (length (q .asks .nat-destination)) natOctets) _ (source .1) in
       let check = both (isPending (q .asks .check)) (pairFits (q .asks .pair)) (destination .1) in
       record {
+        operator = not-false (isOperator (q .operator)) (c .1 .0);
         named = named .0;
         nat-source = eqb-true _ natOctets (source .0);
         nat-destination = eqb-true _ natOctets (destination .0);
         check = check .0;
         pair = check .1;
-        room-enough = ltb-false (q .room) responseRoom (c .1 .0);
-        short = ltb-false bodyMost (length (q .asks .body)) (c .1 .1 .0);
-        found = not-false there (c .1 .1 .1 .0);
-        mobike = not-false (isYes (agreed .mobike)) (c .1 .1 .1 .1 .0);
+        room-enough = ltb-false (q .room) responseRoom (c .1 .1 .0);
+        short = ltb-false bodyMost (length (q .asks .body)) (c .1 .1 .1 .0);
+        found = not-false there (c .1 .1 .1 .1 .0);
+        own = eqb-true (agreed .operator) (q .operator) (not-false _ (c .1 .1 .1 .1 .1 .0));
+        mobike = not-false (isYes (agreed .mobike)) (c .1 .1 .1 .1 .1 .1 .0);
       }
 
   -- what holds of each number that a check gives, where it fails, and of 0

@@ -11,10 +11,10 @@ use Rattle.answering.specs.declared.packet.Packet.{Packet}
 use Rattle.checking.specs.Checks.{Request, requestOf, earlyNumberBy}
 use Rattle.checking.specs.declared.lookup.Looked.{Looked}
 
--- a request by its packet, the two lent NAT values, its body and its output's length
-abbrev pub requestBy : Packet → List ℕ → List ℕ → List ℕ → ℕ → Request
-requestBy packet nat-source nat-destination body room =
-    requestOf (packet .spi) (askedBy packet nat-source nat-destination body) room
+-- a request by its packet, the two lent NAT values, its body, its output's length and its operator
+abbrev pub requestBy : Packet → List ℕ → List ℕ → List ℕ → ℕ → ℕ → Request
+requestBy packet nat-source nat-destination body room operator =
+    requestOf (packet .spi) (askedBy packet nat-source nat-destination body) room operator
 
 abbrev pub lookedUp : ℕ → ℕ → IkeRecord → Looked
 lookedUp size place r = record { size = size; place = place; marks = marksIn r }

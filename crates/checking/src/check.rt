@@ -10,6 +10,7 @@ use octets::limits::IPSEC_PLACES;
 use octets::limits::NAT_OCTETS;
 use octets::limits::RESPONSE_ROOM;
 use octets::number::Number;
+use octets::operator::not_operator;
 use records::check::PendingCheck;
 use records::check::is_pending;
 ghost use mathlib.Core.Path.{_≡_};
@@ -58,11 +59,12 @@ pub fn early_number(
     nat_destination: &[u8],
     body: &[u8],
     room: usize,
+    operator: u8,
 ) -> Number
     ensures { λ r. ⌜ (
         let nat-source = now («nat_source» .entry) in
         let nat-destination = now («nat_destination» .entry) in
-        let q = requestBy packet nat-source nat-destination (now (body .entry)) room in
+        let q = requestBy packet nat-source nat-destination (now (body .entry)) room operator in
         numberOf r ≡ earlyNumberAt looked q
         ) ⌝ }
 {
@@ -79,6 +81,9 @@ pub fn early_number(
     ) {
         return Number::BadArgument;
     }
+    if not_operator(operator) {
+        return Number::BadArgument;
+    }
     if room < RESPONSE_ROOM {
         return Number::OutputTooShort;
     }
@@ -86,6 +91,9 @@ pub fn early_number(
         return Number::BodyTooLong;
     }
     if IKE_PLACES <= looked.place {
+        return Number::NoSuchRecord;
+    }
+    if marks.agreed.operator != operator {
         return Number::NoSuchRecord;
     }
     if is_yes(marks.agreed.mobike) {

@@ -18,7 +18,7 @@ use Rattle.reader.specs.declared.read.Reading.{Reading}
 use Rattle.answering.specs.Core.{chainError}
 use Rattle.clone_chain.proofs.Counted.{clone-counts, clone-refused, clone-broken-of}
 use Rattle.cloning.specs.Clone.{CloneRequest, earlyCloneChecks, earlyClone, lateCloneChecks, lateClone, cloneNotifies}
-use Rattle.cloning.proofs.Cloned.{original, records, read, early, late}
+use Rattle.cloning.proofs.Cloned.{original, records, own, read, early, late}
 use Rattle.numbers.specs.Numbers.{Some}
 use Rattle.numbers.proofs.Numbers.{some-at}
 use Rattle.clone_numbers.specs.CloneNumbers.{CloneRow, cloneRow, cloneRows, nothing, syntaxError}
@@ -53,12 +53,18 @@ module _ (ike : List IkeRecord) (q : CloneRequest) where
       first-failed (λ (k : ℕ). early ike q ≡ k → Found) (earlyCloneChecks (hasIke (q .spi) ike) (original ike q) q) (
         λ f e. at 1 (omega arith) c e refl refl refl,
         (
-          λ f e. at 2 (omega arith) c e refl refl refl,
+          λ f e. at 1 (omega arith) c e refl refl refl,
           (
-            λ f e. at 3 (omega arith) c e refl refl refl,
+            λ f e. at 2 (omega arith) c e refl refl refl,
             (
-              λ f e. at 4 (omega arith) c e refl refl refl,
-              (λ f e. at 5 (omega arith) c e refl refl refl, λ e. absurd (n e)),
+              λ f e. at 3 (omega arith) c e refl refl refl,
+              (
+                λ f e. at 4 (omega arith) c e refl refl refl,
+                (
+                  λ f e. at 4 (omega arith) c e refl refl refl,
+                  (λ f e. at 5 (omega arith) c e refl refl refl, λ e. absurd (n e)),
+                ),
+              ),
             ),
           ),
         ),
@@ -122,7 +128,8 @@ module _ (ike : List IkeRecord) (q : CloneRequest) where
       unfolding lateClone cloneNotifies
       whole-row =
           first-failed (λ (k : ℕ). late ike q ≡ k → Found)
-          (lateCloneChecks (read ike q) (original ike q) (hasIke 0 ike) (records ike q) (hasIke (q .new-spi) ike)) (
+          (lateCloneChecks (read ike q) (original ike q) (hasIke 0 ike) (records ike q) (hasIke (q .new-spi) ike)
+          (own ike q)) (
             λ f e. absurd (eqb-false _ 0 (not-true _ f) w),
             (
               λ f e. behind 12 (omega arith) e refl (rw whole) refl refl,
@@ -132,8 +139,11 @@ module _ (ike : List IkeRecord) (q : CloneRequest) where
                   λ f e. behind 14 (omega arith) e refl (rw whole) refl refl,
                   (
                     λ f e. behind 15 (omega arith) e refl (rw whole) refl refl,
-                    λ e. at 0 (omega arith) (done ike q passes e) refl (rw whole)
-                        (clone-counts (q .first) (q .body) w) refl,
+                    (
+                      λ f e. behind 16 (omega arith) e refl (rw whole) refl refl,
+                      λ e. at 0 (omega arith) (done ike q passes e) refl (rw whole)
+                          (clone-counts (q .first) (q .body) w) refl,
+                    ),
                   ),
                 ),
               ),

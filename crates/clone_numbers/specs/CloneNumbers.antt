@@ -1,5 +1,5 @@
 -- Trusted. The numbers that a clone request gives back, as 01's table has those of requests: for each number the
--- response, the payloads that are counted, and the IKE table after it (02, E8).
+-- response, the payloads that are counted, and the IKE table after it (02, E8 and E9).
 --   nothing, only, syntaxError, unsupportedCritical      the response
 --   noPayloads, allPayloads                              what is counted
 --   unchanged, withClone                                 the IKE table after it
@@ -15,7 +15,7 @@ use Rattle.octets.specs.declared.number.Number.the-variants.{NoSuchRecord, SpiI
 use Rattle.octets.specs.declared.number.Number.the-variants.{BadChainLength, BadNotify, BadDataSize}
 use Rattle.octets.specs.declared.number.Number.the-variants.{Repeated, OctetsAfterEnd}
 use Rattle.octets.specs.declared.number.Number.the-variants.{CloningNotAgreed, NoCloneRequest, CannotCloneNow}
-use Rattle.octets.specs.declared.number.Number.the-variants.{PeerAtLimit}
+use Rattle.octets.specs.declared.number.Number.the-variants.{PeerAtLimit, OperatorAtShare}
 use Rattle.octets.specs.Lists.{placeOf}
 use Rattle.octets.specs.Numbers.{numberOf}
 use Rattle.octets.specs.Wire.{invalidSyntax, unsupportedCriticalPayload}
@@ -33,7 +33,8 @@ use Rattle.numbers.specs.Numbers.{Some}
 abbrev pub nothing : CloneRequest → List Notification
 nothing q = []
 
--- one notification with no data: E8: "Done writes CLONE_IKE_SA", "TEMPORARY_FAILURE, 43", "NO_ADDITIONAL_SAS, 35"
+-- one notification with no data: E8: "Done writes CLONE_IKE_SA", "TEMPORARY_FAILURE, 43", "NO_ADDITIONAL_SAS, 35"; E9:
+-- with 43 "cloning then writes NO_ADDITIONAL_SAS"
 abbrev pub only : ℕ → CloneRequest → List Notification
 only notifyType q = notification notifyType [] ∷ []
 
@@ -76,7 +77,8 @@ cloneRow n response payloads left =
 
 -- E8: "Refusals, in order: 1, 2, 3, 4, 40 support not agreed, 6, 7, 44 no CLONE_IKE_SA there, 41 being deleted or table
 -- full (TEMPORARY_FAILURE, 43), 42 peer has 4 records or more (NO_ADDITIONAL_SAS, 35), 11"; E4: "61 to 65 take 6's
--- place in the order".
+-- place in the order"; E9: "43 operator at its share ..., after every 11", and "A call for one operator finds only its
+-- own records, else answer 4".
 abbrev pub cloneRows : List CloneRow
 cloneRows =
     cloneRow Done (only cloneIkeSa) allPayloads withClone
@@ -95,6 +97,7 @@ cloneRows =
     ∷ cloneRow CannotCloneNow (only temporaryFailure) allPayloads unchanged
     ∷ cloneRow PeerAtLimit (only noAdditionalSas) allPayloads unchanged
     ∷ cloneRow SpiInUse nothing allPayloads unchanged
+    ∷ cloneRow OperatorAtShare (only noAdditionalSas) allPayloads unchanged
     ∷ []
 
 -- What a clone request gives back is a row: number, response with its first type and its length, payloads, IKE table.
@@ -107,6 +110,6 @@ pub record CloneGives (ike : List IkeRecord) (q : CloneRequest) (r : CloneRow) :
   pub left : cloned ike q .ike ≡ r .ike q ike
 
 -- Demand 1: "Each refusal has a number in document 01. It changes no table and writes nothing but what that table
--- names." Of every clone request, from any table; no two rows have one number.
+-- names." Of every clone request, whatever it names as its operator, from any table; no two rows have one number.
 abbrev pub CloneAsTheTable : Type 0
 CloneAsTheTable = (ike : List IkeRecord) (q : CloneRequest) → Some (CloneGives ike q) cloneRows

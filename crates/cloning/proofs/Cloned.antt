@@ -10,7 +10,7 @@ use borrow.Author.Tests.{eqb-true, eqb-false, ltb-true, ltb-false, leb-false, no
 use lib.Dec.{eqb, leb, ltb}
 use lib.ListN.{length, set}
 use lib.Seq.{set-out}
-use Rattle.octets.specs.Limits.{ikePlaces, peerRecordsMost}
+use Rattle.octets.specs.Limits.{ikePlaces, peerRecordsMost, ikeShare}
 use Rattle.octets.specs.Lists.{placeOf}
 use Rattle.octets.specs.Flags.{isYes}
 use Rattle.octets.specs.Checks.{Check, firstFailed}
@@ -19,7 +19,7 @@ use Rattle.octets.proofs.Small.{neither}
 use Rattle.writing.specs.Notify.{chained}
 use Rattle.records.specs.Records.{ikeSpi, cloneOf}
 use Rattle.records.specs.declared.ike.IkeRecord.{IkeRecord}
-use Rattle.tables.specs.Calls.{hasIke}
+use Rattle.tables.specs.Calls.{hasIke, ikesOf}
 use Rattle.tables.specs.Tables.{meant}
 use Rattle.reader.specs.Chain.{count, chainAt}
 use Rattle.clone_chain.specs.CloneChain.{cloneReading}
@@ -45,11 +45,14 @@ module _ (ike : List IkeRecord) (q : CloneRequest) where
   original = meant ike (q .spi)
 
   abbrev pub records : ℕ
-  records = recordsOf (original .agreed .peer) ike
+  records = recordsOf (q .operator) (original .agreed .peer) ike
+
+  abbrev pub own : ℕ
+  own = ikesOf (q .operator) ike
 
   -- what the code decides by what it looked up
   abbrev pub decided : CloneAnswer
-  decided = cloneAt place free taken records original q
+  decided = cloneAt place free taken records own original q
 
   abbrev pub read : CloneReading
   read = cloneReading (q .first) (q .body)
@@ -67,7 +70,7 @@ module _ (ike : List IkeRecord) (q : CloneRequest) where
 
   pub clones : length ike ≡ ikePlaces
       → (decided .reply ≡ cloned ike q .reply) × (set ike (decided .place) (decided .entry) ≡ cloned ike q .ike)
-      × (octetsAt place free taken records original q ≡ cloned ike q .octets)
+      × (octetsAt place free taken records own original q ≡ cloned ike q .octets)
   unfolding cloned cloneAt octetsAt
   clones long = rw long (go (eqb before 0) (eqb behind 0))
     where
@@ -75,7 +78,7 @@ module _ (ike : List IkeRecord) (q : CloneRequest) where
       before = earlyClone (ltb place ikePlaces) original q
 
       behind : ℕ
-      behind = lateClone read original (ltb free ikePlaces) records (ltb taken ikePlaces)
+      behind = lateClone read original (ltb free ikePlaces) records (ltb taken ikePlaces) own
 
       go : (b d : Bool)
           → let c = comes before behind b d in
@@ -93,10 +96,11 @@ module _ (ike : List IkeRecord) (q : CloneRequest) where
   abbrev whole-checks : List Check
   whole-checks =
       let limited = leb peerRecordsMost records in
-      wholeCloneChecks (read .clone) (isYes (original .deleting)) (hasIke 0 ike) limited (hasIke (q .new-spi) ike)
+      let taken-so = hasIke (q .new-spi) ike in
+      wholeCloneChecks (read .clone) (isYes (original .deleting)) (hasIke 0 ike) limited taken-so (leb ikeShare own)
 
   abbrev pub late : ℕ
-  late = lateClone read original (hasIke 0 ike) records (hasIke (q .new-spi) ike)
+  late = lateClone read original (hasIke 0 ike) records (hasIke (q .new-spi) ike) own
 
   -- a reading that is refused has its own number, which is not 0
   late-passed : late ≡ 0 → (read .reading .number ≡ 0) × AllPassed whole-checks
@@ -119,6 +123,7 @@ module _ (ike : List IkeRecord) (q : CloneRequest) where
     pub room : free < length ike
     pub few : records < peerRecordsMost
     pub fresh : length ike ≤ taken
+    pub share : own < ikeShare
     pub is : cloned ike q .ike ≡ set ike free new
 
   -- a refusal, and the table as it was
@@ -146,6 +151,7 @@ module _ (ike : List IkeRecord) (q : CloneRequest) where
             room = ltb-true _ _ (not-false _ (now .1));
             few = leb-false _ _ (h .1 .1 .1 .0);
             fresh = ltb-false _ _ (h .1 .1 .1 .1 .0);
+            share = leb-false _ _ (h .1 .1 .1 .1 .1 .0);
             is = rw (e, f);
           })
 

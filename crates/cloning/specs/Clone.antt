@@ -1,7 +1,7 @@
 -- Trusted. A clone request (RFC 7791): 02, E8; what `unmavreth_clone` gives back and leaves.
 --
 --   CloneRequest          a clone request, as it is given
---   recordsOf             how many IKE records a peer has
+--   recordsOf             how many IKE records of an operator a peer has
 --   earlyCloneChecks      the checks before its chain is read, in their order; `earlyClone` the first that fails
 --   lateCloneChecks       those by its chain and behind it, `wholeCloneChecks`; `lateClone` likewise
 --   cloneNotifies         the response; `cloneNotify` the notify type that a number writes
@@ -16,17 +16,19 @@ use lib.Dec.{eqb, leb, ltb}
 use lib.ListN.{length, set}
 use Rattle.octets.specs.Checks.{Check, _gives_, firstFailed}
 use Rattle.octets.specs.Flags.{isYes}
-use Rattle.octets.specs.Limits.{bodyMost, responseRoom, peerRecordsMost}
+use Rattle.octets.specs.Operators.{isOperator}
+use Rattle.octets.specs.Limits.{bodyMost, responseRoom, peerRecordsMost, ikeShare}
 use Rattle.octets.specs.Lists.{placeOf, howMany}
 use Rattle.octets.specs.Numbers.{numberOf}
 use Rattle.octets.specs.Wire.{cloneIkeSa, temporaryFailure, noAdditionalSas}
 use Rattle.octets.specs.declared.number.Number.the-variants.{Done, BadArgument, OutputTooShort, BodyTooLong}
 use Rattle.octets.specs.declared.number.Number.the-variants.{NoSuchRecord, SpiInUse, CloningNotAgreed}
 use Rattle.octets.specs.declared.number.Number.the-variants.{NoCloneRequest, CannotCloneNow, PeerAtLimit}
+use Rattle.octets.specs.declared.number.Number.the-variants.{OperatorAtShare}
 use Rattle.writing.specs.Notify.{Notification, notification, placed, chained, firstType}
 use Rattle.records.specs.Records.{ikeSpi, cloneOf, ofPeer}
 use Rattle.records.specs.declared.ike.IkeRecord.{IkeRecord}
-use Rattle.tables.specs.Calls.{hasIke}
+use Rattle.tables.specs.Calls.{hasIke, ikesOf}
 use Rattle.tables.specs.Tables.{meant}
 use Rattle.reader.specs.Chain.{count, chainAt, faultGiven}
 use Rattle.reader.specs.declared.read.Reading.{Reading}
@@ -35,29 +37,34 @@ use Rattle.clone_chain.specs.CloneChain.{cloneReading}
 use Rattle.clone_chain.specs.declared.read.CloneReading.{CloneReading}
 use Rattle.cloning.specs.declared.clone.CloneReply.{CloneReply}
 
--- E8: "a CREATE_CHILD_SA request given as an IKE rekey (SPI, new SPI, first type, body)"; `room` is the output's length.
+-- E8: "a CREATE_CHILD_SA request given as an IKE rekey (SPI, new SPI, first type, body)"; `room` is the
+-- output's length. E9: and its operator.
 pub record CloneRequest : Type 0 where
   pub spi : ℕ
   pub new-spi : ℕ
   pub first : ℕ
   pub body : List ℕ
   pub room : ℕ
+  pub operator : ℕ
 
-abbrev pub cloneRequest : ℕ → ℕ → ℕ → List ℕ → ℕ → CloneRequest
-cloneRequest spi new-spi first body room =
-    record { spi = spi; new-spi = new-spi; first = first; body = body; room = room }
+abbrev pub cloneRequest : ℕ → ℕ → ℕ → List ℕ → ℕ → ℕ → CloneRequest
+cloneRequest spi new-spi first body room operator =
+    record { spi = spi; new-spi = new-spi; first = first; body = body; room = room; operator = operator }
 
-abbrev pub recordsOf : ℕ → List IkeRecord → ℕ
-recordsOf peer ike = howMany (ofPeer peer) ike
+-- E9: "peer limits are per operator".
+abbrev pub recordsOf : ℕ → ℕ → List IkeRecord → ℕ
+recordsOf operator peer ike = howMany (ofPeer operator peer) ike
 
 -- E8: "Refusals, in order: 1, 2, 3, 4, 40 support not agreed", those before the chain is read. `there` says whether the
--- SPI means a record, and `e` is that record.
+-- SPI means a record, and `e` is that record. E9: "A call for one operator finds only its own records, else answer 4".
 abbrev pub earlyCloneChecks : Bool → IkeRecord → CloneRequest → List Check
 earlyCloneChecks there e q =
     (eqb (q .spi) 0 || eqb (q .new-spi) 0) gives BadArgument
+    ∷ not (isOperator (q .operator)) gives BadArgument
     ∷ ltb (q .room) responseRoom gives OutputTooShort
     ∷ ltb bodyMost (length (q .body)) gives BodyTooLong
     ∷ not there gives NoSuchRecord
+    ∷ not (eqb (e .agreed .operator) (q .operator)) gives NoSuchRecord
     ∷ not (isYes (e .agreed .cloning)) gives CloningNotAgreed
     ∷ []
 
@@ -65,32 +72,34 @@ unfoldable pub earlyClone : Bool → IkeRecord → CloneRequest → ℕ
 earlyClone there e q = firstFailed (earlyCloneChecks there e q)
 
 -- E8: "6, 7", which reading tells, "44 no CLONE_IKE_SA there, 41 being deleted or table full (TEMPORARY_FAILURE, 43), 42
--- peer has 4 records or more (NO_ADDITIONAL_SAS, 35), 11". `free` says whether a place is free, `taken` whether a record
--- has the new SPI, and `records` how many the peer has.
-abbrev pub wholeCloneChecks : Bool → Bool → Bool → Bool → Bool → List Check
-wholeCloneChecks there deleting free limited taken =
+-- peer has 4 records or more (NO_ADDITIONAL_SAS, 35), 11"; E9: "43 operator at its share". `free` says whether a place is
+-- free, `taken` whether a record has the new SPI, `records` how many the peer has, and `own` how many the operator.
+abbrev pub wholeCloneChecks : Bool → Bool → Bool → Bool → Bool → Bool → List Check
+wholeCloneChecks there deleting free limited taken full =
     not there gives NoCloneRequest
     ∷ (deleting || not free) gives CannotCloneNow
     ∷ limited gives PeerAtLimit
     ∷ taken gives SpiInUse
+    ∷ full gives OperatorAtShare
     ∷ []
 
-abbrev pub lateCloneChecks : CloneReading → IkeRecord → Bool → ℕ → Bool → List Check
-lateCloneChecks r e free records taken =
+abbrev pub lateCloneChecks : CloneReading → IkeRecord → Bool → ℕ → Bool → ℕ → List Check
+lateCloneChecks r e free records taken own =
     faultGiven (r .reading)
-    ∷ wholeCloneChecks (r .clone) (isYes (e .deleting)) free (leb peerRecordsMost records) taken
+    ∷ wholeCloneChecks (r .clone) (isYes (e .deleting)) free (leb peerRecordsMost records) taken (leb ikeShare own)
 
-unfoldable pub lateClone : CloneReading → IkeRecord → Bool → ℕ → Bool → ℕ
-lateClone r e free records taken = firstFailed (lateCloneChecks r e free records taken)
+unfoldable pub lateClone : CloneReading → IkeRecord → Bool → ℕ → Bool → ℕ → ℕ
+lateClone r e free records taken own = firstFailed (lateCloneChecks r e free records taken own)
 
--- E8: "Done writes CLONE_IKE_SA"; "TEMPORARY_FAILURE, 43" with 41, "NO_ADDITIONAL_SAS, 35" with 42; "40 and 44 write
--- nothing", and by 01's table 11 neither. The notify type that a number writes, of a chain that was read whole; 0: none.
+-- E8: "Done writes CLONE_IKE_SA"; "TEMPORARY_FAILURE, 43" with 41, "NO_ADDITIONAL_SAS, 35" with 42; E9: with 43 "cloning
+-- then writes NO_ADDITIONAL_SAS"; "40 and 44 write nothing", and by 01's table 11 neither. The notify type that a number writes, of a chain that was read whole; 0: none.
 -- An answer and a notify type of the same number are two things: answer 41 writes type 43.
 abbrev pub cloneNotify : ℕ → ℕ
 cloneNotify number =
     cond (eqb number (numberOf Done)) cloneIkeSa
     (cond (eqb number (numberOf CannotCloneNow)) temporaryFailure
-    (cond (eqb number (numberOf PeerAtLimit)) noAdditionalSas 0))
+    (cond (eqb number (numberOf PeerAtLimit)) noAdditionalSas
+    (cond (eqb number (numberOf OperatorAtShare)) noAdditionalSas 0)))
 
 -- The response to a request whose chain was read: 01's errors for 61 to 65 and 7, else the notification of its number.
 unfoldable pub cloneNotifies : ℕ → Reading → List Notification
@@ -132,7 +141,8 @@ cloned ike q =
     let e = meant ike (q .spi) in
     let early = earlyClone (hasIke (q .spi) ike) e q in
     let r = cloneReading (q .first) (q .body) in
-    let late = lateClone r e (hasIke 0 ike) (recordsOf (e .agreed .peer) ike) (hasIke (q .new-spi) ike) in
+    let records = recordsOf (q .operator) (e .agreed .peer) ike in
+    let late = lateClone r e (hasIke 0 ike) records (hasIke (q .new-spi) ike) (ikesOf (q .operator) ike) in
     let told = cloneTold late (r .reading) in
     let octets = chained (cloneNotifies late (r .reading)) 0 in
     cond (not (eqb early 0)) (clonedAs (notCloned early) [] ike)

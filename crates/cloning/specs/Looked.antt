@@ -14,12 +14,12 @@ use Rattle.clone_chain.specs.declared.read.CloneReading.{CloneReading}
 use Rattle.cloning.specs.Clone.{CloneRequest, earlyClone, lateClone, notCloned, cloneTold, cloneNotifies}
 use Rattle.cloning.specs.declared.clone.CloneAnswer.{CloneAnswer}
 
-module _ (place free taken records : ℕ) (e : IkeRecord) (q : CloneRequest) where
+module _ (place free taken records own : ℕ) (e : IkeRecord) (q : CloneRequest) where
   abbrev pub early : ℕ
   early = earlyClone (ltb place ikePlaces) e q
 
   abbrev pub late : ℕ
-  late = lateClone (cloneReading (q .first) (q .body)) e (ltb free ikePlaces) records (ltb taken ikePlaces)
+  late = lateClone (cloneReading (q .first) (q .body)) e (ltb free ikePlaces) records (ltb taken ikePlaces) own
 
   -- nothing is stored past the end of the table
   unfoldable pub cloneAt : CloneAnswer

@@ -6,10 +6,12 @@ use notify::notify::NotifyType;
 use octets::flag::is_yes;
 use octets::limits::BODY_MOST;
 use octets::limits::IKE_PLACES;
+use octets::limits::IKE_SHARE;
 use octets::limits::PEER_RECORDS_MOST;
 use octets::limits::RESPONSE_ROOM;
 use octets::number::Number;
 use octets::number::number_of;
+use octets::operator::not_operator;
 use reader::read::Reading;
 use records::ike::IkeRecord;
 use records::ike::clone_of;
@@ -59,9 +61,10 @@ pub fn early_clone(
     first: u8,
     body: &[u8],
     room: usize,
+    operator: u8,
 ) -> Number
     ensures { λ r. ⌜ (
-        let q = cloneRequest spi «new_spi» first (now (body .entry)) room in
+        let q = cloneRequest spi «new_spi» first (now (body .entry)) room operator in
         numberOf r ≡ earlyClone (ltb place ikePlaces) entry q
         ) ⌝ }
 {
@@ -70,6 +73,9 @@ pub fn early_clone(
         return Number::BadArgument;
     }
     if new_spi == 0 {
+        return Number::BadArgument;
+    }
+    if not_operator(operator) {
         return Number::BadArgument;
     }
     if room < RESPONSE_ROOM {
@@ -81,6 +87,9 @@ pub fn early_clone(
     if IKE_PLACES <= place {
         return Number::NoSuchRecord;
     }
+    if agreed.operator != operator {
+        return Number::NoSuchRecord;
+    }
     if is_yes(agreed.cloning) {
         Number::Done
     } else {
@@ -89,9 +98,16 @@ pub fn early_clone(
 }
 
 // The number of a chain that was read whole, by the checks in their order: CLONE_IKE_SA is there, the record is being
-// deleted, a place is free, the peer is at its limit, the new SPI is taken.
-pub fn whole_number(there: bool, deleting: bool, free: bool, limited: bool, taken: bool) -> Number
-    ensures { λ r. ⌜ numberOf r ≡ firstFailed (wholeCloneChecks there deleting free limited taken) ⌝ }
+// deleted, a place is free, the peer is at its limit, the new SPI is taken, the operator is at its share.
+pub fn whole_number(
+    there: bool,
+    deleting: bool,
+    free: bool,
+    limited: bool,
+    taken: bool,
+    full: bool,
+) -> Number
+    ensures { λ r. ⌜ numberOf r ≡ firstFailed (wholeCloneChecks there deleting free limited taken full) ⌝ }
 {
     if !there {
         return Number::NoCloneRequest;
@@ -106,7 +122,10 @@ pub fn whole_number(there: bool, deleting: bool, free: bool, limited: bool, take
         return Number::PeerAtLimit;
     }
     if taken {
-        Number::SpiInUse
+        return Number::SpiInUse;
+    }
+    if full {
+        Number::OperatorAtShare
     } else {
         Number::Done
     }
@@ -119,8 +138,9 @@ pub fn late_clone(
     free: bool,
     records: usize,
     taken: bool,
+    own: usize,
 ) -> u8
-    ensures { λ r. ⌜ r ≡ lateClone read entry free records taken ⌝ }
+    ensures { λ r. ⌜ r ≡ lateClone read entry free records taken own ⌝ }
 {
     let reading = read.reading;
     if reading.number != 0 {
@@ -128,7 +148,8 @@ pub fn late_clone(
     }
     let deleting = is_yes(entry.deleting);
     let limited = PEER_RECORDS_MOST <= records;
-    number_of(whole_number(read.clone, deleting, free, limited, taken))
+    let full = IKE_SHARE <= own;
+    number_of(whole_number(read.clone, deleting, free, limited, taken, full))
 }
 
 // The notify type that a number writes, of a chain that was read whole; 0: none.
@@ -142,6 +163,9 @@ pub fn clone_notify(number: u8) -> u16
         return NotifyType::TEMPORARY_FAILURE;
     }
     if number == number_of(Number::PeerAtLimit) {
+        return NotifyType::NO_ADDITIONAL_SAS;
+    }
+    if number == number_of(Number::OperatorAtShare) {
         NotifyType::NO_ADDITIONAL_SAS
     } else {
         0
@@ -178,26 +202,30 @@ pub fn not_cloned(number: u8) -> CloneReply
 }
 
 // A clone request by what was looked up: the lowest place with its SPI and the record there, the lowest free place, the
-// lowest with the new SPI, and how many records the peer has. The response goes to the start of `out`.
+// lowest with the new SPI, and how many records the peer has and the operator. The response goes to the start of `out`.
 pub fn clone_at(
     place: usize,
     entry: IkeRecord,
     free: usize,
     taken: usize,
     records: usize,
+    own: usize,
     spi: u64,
     new_spi: u64,
     first: u8,
     body: &[u8],
     out: &mut [u8],
+    operator: u8,
 ) -> CloneAnswer
     ensures { λ r. ⌜ (
-        let q = cloneRequest spi «new_spi» first (now (body .entry)) (length (now (out .entry))) in
-        (r ≡ cloneAt place free taken records entry q)
-        × (now (out .exit) ≡ placed (now (out .entry)) 0 (octetsAt place free taken records entry q))
+        let room = length (now (out .entry)) in
+        let q = cloneRequest spi «new_spi» first (now (body .entry)) room operator in
+        (r ≡ cloneAt place free taken records own entry q)
+        × (now (out .exit) ≡ placed (now (out .entry)) 0 (octetsAt place free taken records own entry q))
         ) ⌝ }
 {
-    let early = number_of(early_clone(place, entry, spi, new_spi, first, body, out.len()));
+    let room = out.len();
+    let early = number_of(early_clone(place, entry, spi, new_spi, first, body, room, operator));
     if early != 0 {
         return CloneAnswer {
             reply: not_cloned(early),
@@ -207,7 +235,14 @@ pub fn clone_at(
     }
     let read = read_clone(first, body);
     let reading = read.reading;
-    let number = late_clone(read, entry, free < IKE_PLACES, records, taken < IKE_PLACES);
+    let number = late_clone(
+        read,
+        entry,
+        free < IKE_PLACES,
+        records,
+        taken < IKE_PLACES,
+        own,
+    );
     let response = respond_clone(number, reading, out);
     let seen = reading.seen;
     let tally = seen.tally;

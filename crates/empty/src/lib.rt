@@ -1,7 +1,8 @@
-// What a replay starts with: empty tables, a policy with no rule, and buffers.
+// What a replay starts with: empty tables, policies with no rule, and buffers.
 use octets::limits::ADDRESS_OCTETS;
 use octets::limits::IKE_PLACES;
 use octets::limits::IPSEC_PLACES;
+use octets::limits::OPERATORS;
 use octets::limits::RESPONSE_ROOM;
 use octets::limits::RULES_MOST;
 use policy::rules::Policy;
@@ -13,8 +14,8 @@ use records::ipsec::no_ipsec;
 ghost use mathlib.Core.Path.{_≡_};
 ghost use Prim.Native.Nat.{_≤_};
 ghost use lib.ListN.{length, replicate};
-ghost use Rattle.octets.specs.Limits.{ikePlaces, ipsecPlaces, rulesMost};
-ghost use Rattle.policy.specs.Policy.{noRule};
+ghost use Rattle.octets.specs.Limits.{ikePlaces, ipsecPlaces, operators};
+ghost use Rattle.policy.specs.Policy.{noPolicy};
 ghost use Rattle.records.specs.Records.{noIke, noIpsec};
 ghost use Rattle.entry_laws.specs.Sight.{entrySight};
 
@@ -35,8 +36,8 @@ pub fn no_ipsecs() -> [IpsecRecord; IPSEC_PLACES]
     [k; IPSEC_PLACES]
 }
 
-pub fn no_policy() -> Policy
-    ensures { λ r. ⌜ r ≡ record { count = 0; rules = replicate rulesMost noRule } ⌝ }
+fn no_policy() -> Policy
+    ensures { λ r. ⌜ r ≡ noPolicy ⌝ }
 {
     let none = Rule {
         family: 0,
@@ -47,6 +48,13 @@ pub fn no_policy() -> Policy
     };
     let rules = [none; RULES_MOST];
     Policy { count: 0, rules }
+}
+
+pub fn no_policies() -> [Policy; OPERATORS]
+    ensures { λ r. ⌜ r ≡ replicate operators noPolicy ⌝ }
+{
+    let k = no_policy();
+    [k; OPERATORS]
 }
 
 pub fn no_window() -> [u8; WINDOW]

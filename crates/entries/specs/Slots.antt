@@ -6,9 +6,9 @@ use Rattle.entries.specs.Kinds.{fieldsOf}
 use Rattle.entries.specs.declared.kind.Kind.{Kind}
 use Rattle.entries.specs.declared.kind.Kind.the-variants.{Policy}
 
--- a policy's count, and five for each of its 16 places
+-- a policy's count, five for each of its 16 places, and its operator behind them
 abbrev pub entrySlots : ℕ
-entrySlots = 81
+entrySlots = 82
 
 abbrev pub Enough : Type 0
 Enough = (k : Kind) → width (fieldsOf k) ≤ entrySlots

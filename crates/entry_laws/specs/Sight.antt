@@ -2,7 +2,7 @@
 -- through a window.
 -- Shown in proofs/Sight.antt.
 --   entryMost    how long an entry can be: a request with two NAT values, a body and a cookie of 4,096 octets each
---   entrySight   so many octets decide: the ID that ends such a request, too large for its field, has up to ten
+--   entrySight   so many octets decide: the operator that ends such a request, too large for its field, has up to ten
 --   InSight      what comes later changes nothing, and what is not cut never does
 use Prim.Native.Nat.{ℕ, _+_, _≤_}
 use mathlib.Core.Path.{_≡_}
@@ -16,10 +16,10 @@ use Rattle.entries.specs.declared.kind.Kind.{Kind}
 use Rattle.entries.specs.declared.kind.Kind.the-variants.{Request}
 
 abbrev pub entryMost : ℕ
-entryMost = 16455
+entryMost = 16456
 
 abbrev pub entrySight : ℕ
-entrySight = 16460
+entrySight = 16465
 
 pub record InSight : Type 0 where
   -- with so much in sight, what comes later changes nothing: neither the entry, nor a refusal

@@ -172,30 +172,31 @@ module _ (q : Draft) (z : Sized q) (fits : requestFits q ≡ true) (r : Received
           (taken (q .cookie) (firstType (requested p) 0) (length (requested p)) (requestOctets p) cf (g .number)
           (g .tally) (ap (λ (x : Draft). x .cookie) (g .values)))
 
-  module _ (policy : Policy) (ike : List IkeRecord) (ipsec : List IpsecRecord) where
+  module _ (policies : List Policy) (ike : List IkeRecord) (ipsec : List IpsecRecord) where
     abbrev early : ℕ
     early = earlyNumber ike ipsec r
 
-    understood : Understood q (handled policy ike ipsec r .reply) (handledResponse policy ike ipsec r)
+    understood : Understood q (handled policies ike ipsec r .reply) (handledResponse policies ike ipsec r)
     unfolding handled handledResponse
     understood = go (ℕ-discrete early 0)
       where
-        go : Dec (early ≡ 0) → Understood q (handled policy ike ipsec r .reply) (handledResponse policy ike ipsec r)
+        go : Dec (early ≡ 0) → Understood q (handled policies ike ipsec r .reply) (handledResponse policies ike ipsec r)
         go (yes e) =
-            let o = core-fine (accepts policy r) (marksIn (meant ike (r .spi))) in
+            let o = core-fine (accepts policies r) (marksIn (meant ike (r .spi))) in
             let p = passed _ _ _ r e in
             rw (eq-eqb early 0 e)
             (record {
               no-fault = o;
               accepted =
-                  core-accepted (accepts policy r) (marksIn (meant ike (r .spi))) (p .nat-source) (p .nat-destination);
+                  core-accepted (accepts policies r) (marksIn (meant ike (r .spi))) (p .nat-source)
+                  (p .nat-destination);
             })
         go (no n) =
             let o = others early (early-passes _ _ _ r isOther refl refl) in
             rw (ne-eqb early 0 n) (record { no-fault = o; accepted = λ e. absurd (n e) })
 
 pub all-understood : AllUnderstood
-all-understood q room z e policy ike ipsec r c =
+all-understood q room z e policies ike ipsec r c =
     let n = number-zero q room e in
     let w = fits-written q room (n .0) (n .1) in
-    understood q z (n .0) r (c .first ∙ ap (λ (x : Written). x .first) (w .0)) (c .body ∙ w .1) policy ike ipsec
+    understood q z (n .0) r (c .first ∙ ap (λ (x : Written). x .first) (w .0)) (c .body ∙ w .1) policies ike ipsec

@@ -3,7 +3,7 @@
 --   Carried          what the hosts must do between the two
 --   Accepted         the initiator accepts a response
 --   Understood       what holds of the reply and of the response
---   AllUnderstood    the statement: of every written request, from any policy and any tables
+--   AllUnderstood    the statement: of every written request, from any policies and any tables
 use Prim.Native.Nat.{ℕ}
 use mathlib.Core.Path.{_≡_}
 use mathlib.Core.List.{List}
@@ -26,7 +26,8 @@ use Rattle.initiator.specs.declared.response.Outcome.the-variants as told
 use Rattle.exchange.specs.RoundTrips.{Sized}
 
 -- What the hosts must do: hand the responder the first type and the octets that the writer gave. The SPI, the ID, the
--- packet's pair, the lent NAT values, the check that is lent and the responder's output are free.
+-- packet's pair, the lent NAT values, the check that is lent, the responder's output and the operator (02, E9) are
+-- free.
 pub record Carried (q : Draft) (room : ℕ) (r : Received) : Type 0 where
   pub first : r .asks .first ≡ written q room .first
   pub body : r .asks .body ≡ writtenOctets q room
@@ -45,9 +46,9 @@ pub record Understood (q : Draft) (reply : Reply) (response : List ℕ) : Type 0
   pub accepted : reply .number ≡ numberOf Done
       → Accepted (q .cookie) response (assessment (q .cookie) (reply .first) response)
 
--- From any policy and any tables.
+-- From any policies and any tables.
 abbrev pub AllUnderstood : Type 0
 AllUnderstood =
     (q : Draft) (room : ℕ) → Sized q → written q room .number ≡ 0
-    → (policy : Policy) (ike : List IkeRecord) (ipsec : List IpsecRecord) (r : Received) → Carried q room r
-    → Understood q (handled policy ike ipsec r .reply) (handledResponse policy ike ipsec r)
+    → (policies : List Policy) (ike : List IkeRecord) (ipsec : List IpsecRecord) (r : Received) → Carried q room r
+    → Understood q (handled policies ike ipsec r .reply) (handledResponse policies ike ipsec r)

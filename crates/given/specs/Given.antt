@@ -2,6 +2,7 @@
 -- (`Performing` in replays/specs/Same.antt).
 --   addressIn s at, stringIn s at size   an address, a string; zeros, and none, where they would run past the end
 --   ruleIn, rulesIn, countIn             the rules of a policy, in all their places, and how many there are
+--   operatorIn slot slots                the operator in a slot; `policyOperator`: whose policy an entry sets
 use Prim.Native.Nat.{ℕ, zero, suc, _+_, _*_, _%_, _^_}
 use mathlib.Core.Bool.{cond}
 use mathlib.Core.List.{List, [], _∷_}
@@ -40,3 +41,11 @@ module _ (s slots : List ℕ) where
 
 abbrev pub countIn : List ℕ → ℕ
 countIn slots = getD slots 0 0 % 2 ^ 16
+
+-- E9: "Each IKE record and table call names operator A (0) or B (1)"
+abbrev pub operatorIn : ℕ → List ℕ → ℕ
+operatorIn slot slots = getD slots slot 0 % 2 ^ 8
+
+-- behind the 16 places of the rules
+abbrev pub policyOperator : List ℕ → ℕ
+policyOperator = operatorIn 81

@@ -6,7 +6,7 @@ use octets::limits::RULES_MOST;
 use policy::rules::Rule;
 ghost use mathlib.Core.Path.{_≡_};
 ghost use Prim.Native.Nat.{_+_, _≤_};
-ghost use Rattle.given.specs.Given.{countIn, ruleIn, rulesIn};
+ghost use Rattle.given.specs.Given.{countIn, policyOperator, ruleIn, rulesIn};
 ghost use Rattle.entries.specs.Slots.{entrySlots};
 
 // How many rules there are.
@@ -14,6 +14,13 @@ pub fn count_in(e: Slots) -> u16
     ensures { λ r. ⌜ r ≡ countIn (e .slots) ⌝ }
 {
     (e.slots[0] % 0x1_0000) as u16
+}
+
+// Whose policy it is: the operator behind the places of the rules.
+pub fn policy_operator(e: Slots) -> u8
+    ensures { λ r. ⌜ r ≡ policyOperator (e .slots) ⌝ }
+{
+    (e.slots[81] % 0x100) as u8
 }
 
 // The rule whose slots begin at `first`.

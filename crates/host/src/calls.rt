@@ -1,21 +1,25 @@
-// The calls on tables and policy. The tables are lent: each call looks up, decides on what was found, and stores; a
+// The calls on tables and policies. The tables are lent: each call looks up, decides on what was found, and stores; a
 // refusal changes nothing.
 use address::pair::Pair;
 use lent_closed::closed::release_if;
 use lent_ike::ike::ike_at;
+use lent_ike::ike::ike_count;
 use lent_ike::ike::ike_place;
 use lent_ike::ike::ike_store;
+use lent_ipsec::places::ipsec_at;
 use lent_ipsec::places::ipsec_count;
 use lent_ipsec::places::ipsec_place;
 use lent_ipsec::places::ipsec_store;
-use lent_policy::rules::accepts_if;
 use lent_policy::rules::policy_of;
 use lent_policy::rules::policy_store;
 use lent_policy::rules::rules_of;
+use lent_shares::shares::ipsec_count_of;
 use octets::limits::IKE_PLACES;
+use octets::limits::OPERATORS;
 use octets::limits::RULES_MOST;
 use policy::rules::Policy;
 use policy::rules::Rule;
+use policy::rules::accepts;
 use policy::rules::set_policy;
 use records::ike::IkeRecord;
 use records::ipsec::IpsecRecord;
@@ -46,7 +50,19 @@ pub extern "C" fn unmavreth_open(
     let free = ike_place(ike, 0);
     let child_taken = ipsec_place(ipsec, opening.child);
     let child_free = ipsec_place(ipsec, 0);
-    let c = both_opening(size, opening, taken, free, child_taken, child_free);
+    let operator = opening.agreed.operator;
+    let own = ike_count(ike, operator);
+    let child_own = ipsec_count_of(ike, ipsec, operator);
+    let c = both_opening(
+        size,
+        opening,
+        taken,
+        free,
+        child_taken,
+        child_free,
+        own,
+        child_own,
+    );
     ike_store(ike, c.place, c.entry);
     ipsec_store(ipsec, c.child_place, c.child);
     c.number
@@ -59,18 +75,20 @@ pub extern "C" fn unmavreth_open_ipsec(
     ipsec: &mut [IpsecRecord],
     spi: u32,
     owner: u64,
+    operator: u8,
 ) -> u8
     ensures { λ r. ⌜ (
-        let added = openIpsec (now (ike .entry)) (now (ipsec .entry)) spi owner in
+        let added = openIpsec (now (ike .entry)) (now (ipsec .entry)) spi owner operator in
         (r ≡ added .number) × (now (ipsec .exit) ≡ added .ipsec)
         ) ⌝ }
 {
     let size = ipsec_count(ipsec);
     let owned = ike_place(ike, owner);
-    let of = ike_at(ike, owned);
+    let found = ike_at(ike, owned);
     let taken = ipsec_place(ipsec, spi);
     let free = ipsec_place(ipsec, 0);
-    let c = ipsec_opening(size, spi, owner, owned, of, taken, free);
+    let own = ipsec_count_of(ike, ipsec, operator);
+    let c = ipsec_opening(size, spi, owner, operator, owned, found, taken, free, own);
     ipsec_store(ipsec, c.place, c.entry);
     c.number
 }
@@ -81,67 +99,81 @@ pub extern "C" fn unmavreth_close_ike(
     ike: &mut [IkeRecord; IKE_PLACES],
     ipsec: &mut [IpsecRecord],
     spi: u64,
+    operator: u8,
 ) -> u8
     ensures { λ r. ⌜ (
-        let closed = closeIke (now (ike .entry)) (now (ipsec .entry)) spi in
+        let closed = closeIke (now (ike .entry)) (now (ipsec .entry)) spi operator in
         (r ≡ closed .number) × (now (ike .exit) ≡ closed .ike) × (now (ipsec .exit) ≡ closed .ipsec)
         ) ⌝ }
 {
     let size = ipsec_count(ipsec);
     let place = ike_place(ike, spi);
-    let c = ike_closing(size, spi, place);
+    let entry = ike_at(ike, place);
+    let c = ike_closing(size, spi, operator, place, entry);
     ike_store(ike, c.place, c.entry);
     release_if(ipsec, c.number == 0, spi);
     c.number
 }
 
-// Closes an IPsec record.
+// Closes an IPsec record. The IKE table is lent for reading, since whose the record is goes by its owner.
 #[no_mangle]
-pub extern "C" fn unmavreth_close_ipsec(ipsec: &mut [IpsecRecord], spi: u32) -> u8
+pub extern "C" fn unmavreth_close_ipsec(
+    ike: &[IkeRecord; IKE_PLACES],
+    ipsec: &mut [IpsecRecord],
+    spi: u32,
+    operator: u8,
+) -> u8
     ensures { λ r. ⌜ (
-        let closed = closeIpsec (now (ipsec .entry)) spi in
+        let closed = closeIpsec (now (ike .entry)) (now (ipsec .entry)) spi operator in
         (r ≡ closed .number) × (now (ipsec .exit) ≡ closed .ipsec)
         ) ⌝ }
 {
     let size = ipsec_count(ipsec);
     let place = ipsec_place(ipsec, spi);
-    let c = ipsec_closing(size, spi, place);
+    let entry = ipsec_at(ipsec, place);
+    let owned = ike_place(ike, entry.owner);
+    let found = ike_at(ike, owned);
+    let c = ipsec_closing(size, spi, operator, place, entry, owned, found);
     ipsec_store(ipsec, c.place, c.entry);
     c.number
 }
 
 // Marks an IKE record as being deleted, whatever its mark was; only closing it takes the mark away.
 #[no_mangle]
-pub extern "C" fn unmavreth_mark_deletion(ike: &mut [IkeRecord; IKE_PLACES], spi: u64) -> u8
+pub extern "C" fn unmavreth_mark_deletion(
+    ike: &mut [IkeRecord; IKE_PLACES],
+    spi: u64,
+    operator: u8,
+) -> u8
     ensures { λ r. ⌜ (
-        let marked = markDeletion (now (ike .entry)) spi in
+        let marked = markDeletion (now (ike .entry)) spi operator in
         (r ≡ marked .number) × (now (ike .exit) ≡ marked .ike)
         ) ⌝ }
 {
     let place = ike_place(ike, spi);
     let entry = ike_at(ike, place);
-    let c = ike_marking(spi, place, entry);
+    let c = ike_marking(spi, operator, place, entry);
     ike_store(ike, c.place, c.entry);
     c.number
 }
 
-// Sets the whole policy, or refuses and leaves it.
+// Sets an operator's whole policy, or refuses and leaves it. The other's stays.
 #[no_mangle]
 pub extern "C" fn unmavreth_set_policy(
-    policy: &mut Policy,
+    policies: &mut [Policy; OPERATORS],
     count: u16,
     rules: &[Rule; RULES_MOST],
+    operator: u8,
 ) -> u8
     ensures { λ r. ⌜ (
-        let set = setPolicy (now (policy .entry)) count (now (rules .entry)) in
-        (r ≡ set .number) × (now (policy .exit) ≡ set .policy)
+        let set = setPolicy (now (policies .entry)) count (now (rules .entry)) operator in
+        (r ≡ set .number) × (now (policies .exit) ≡ set .policies)
         ) ⌝ }
 {
-    let old = policy_of(policy);
     let list = rules_of(rules);
-    let a = set_policy(old, count, list);
-    policy_store(policy, a.policy);
-    a.number
+    let c = set_policy(count, list, operator);
+    policy_store(policies, c.place, c.policy);
+    c.number
 }
 
 // Whether some rule of the policy accepts the pair.
@@ -149,5 +181,6 @@ pub extern "C" fn unmavreth_set_policy(
 pub extern "C" fn unmavreth_acceptable(policy: &Policy, pair: Pair) -> bool
     ensures { λ r. ⌜ r ≡ acceptable (now (policy .entry)) pair ⌝ }
 {
-    accepts_if(policy, true, pair)
+    let copy = policy_of(policy);
+    accepts(copy, pair)
 }

@@ -22,16 +22,17 @@ pub extern "C" fn unmavreth_check(
     id: u32,
     first: u8,
     body: &[u8],
+    operator: u8,
 ) -> Assessment
     ensures { λ r. ⌜ (
-        let q = checkResponse spi id first (now (body .entry)) in
+        let q = checkResponse spi id first (now (body .entry)) operator in
         CheckedAs (now (ike .entry)) (now (ipsec .entry)) q r (now (ike .exit)) (now (ipsec .exit))
         ) ⌝ }
 {
     let size = ipsec_count(ipsec);
     let place = ike_place(ike, spi);
     let entry = ike_at(ike, place);
-    let c = end_check(size, place, entry, spi, id, first, body);
+    let c = end_check(size, place, entry, spi, id, first, body, operator);
     ike_store(ike, c.place, c.entry);
     end_owned(ipsec, c.closes, c.moves, spi, entry.pair);
     c.told

@@ -2,6 +2,7 @@
 use cloning::clone::CloneReply;
 use cloning::clone::clone_at;
 use lent_ike::ike::ike_at;
+use lent_ike::ike::ike_count;
 use lent_ike::ike::ike_peers;
 use lent_ike::ike::ike_place;
 use lent_ike::ike::ike_store;
@@ -21,9 +22,11 @@ pub extern "C" fn unmavreth_clone(
     first: u8,
     body: &[u8],
     out: &mut [u8],
+    operator: u8,
 ) -> CloneReply
     ensures { λ r. ⌜ (
-        let q = cloneRequest spi «new_spi» first (now (body .entry)) (length (now (out .entry))) in
+        let room = length (now (out .entry)) in
+        let q = cloneRequest spi «new_spi» first (now (body .entry)) room operator in
         ClonedAs (now (ike .entry)) q (now (out .entry)) r (now (ike .exit)) (now (out .exit))
         ) ⌝ }
 {
@@ -32,18 +35,21 @@ pub extern "C" fn unmavreth_clone(
     let free = ike_place(ike, 0);
     let taken = ike_place(ike, new_spi);
     let agreed = entry.agreed;
-    let records = ike_peers(ike, agreed.peer);
+    let records = ike_peers(ike, operator, agreed.peer);
+    let own = ike_count(ike, operator);
     let c = clone_at(
         place,
         entry,
         free,
         taken,
         records,
+        own,
         spi,
         new_spi,
         first,
         body,
         out,
+        operator,
     );
     ike_store(ike, c.place, c.entry);
     c.reply

@@ -1,5 +1,5 @@
-// The call that handles a request, on lent tables: what it goes by is looked up, the request received by that, the lent
-// policy asked where its word counts, and the request handled; what changes in the record is stored. What the record
+// The call that handles a request, on lent tables: what it goes by is looked up, the request received by that, the
+// operator's lent policy asked where its word counts, and the request handled; what changes in the record is stored. What the record
 // owns follows only after the check that is kept then: see `unmavreth_check`.
 use address::pair::Pair;
 use answering::packet::packet_of;
@@ -10,6 +10,7 @@ use lent_ike::ike::ike_place;
 use lent_ipsec::places::ipsec_count;
 use lent_policy::rules::accepts_if;
 use octets::limits::IKE_PLACES;
+use octets::limits::OPERATORS;
 use policy::rules::Policy;
 use records::check::check_of;
 use records::ike::IkeRecord;
@@ -30,7 +31,7 @@ ghost use Rattle.responder.specs.Handle.{HandledAs};
 pub extern "C" fn unmavreth_handle(
     ike: &mut [IkeRecord; IKE_PLACES],
     ipsec: &[IpsecRecord],
-    policy: &Policy,
+    policies: &[Policy; OPERATORS],
     spi: u64,
     id: u32,
     pair: Pair,
@@ -41,14 +42,15 @@ pub extern "C" fn unmavreth_handle(
     first: u8,
     body: &[u8],
     out: &mut [u8],
+    operator: u8,
 ) -> Reply
     ensures { λ r. ⌜ (
         let nat-source = now («nat_source» .entry) in
         let nat-destination = now («nat_destination» .entry) in
         let check = checkOf (now (cookie .entry)) «check_id» in
         let asks = asked id pair nat-source nat-destination first (now (body .entry)) check in
-        let q = requestOf spi asks (length (now (out .entry))) in
-        HandledAs (now (policy .entry)) (now (ike .entry)) (now (ipsec .entry)) q (now (out .entry))
+        let q = requestOf spi asks (length (now (out .entry))) operator in
+        HandledAs (now (policies .entry)) (now (ike .entry)) (now (ipsec .entry)) q (now (out .entry))
         r (now (ike .exit)) (now (out .exit))
         ) ⌝ }
 {
@@ -58,8 +60,16 @@ pub extern "C" fn unmavreth_handle(
     let looked = looked_up(size, place, entry);
     let check = check_of(cookie, check_id);
     let packet = packet_of(spi, id, pair, first, check);
-    let received = received_at(looked, packet, nat_source, nat_destination, body, out);
-    let accepted = accepts_if(policy, received.asks, pair);
+    let received = received_at(
+        looked,
+        packet,
+        nat_source,
+        nat_destination,
+        body,
+        out,
+        operator,
+    );
+    let accepted = accepts_if(policies, operator as usize, received.asks, pair);
     let c = handle_at(
         accepted,
         looked,
@@ -69,6 +79,7 @@ pub extern "C" fn unmavreth_handle(
         nat_destination,
         body,
         out,
+        operator,
     );
     ike_change(ike, place, c, pair, check, body);
     c.reply

@@ -2,29 +2,33 @@
 --     counts, finds-ipsec, reads-ipsec, stores-ipsec      a `&mut [IpsecRecord]` to `ipsec_count`, to `ipsec_place`, to
 --                      `ipsec_at`, and for good to `ipsec_store`.        counts-read      a `&[IpsecRecord]` for good to
 --                      `ipsec_count`
---     finds-ike, counts-peers, reads-ike, stores-ike       a `&mut [IkeRecord; IKE_PLACES]` to `ike_place`, to
---                      `ike_peers`, to `ike_at`, and for good to `ike_store`.        changes-ike      the same to
---                      `ike_change`, beside a `&[u8]`
---     reads-lent, stores-policy      a `&mut Policy` to `policy_of`, and for good to `policy_store`.        asks-policy      a `&Policy` to
---                      `accepts_if`.        reads-rules      a `&[Rule; 16]` to `rules_of`
+--     finds-ike, counts-ikes, counts-peers, asks-owner, reads-ike, stores-ike       a `&mut [IkeRecord; IKE_PLACES]` to
+--                      `ike_place`, to `ike_count`, to `ike_peers`, to `ike_owns`, to `ike_at`, and for good to
+--                      `ike_store`.        changes-ike      the same to `ike_change`, beside a `&[u8]`
+--     counts-ipsecs    both, the table and the list, to `ipsec_count_of`: at the head stands behind what the table's
+--                      reference owns and its token the same of the list's, and while the operands are read three items
+--     counts-beside    the same with a `&[IkeRecord; IKE_PLACES]`, which stays
+--     reads-policy     a `&Policy` to `policy_of`.        asks-policy      a `&[Policy; 2]` to `accepts_if`
+--     stores-policy    a `&mut [Policy; 2]` for good to `policy_store`.        reads-rules      a `&[Rule; 16]` to
+--                      `rules_of`
 -- Assumes `Given`, and that the table of calls is monotone under a frame.
 use Rattle.walks.proofs.Kit.{_≡_, refl, ℕ, _<_, _^_, List, [], _∷_, length, getD, set, URA, fullShare, Place, Body, erased, w32, w64, seq, call, vunit, vint, vptr, SProp, id⊢, Lft, Share, flft, fres, Memory, Routine, Heap, Env, Calls, Loops, Atoms, Fun, Given, Item, ‵, Post, runs, lands, Seq}
 use Rattle.walks.proofs.Kit.{Step, step, _$_, move, drop, split, join, fsplit, fjoin, u8, ShrSlice, owned, nothing, Opds, FmC, Is, uint-makes, uint-vals, uint-tells, nothing-tells, u32, u64, usize, RefT, MutRef, ShrRef, ptr-vals, MutSlice, Room, slice-vals, finally, only, Triple}
-use Rattle.walks.proofs.Kit.{Bool, bool, bool-makes, bool-vals, bool-tells, vbool}
+use Rattle.walks.proofs.Kit.{Bool, bool, bool-makes, bool-vals, bool-tells, vbool, w8}
 use mathlib.Core.Bool.{_&&_}
 use mir.Syntax.{Opd as Operand}
 use denote.Struct.Laws as LL
-use Rattle.octets.specs.Limits.{ikePlaces}
+use Rattle.octets.specs.Limits.{ikePlaces, operators}
 use Rattle.octets.specs.Lists.{placeOf, howMany}
 use Rattle.address.specs.declared.pair.Pair.{Pair}
 use Rattle.address.proofs.pair.Pair as P
 use Rattle.address.proofs.pair.Pair.Laws as P′
-use Rattle.policy.specs.Policy.{acceptable}
+use Rattle.policy.specs.Policy.{acceptable, policyOf}
 use Rattle.policy.specs.declared.rules.Policy.{Policy}
 use Rattle.policy.specs.declared.rules.Rule.{Rule}
 use Rattle.policy.proofs.rules.Policy as Y
 use Rattle.policy.proofs.rules.Policy.Laws as Y′
-use Rattle.records.specs.Records.{ikeSpi, ipsecSpi, noIke, noIpsec, ofPeer}
+use Rattle.records.specs.Records.{ikeSpi, ipsecSpi, noIke, noIpsec, ofOperator, ofPeer}
 use Rattle.records.specs.declared.check.PendingCheck.{PendingCheck}
 use Rattle.records.specs.declared.ike.IkeRecord.{IkeRecord}
 use Rattle.records.specs.declared.ipsec.IpsecRecord.{IpsecRecord}
@@ -38,15 +42,19 @@ use Rattle.replying.specs.Change.{changedBy}
 use Rattle.replying.specs.declared.reply.CoreAnswer.{CoreAnswer}
 use Rattle.replying.proofs.reply.CoreAnswer as D
 use Rattle.replying.proofs.reply.CoreAnswer.Laws as D′
+use Rattle.tables.specs.Calls.{owns, ipsecsOf}
 use Rattle.walks.proofs.Calls.{_&_, Told, token, no-token, list-last, ref-last, gives, calls-for, calls-to}
 use Rattle.walks.proofs.Loans.{renamed, lent-list, list-over, lent-array, lent-ref, ref-over, copies-ref}
 use Rattle.lent_ike.proofs.IkeTable as Ike
 use Rattle.lent_ipsec.proofs.IpsecTable.{R, rec-vals}
+use Rattle.lent_policy.proofs.PolicyTable as Both
 use Rattle.lent_policy.proofs.PolicyTypes as Kept
 use Rattle.lent_ike.proofs.ike.ike_at as at
 use Rattle.lent_ike.proofs.ike.ike_at.Symbol as at-def
 use Rattle.lent_ike.proofs.ike.ike_change as change
 use Rattle.lent_ike.proofs.ike.ike_change.Symbol as change-def
+use Rattle.lent_ike.proofs.ike.ike_count as ikes
+use Rattle.lent_ike.proofs.ike.ike_count.Symbol as ikes-def
 use Rattle.lent_ike.proofs.ike.ike_peers as peers
 use Rattle.lent_ike.proofs.ike.ike_peers.Symbol as peers-def
 use Rattle.lent_ike.proofs.ike.ike_place as home
@@ -69,6 +77,10 @@ use Rattle.lent_policy.proofs.rules.policy_store as keep
 use Rattle.lent_policy.proofs.rules.policy_store.Symbol as keep-def
 use Rattle.lent_policy.proofs.rules.rules_of as list
 use Rattle.lent_policy.proofs.rules.rules_of.Symbol as list-def
+use Rattle.lent_shares.proofs.shares.ike_owns as own
+use Rattle.lent_shares.proofs.shares.ike_owns.Symbol as own-def
+use Rattle.lent_shares.proofs.shares.ipsec_count_of as ipsecs
+use Rattle.lent_shares.proofs.shares.ipsec_count_of.Symbol as ipsecs-def
 
 module _ {M : Type 1} {𝓤 : URA M} {H : Heap 𝓤} {A : Atoms 𝓤} {K : Type 0} {W : Given 𝓤 H A} {Γ : List (Item 𝓤)} {E : Env 𝓤 H} {C : Calls 𝓤 H} {Λ : Loops 𝓤 H} {p : Post 𝓤 H} {d : Place} {ops : List Operand} {rest : Body} (t : K) (fm : FmC 𝓤 H (W .laws) C) (at-mem : Memory → SProp 𝓤) (run : Routine → Fun 𝓤) where
   module _ {κ : Lft} {q : Share} (x : RefT (List IpsecRecord)) where
@@ -126,20 +138,133 @@ module _ {M : Type 1} {𝓤 : URA M} {H : Heap 𝓤} {A : Atoms 𝓤} {K : Type 
         calls-for t fm home.ended (home.clauses 𝓤 H A at-mem run) known (((ν ∷ [], tt), (fullShare, tt), tt, (renamed δ x, (k, tt)), (ptr-vals x, (uint-vals w64 k, tt))), tt) (id⊢ 𝓤 _) (os _ _)
         (uint-vals w64) (uint-tells w64) (placeOf ikeSpi k (x .now)) (λ r ws. id⊢ 𝓤 _) (λ is. ref-over t tt Ike.Q x $ s long (is .1)))
 
-    pub counts-peers : Triple 𝓤 (C peers-def.name) (Told 𝓤 H A peers.ended (peers.clauses 𝓤 H A at-mem run)) → (k : ℕ)
-        → k < 2 ^ 32
-        → ((i j : Item 𝓤) → Opds K W (i ∷ j ∷ Γ) E ops (vptr (x .ptr .0) (x .ptr .1) ∷ vint w32 k ∷ []))
-        → (howMany (ofPeer k) (x .now) < 2 ^ 64
+    pub counts-ikes : Triple 𝓤 (C ikes-def.name) (Told 𝓤 H A ikes.ended (ikes.clauses 𝓤 H A at-mem run)) → (op : ℕ)
+        → op < 2 ^ 8 → ((i j : Item 𝓤) → Opds K W (i ∷ j ∷ Γ) E ops (only (ptr-vals x) ∷ vint w8 op ∷ []))
+        → (howMany (ofOperator op) (x .now) < 2 ^ 64
         → Seq K W (‵ (MutRef erased κ Ike.Q .own x (ptr-vals x)) ∷ ‵ (flft κ q) ∷ Γ)
-        (lands C Λ E d (vint w64 (howMany (ofPeer k) (x .now))) rest p))
+        (lands C Λ E d (vint w64 (howMany (ofOperator op) (x .now))) rest p))
+        → Seq K W (‵ (MutRef erased κ Ike.Q .own x (ptr-vals x)) ∷ ‵ (flft κ q) ∷ Γ)
+        (runs C Λ E (seq (call ikes-def.name ops d) rest) p)
+    counts-ikes known op fits os s =
+        lent-ref t tt Ike.Q x (u8 ∷ []) (uint-makes 𝓤 H A W w8, tt) (op, tt) (uint-vals w8 op, tt) ((refl, fits), tt)
+        (λ ν δ. calls-for t fm ikes.ended (ikes.clauses 𝓤 H A at-mem run) known
+        (((ν ∷ [], tt), (fullShare, tt), tt, (renamed δ x, (op, tt)), (ptr-vals x, (uint-vals w8 op, tt))), tt)
+        (id⊢ 𝓤 _) (os _ _) (uint-vals w64) (uint-tells w64) (howMany (ofOperator op) (x .now)) (λ r ws. id⊢ 𝓤 _)
+        (λ is. ref-over t tt Ike.Q x $ s (is .1)))
+
+    pub counts-peers : Triple 𝓤 (C peers-def.name) (Told 𝓤 H A peers.ended (peers.clauses 𝓤 H A at-mem run)) → (op k : ℕ)
+        → op < 2 ^ 8 → k < 2 ^ 32
+        → ((i j : Item 𝓤) → Opds K W (i ∷ j ∷ Γ) E ops (only (ptr-vals x) ∷ vint w8 op ∷ vint w32 k ∷ []))
+        → (howMany (ofPeer op k) (x .now) < 2 ^ 64
+        → Seq K W (‵ (MutRef erased κ Ike.Q .own x (ptr-vals x)) ∷ ‵ (flft κ q) ∷ Γ)
+        (lands C Λ E d (vint w64 (howMany (ofPeer op k) (x .now))) rest p))
         → Seq K W (‵ (MutRef erased κ Ike.Q .own x (ptr-vals x)) ∷ ‵ (flft κ q) ∷ Γ)
         (runs C Λ E (seq (call peers-def.name ops d) rest) p)
-    counts-peers known k fits os s =
-        lent-ref t tt Ike.Q x (u32 ∷ []) (uint-makes 𝓤 H A W w32, tt) (k, tt) (uint-vals w32 k, tt) ((refl, fits), tt)
-        (λ ν δ. calls-for t fm peers.ended (peers.clauses 𝓤 H A at-mem run) known
-        (((ν ∷ [], tt), (fullShare, tt), tt, (renamed δ x, (k, tt)), (ptr-vals x, (uint-vals w32 k, tt))), tt)
-        (id⊢ 𝓤 _) (os _ _) (uint-vals w64) (uint-tells w64) (howMany (ofPeer k) (x .now)) (λ r ws. id⊢ 𝓤 _)
+    counts-peers known op k op-fits k-fits os s =
+        lent-ref t tt Ike.Q x (u8 ∷ u32 ∷ []) (uint-makes 𝓤 H A W w8 & uint-makes 𝓤 H A W w32 & tt) (op & k & tt)
+        (uint-vals w8 op & uint-vals w32 k & tt) ((refl, op-fits) & (refl, k-fits) & tt)
+        (λ ν δ. calls-for t fm peers.ended (peers.clauses 𝓤 H A at-mem run) known (
+          (
+            (ν ∷ [], tt),
+            (fullShare, tt),
+            tt,
+            (renamed δ x & op & k & tt),
+            (ptr-vals x & uint-vals w8 op & uint-vals w32 k & tt),
+          ),
+          tt,
+        )
+        (id⊢ 𝓤 _) (os _ _) (uint-vals w64) (uint-tells w64) (howMany (ofPeer op k) (x .now)) (λ r ws. id⊢ 𝓤 _)
         (λ is. ref-over t tt Ike.Q x $ s (is .1)))
+
+    pub asks-owner : Triple 𝓤 (C own-def.name) (Told 𝓤 H A own.ended (own.clauses 𝓤 H A at-mem run)) → (op k : ℕ)
+        → op < 2 ^ 8 → k < 2 ^ 64
+        → ((i j : Item 𝓤) → Opds K W (i ∷ j ∷ Γ) E ops (only (ptr-vals x) ∷ vint w8 op ∷ vint w64 k ∷ []))
+        → Step K W (‵ (MutRef erased κ Ike.Q .own x (ptr-vals x)) ∷ ‵ (flft κ q) ∷ Γ)
+        (lands C Λ E d (vbool (owns op k (x .now))) rest p)
+        (‵ (MutRef erased κ Ike.Q .own x (ptr-vals x)) ∷ ‵ (flft κ q) ∷ Γ)
+        (runs C Λ E (seq (call own-def.name ops d) rest) p)
+    asks-owner known op k op-fits k-fits os = step (λ s.
+        lent-ref t tt Ike.Q x (u8 ∷ u64 ∷ []) (uint-makes 𝓤 H A W w8 & uint-makes 𝓤 H A W w64 & tt) (op & k & tt)
+        (uint-vals w8 op & uint-vals w64 k & tt) ((refl, op-fits) & (refl, k-fits) & tt)
+        (λ ν δ. calls-for t fm own.ended (own.clauses 𝓤 H A at-mem run) known (
+          (
+            (ν ∷ [], tt),
+            (fullShare, tt),
+            tt,
+            (renamed δ x & op & k & tt),
+            (ptr-vals x & uint-vals w8 op & uint-vals w64 k & tt),
+          ),
+          tt,
+        )
+        (id⊢ 𝓤 _) (os _ _) bool-vals bool-tells (owns op k (x .now)) (λ r ws. id⊢ 𝓤 _)
+        (λ _. ref-over t tt Ike.Q x $ s)))
+
+    -- each is lent for a lifetime of its own, and both come back
+    pub counts-ipsecs : Triple 𝓤 (C ipsecs-def.name) (Told 𝓤 H A ipsecs.ended (ipsecs.clauses 𝓤 H A at-mem run))
+        → {κ′ : Lft} {q′ : Share} (y : RefT (List IpsecRecord)) → Room R (length (y .now)) → (op : ℕ) → op < 2 ^ 8
+        → ((i j k : Item 𝓤)
+        → Opds K W (i ∷ j ∷ k ∷ Γ) E ops (only (ptr-vals x) ∷ only (slice-vals y) ∷ vint w8 op ∷ []))
+        → (ipsecsOf op (x .now) (y .now) < 2 ^ 64
+        → Seq K W (‵ (MutRef erased κ Ike.Q .own x (ptr-vals x)) ∷ ‵ (flft κ q)
+        ∷ ‵ (MutSlice erased κ′ R .own y (slice-vals y)) ∷ ‵ (flft κ′ q′) ∷ Γ)
+        (lands C Λ E d (vint w64 (ipsecsOf op (x .now) (y .now))) rest p))
+        → Seq K W (‵ (MutRef erased κ Ike.Q .own x (ptr-vals x)) ∷ ‵ (flft κ q)
+        ∷ ‵ (MutSlice erased κ′ R .own y (slice-vals y)) ∷ ‵ (flft κ′ q′) ∷ Γ)
+        (runs C Λ E (seq (call ipsecs-def.name ops d) rest) p)
+    counts-ipsecs known y room op fits os s =
+        lent-ref t tt Ike.Q x [] tt tt tt tt (λ ν δ. move t (3 ∷ 4 ∷ []) $
+        lent-list t tt R y (u8 ∷ []) (uint-makes 𝓤 H A W w8, tt) (op, tt) (uint-vals w8 op, tt) ((refl, fits), tt)
+        (λ ν′ δ′.
+        -- [the list's token; what the list's reference and the operator own; what its holder keeps; the table's token;
+        -- what its reference owns; what its holder keeps]
+        move t (4 ∷ []) $ fsplit t $ move t (1 ∷ []) $ drop t $ move t (0 ∷ 2 ∷ []) $ fjoin t $ move t (3 ∷ []) $
+        no-token t $ move t (0 ∷ 2 ∷ []) $ join t $
+        calls-for t fm ipsecs.ended (ipsecs.clauses 𝓤 H A at-mem run) known (
+          (
+            ((ν ∷ []) & (ν′ ∷ []) & tt),
+            (fullShare & fullShare & tt),
+            tt,
+            (renamed δ x & renamed δ′ y & op & tt),
+            (ptr-vals x & slice-vals y & uint-vals w8 op & tt),
+          ),
+          tt,
+        )
+        (id⊢ 𝓤 _) (os _ _ _) (uint-vals w64) (uint-tells w64) (ipsecsOf op (x .now) (y .now)) (λ r ws. id⊢ 𝓤 _)
+        (λ is. split t $ move t (1 ∷ 2 ∷ []) $ list-over t tt R y room $ move t (2 ∷ []) $ token t $
+        move t (0 ∷ 3 ∷ []) $ ref-over t tt Ike.Q x $ s (is .1))))
+
+    -- the list is lent for a lifetime of its own, and comes back; of the table's reference a copy goes, for its own
+    pub counts-beside : Triple 𝓤 (C ipsecs-def.name) (Told 𝓤 H A ipsecs.ended (ipsecs.clauses 𝓤 H A at-mem run))
+        → {κ′ : Lft} {q′ : Share} (y : RefT (List IpsecRecord)) → Room R (length (y .now)) → (op : ℕ) → op < 2 ^ 8
+        → ((i j k : Item 𝓤)
+        → Opds K W (i ∷ j ∷ k ∷ Γ) E ops (only (ptr-vals x) ∷ only (slice-vals y) ∷ vint w8 op ∷ []))
+        → (ipsecsOf op (x .now) (y .now) < 2 ^ 64
+        → Seq K W (‵ (ShrRef erased κ Ike.Q .own x (ptr-vals x)) ∷ ‵ (flft κ q)
+        ∷ ‵ (MutSlice erased κ′ R .own y (slice-vals y)) ∷ ‵ (flft κ′ q′) ∷ Γ)
+        (lands C Λ E d (vint w64 (ipsecsOf op (x .now) (y .now))) rest p))
+        → Seq K W (‵ (ShrRef erased κ Ike.Q .own x (ptr-vals x)) ∷ ‵ (flft κ q)
+        ∷ ‵ (MutSlice erased κ′ R .own y (slice-vals y)) ∷ ‵ (flft κ′ q′) ∷ Γ)
+        (runs C Λ E (seq (call ipsecs-def.name ops d) rest) p)
+    counts-beside known y room op fits os s =
+        copies-ref t tt Ike.Q x [] tt tt tt tt $ move t (3 ∷ 4 ∷ []) $
+        lent-list t tt R y (u8 ∷ []) (uint-makes 𝓤 H A W w8, tt) (op, tt) (uint-vals w8 op, tt) ((refl, fits), tt)
+        (λ ν δ.
+        -- [the list's token; what the list's reference and the operator own; what its holder keeps; the table's token;
+        -- what the copy of its reference owns; what its reference owns]
+        move t (4 ∷ []) $ fsplit t $ move t (1 ∷ []) $ drop t $ move t (0 ∷ 2 ∷ []) $ fjoin t $ move t (3 ∷ []) $
+        no-token t $ move t (0 ∷ 2 ∷ []) $ join t $
+        calls-for t fm ipsecs.ended (ipsecs.clauses 𝓤 H A at-mem run) known (
+          (
+            (κ & (ν ∷ []) & tt),
+            (q & fullShare & tt),
+            tt,
+            (x & renamed δ y & op & tt),
+            (ptr-vals x & slice-vals y & uint-vals w8 op & tt),
+          ),
+          tt,
+        )
+        (id⊢ 𝓤 _) (os _ _ _) (uint-vals w64) (uint-tells w64) (ipsecsOf op (x .now) (y .now)) (λ r ws. id⊢ 𝓤 _)
+        (λ is. split t $ move t (1 ∷ 2 ∷ []) $ list-over t tt R y room $ move t (3 ∷ 2 ∷ []) $ s (is .1)))
 
     pub reads-ike : Triple 𝓤 (C at-def.name) (Told 𝓤 H A at.ended (at.clauses 𝓤 H A at-mem run)) → (i : ℕ) → i < 2 ^ 64 → ((j k : Item 𝓤) → Opds K W (j ∷ k ∷ Γ) E ops (vptr (x .ptr .0) (x .ptr .1) ∷ vint w64 i ∷ []))
         → (Is Ike.R (getD (x .now) i noIke) (Ike.rec-vals (getD (x .now) i noIke)) → Seq K W (‵ (MutRef erased κ Ike.Q .own x (ptr-vals x)) ∷ ‵ (flft κ q) ∷ Γ) (lands C Λ E d (Ike.rec-val (getD (x .now) i noIke)) rest p)) → Seq K W (‵ (MutRef erased κ Ike.Q .own x (ptr-vals x)) ∷ ‵ (flft κ q) ∷ Γ) (runs C Λ E (seq (call at-def.name ops d) rest) p)
@@ -190,42 +315,66 @@ module _ {M : Type 1} {𝓤 : URA M} {H : Heap 𝓤} {A : Atoms 𝓤} {K : Type 
         (λ ws e. fsplit t $ move t (1 ∷ []) $ drop t $ move t (1 ∷ []) $ split t $ move t (1 ∷ []) $ no-token t $
         move t (2 ∷ 1 ∷ []) $ s (ws .0) e)
 
-  module _ {κ : Lft} {q : Share} (x : RefT Policy) where
-    module _ (known : Triple 𝓤 (C read-def.name) (Told 𝓤 H A read.ended (read.clauses 𝓤 H A at-mem run))) (os : (i j : Item 𝓤) → Opds K W (i ∷ j ∷ Γ) E ops (ptr-vals x)) where
-      pub reads-lent : (Is Kept.R (x .now) (Kept.policy-vals (x .now)) → Seq K W (‵ (MutRef erased κ Kept.R .own x (ptr-vals x)) ∷ ‵ (flft κ q) ∷ Γ) (lands C Λ E d (only (Kept.policy-vals (x .now))) rest p)) → Seq K W (‵ (MutRef erased κ Kept.R .own x (ptr-vals x)) ∷ ‵ (flft κ q) ∷ Γ) (runs C Λ E (seq (call read-def.name ops d) rest) p)
-      reads-lent s = lent-ref t tt Kept.R x [] tt tt tt tt (λ ν δ. calls-for t fm read.ended (read.clauses 𝓤 H A at-mem run) known (((ν ∷ [], tt), (fullShare, tt), tt, (renamed δ x, tt), (ptr-vals x, tt)), tt) (id⊢ 𝓤 _) (os _ _)
-          Kept.policy-vals (LL.tells Y.the-type Y′.the-laws) (x .now) (λ r ws. id⊢ 𝓤 _) (λ is. ref-over t tt Kept.R x $ s is))
+  -- one lent policy, copied
+  pub reads-policy : {κ : Lft} {q : Share} (x : RefT Policy)
+      → Triple 𝓤 (C read-def.name) (Told 𝓤 H A read.ended (read.clauses 𝓤 H A at-mem run))
+      → ((i j : Item 𝓤) → Opds K W (i ∷ j ∷ Γ) E ops (ptr-vals x))
+      → (Is Kept.R (x .now) (Kept.policy-vals (x .now))
+      → Seq K W (‵ (ShrRef erased κ Kept.R .own x (ptr-vals x)) ∷ ‵ (flft κ q) ∷ Γ)
+      (lands C Λ E d (only (Kept.policy-vals (x .now))) rest p))
+      → Seq K W (‵ (ShrRef erased κ Kept.R .own x (ptr-vals x)) ∷ ‵ (flft κ q) ∷ Γ)
+      (runs C Λ E (seq (call read-def.name ops d) rest) p)
+  reads-policy {κ} {q} x known os s =
+      copies-ref t tt Kept.R x [] tt tt tt tt $
+      calls-for t fm read.ended (read.clauses 𝓤 H A at-mem run) known
+      (((κ, tt), (q, tt), tt, (x, tt), (ptr-vals x, tt)), tt) (id⊢ 𝓤 _) (os _ _) Kept.policy-vals
+      (LL.tells Y.the-type Y′.the-laws) (x .now) (λ r ws. id⊢ 𝓤 _) (λ is. no-token t $ move t (1 ∷ []) $ s is)
 
-    pub asks-policy : Triple 𝓤 (C ask-def.name) (Told 𝓤 H A ask.ended (ask.clauses 𝓤 H A at-mem run)) → (z : Bool)
-        (pair : Pair) → Is P.the-row pair (LL.vals P.the-type P′.the-laws pair)
-        → ((i j : Item 𝓤) → Opds K W (i ∷ j ∷ Γ) E ops (vptr (x .ptr .0) (x .ptr .1) ∷ vbool z
+  module _ {κ : Lft} {q : Share} (x : RefT (List Policy)) where
+    pub asks-policy : Triple 𝓤 (C ask-def.name) (Told 𝓤 H A ask.ended (ask.clauses 𝓤 H A at-mem run)) → (k : ℕ)
+        → k < 2 ^ 64 → (z : Bool) (pair : Pair) → Is P.the-row pair (LL.vals P.the-type P′.the-laws pair)
+        → ((i j : Item 𝓤) → Opds K W (i ∷ j ∷ Γ) E ops (vptr (x .ptr .0) (x .ptr .1) ∷ vint w64 k ∷ vbool z
         ∷ only (LL.vals P.the-type P′.the-laws pair) ∷ []))
-        → Step K W (‵ (ShrRef erased κ Kept.R .own x (ptr-vals x)) ∷ ‵ (flft κ q) ∷ Γ)
-        (lands C Λ E d (vbool (z && acceptable (x .now) pair)) rest p)
-        (‵ (ShrRef erased κ Kept.R .own x (ptr-vals x)) ∷ ‵ (flft κ q) ∷ Γ)
+        → Step K W (‵ (ShrRef erased κ Both.Q .own x (ptr-vals x)) ∷ ‵ (flft κ q) ∷ Γ)
+        (lands C Λ E d (vbool (z && acceptable (policyOf (x .now) k) pair)) rest p)
+        (‵ (ShrRef erased κ Both.Q .own x (ptr-vals x)) ∷ ‵ (flft κ q) ∷ Γ)
         (runs C Λ E (seq (call ask-def.name ops d) rest) p)
-    asks-policy known z pair pair-is os = step (λ s.
-        copies-ref t tt Kept.R x (bool ∷ P.the-row ∷ [])
-        (bool-makes 𝓤 H A W & LL.makes P.the-type P′.the-plain 𝓤 H A & tt) (z, (pair, tt))
-        (bool-vals z, (LL.vals P.the-type P′.the-laws pair, tt)) (refl, (pair-is, tt)) $
+    asks-policy known k fits z pair pair-is os = step (λ s.
+        copies-ref t tt Both.Q x (usize ∷ bool ∷ P.the-row ∷ [])
+        (uint-makes 𝓤 H A W w64 & bool-makes 𝓤 H A W & LL.makes P.the-type P′.the-plain 𝓤 H A & tt)
+        (k, (z, (pair, tt))) (uint-vals w64 k, (bool-vals z, (LL.vals P.the-type P′.the-laws pair, tt)))
+        ((refl, fits), (refl, (pair-is, tt))) $
         calls-for t fm ask.ended (ask.clauses 𝓤 H A at-mem run) known (
           (
             (κ, tt),
             (q, tt),
             tt,
-            (x, (z, (pair, tt))),
-            (ptr-vals x, (bool-vals z, (LL.vals P.the-type P′.the-laws pair, tt))),
+            (x, (k, (z, (pair, tt)))),
+            (ptr-vals x, (uint-vals w64 k, (bool-vals z, (LL.vals P.the-type P′.the-laws pair, tt)))),
           ),
           tt,
         )
-        (id⊢ 𝓤 _) (os _ _) bool-vals bool-tells (z && acceptable (x .now) pair) (λ r ws. id⊢ 𝓤 _)
-        (λ _. no-token t $ move t (1 ∷ []) $ s))
+        (id⊢ 𝓤 _) (os _ _) bool-vals bool-tells (z && acceptable (policyOf (x .now) k) pair) (λ r ws. id⊢ 𝓤 _)
+        (λ is. no-token t $ move t (1 ∷ []) $ s))
 
-    pub stores-policy : Triple 𝓤 (C keep-def.name) (Told 𝓤 H A keep.ended (keep.clauses 𝓤 H A at-mem run)) → (new : Policy) → Is Kept.R new (Kept.policy-vals new) → ((j : Item 𝓤) → Opds K W (j ∷ Γ) E ops (vptr (x .ptr .0) (x .ptr .1) ∷ only (Kept.policy-vals new) ∷ []))
-        → ((z : Policy) → z ≡ new → Seq K W (‵ (fres (x .name) (Kept.R .coded .code z)) ∷ ‵ (flft κ q) ∷ Γ) (lands C Λ E d vunit rest p)) → Seq K W (‵ (MutRef erased κ Kept.R .own x (ptr-vals x)) ∷ ‵ (flft κ q) ∷ Γ) (runs C Λ E (seq (call keep-def.name ops d) rest) p)
-    stores-policy known new new-is os s = gives t (Kept.R ∷ []) (LL.makes Y.the-type Y′.the-plain 𝓤 H A, tt) (new, tt) (Kept.policy-vals new, tt) (new-is, tt) $
-        calls-to t fm keep.ended (keep.clauses 𝓤 H A at-mem run) known (((κ, tt), (q, tt), tt, (x, (new, tt)), (ptr-vals x, (Kept.policy-vals new, tt))), tt) (id⊢ 𝓤 _) (os _)
-        nothing-tells (λ ws. ws .0 ≡ new) (λ r ws. id⊢ 𝓤 _) (λ ws e. ref-last t $ s (ws .0) e)
+    pub stores-policy : Triple 𝓤 (C keep-def.name) (Told 𝓤 H A keep.ended (keep.clauses 𝓤 H A at-mem run)) → (k : ℕ)
+        (new : Policy) → Is usize k (uint-vals w64 k) → Is Kept.R new (Kept.policy-vals new)
+        → ((j : Item 𝓤) → Opds K W (j ∷ Γ) E ops (vptr (x .ptr .0) (x .ptr .1) ∷ vint w64 k
+        ∷ only (Kept.policy-vals new) ∷ []))
+        → (length (x .now) ≡ operators → (zs : List Policy) → zs ≡ set (x .now) k new
+        → Seq K W (‵ (fres (x .name) (Both.Q .coded .code zs)) ∷ ‵ (flft κ q) ∷ Γ) (lands C Λ E d vunit rest p))
+        → Seq K W (‵ (MutRef erased κ Both.Q .own x (ptr-vals x)) ∷ ‵ (flft κ q) ∷ Γ)
+        (runs C Λ E (seq (call keep-def.name ops d) rest) p)
+    stores-policy known k new k-is new-is os s =
+        -- lent for a moment, the policies say how many they are
+        lent-array t tt Kept.R x [] tt tt tt tt operators tt (λ ν δ long. move t (1 ∷ []) $ drop t $
+        ref-over t tt Both.Q x $
+        gives t (usize ∷ Kept.R ∷ []) (uint-makes 𝓤 H A W w64 & LL.makes Y.the-type Y′.the-plain 𝓤 H A & tt)
+        (k, (new, tt)) (uint-vals w64 k, (Kept.policy-vals new, tt)) (k-is, (new-is, tt)) $
+        calls-to t fm keep.ended (keep.clauses 𝓤 H A at-mem run) known
+        (((κ, tt), (q, tt), tt, (x, (k, (new, tt))), (ptr-vals x, (uint-vals w64 k, (Kept.policy-vals new, tt)))), tt)
+        (id⊢ 𝓤 _) (os _) nothing-tells (λ ws. ws .0 ≡ set (x .now) k new) (λ r ws. id⊢ 𝓤 _)
+        (λ ws e. ref-last t $ s long (ws .0) e))
 
   pub reads-rules : {κ : Lft} {q : Share} (x : RefT (List Rule)) → Triple 𝓤 (C list-def.name) (Told 𝓤 H A list.ended (list.clauses 𝓤 H A at-mem run)) → ((i j : Item 𝓤) → Opds K W (i ∷ j ∷ Γ) E ops (ptr-vals x))
       → (Is Kept.Q (x .now) (Kept.rules-vals (x .now)) → Seq K W (‵ (ShrRef erased κ Kept.Q .own x (ptr-vals x)) ∷ ‵ (flft κ q) ∷ Γ) (lands C Λ E d (only (Kept.rules-vals (x .now))) rest p)) → Seq K W (‵ (ShrRef erased κ Kept.Q .own x (ptr-vals x)) ∷ ‵ (flft κ q) ∷ Γ) (runs C Λ E (seq (call list-def.name ops d) rest) p)

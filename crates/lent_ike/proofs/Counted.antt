@@ -14,6 +14,11 @@ pub adds-one : (b : Bool) → cond b 1 0 ≤ 1
 adds-one true = omega arith
 adds-one false = omega arith
 
+-- an element that fails both of two tests adds nothing, whichever is asked
+pub adds-none : (b : Bool) (n : ℕ) → n ≡ cond (cond b false false) 1 0 + n
+adds-none true n = omega arith
+adds-none false n = omega arith
+
 -- The count, from place i on.
 module _ {A : Type 0} (f : A → Bool) (xs : List A) (i : ℕ) where
   pub counts-here : (d : A) → i < length xs

@@ -16,9 +16,12 @@ R = Y.the-row
 abbrev pub policy-vals : Policy → List Val
 policy-vals = LL.vals Y.the-type Y′.the-laws
 
+abbrev pub policy-val : Policy → Val
+policy-val = LL.val Y.the-type Y′.the-laws
+
 -- the machine value is of the policy's type
 pub typed : {M : Type 1} {𝓤 : URA M} {H : Heap 𝓤} {A : Atoms 𝓤} (W : Given 𝓤 H A) (p : Policy) → Is R p (policy-vals p)
-    → T (hasTy Y′.mir (only (policy-vals p))) × WT (only (policy-vals p))
+    → T (hasTy Y′.mir (policy-val p)) × WT (policy-val p)
 typed {𝓤 = 𝓤} {H = H} {A = A} W p is = LL.lawful Y.the-type Y′.the-laws 𝓤 H A W .typed p _ is .0
 
 abbrev pub Q : RattleType

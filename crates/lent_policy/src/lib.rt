@@ -1,2 +1,2 @@
-// The lent policy and rules.
+// The lent policies and rules.
 pub mod rules;

@@ -1,12 +1,14 @@
-// The lent policy, read and stored, and lent rules.
+// The lent policies, read and stored, and lent rules.
 use address::pair::Pair;
+use octets::limits::OPERATORS;
 use octets::limits::RULES_MOST;
 use policy::rules::Policy;
 use policy::rules::Rule;
-use policy::rules::rule_matches;
+use policy::rules::accepts;
 ghost use mathlib.Core.Path.{_≡_};
 ghost use mathlib.Core.Bool.{_&&_};
-ghost use Rattle.policy.specs.Policy.{acceptable};
+ghost use lib.ListN.{set};
+ghost use Rattle.policy.specs.Policy.{acceptable, policyOf};
 
 // The policy, as it is lent.
 pub fn policy_of(policy: &Policy) -> Policy
@@ -15,11 +17,13 @@ pub fn policy_of(policy: &Policy) -> Policy
     *policy
 }
 
-// Stores a whole policy.
-pub fn policy_store(policy: &mut Policy, new: Policy)
-    ensures { λ _. ⌜ now (policy .exit) ≡ new ⌝ }
+// Stores a whole policy at a place; past the end it stores nothing.
+pub fn policy_store(policies: &mut [Policy; OPERATORS], place: usize, new: Policy)
+    ensures { λ _. ⌜ now (policies .exit) ≡ set (now (policies .entry)) place new ⌝ }
 {
-    *policy = new;
+    if place < OPERATORS {
+        policies[place] = new;
+    }
 }
 
 // A list of rules, as it is lent.
@@ -29,24 +33,16 @@ pub fn rules_of(rules: &[Rule; RULES_MOST]) -> [Rule; RULES_MOST]
     *rules
 }
 
-// Whether it is asked, and some rule of the policy accepts the pair. The policy is read where it is lent.
-pub fn accepts_if(policy: &Policy, asked: bool, pair: Pair) -> bool
-    ensures { λ r. ⌜ r ≡ (asked && acceptable (now (policy .entry)) pair) ⌝ }
+// Whether it is asked, and some rule of the policy at the place accepts the pair; past the end none does.
+pub fn accepts_if(policies: &[Policy; OPERATORS], place: usize, asked: bool, pair: Pair) -> bool
+    ensures { λ r. ⌜ r ≡ (asked && acceptable (policyOf (now (policies .entry)) place) pair) ⌝ }
 {
     if !asked {
         return false;
     }
-    let count = policy.count as usize;
-    let mut i = 0;
-    while i < RULES_MOST {
-        if count <= i {
-            return false;
-        }
-        let rule = policy.rules[i];
-        if rule_matches(rule, pair) {
-            return true;
-        }
-        i += 1;
+    if place < OPERATORS {
+        let policy = policies[place];
+        return accepts(policy, pair);
     }
     false
 }

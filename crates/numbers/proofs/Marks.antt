@@ -26,23 +26,26 @@ use Rattle.numbers.specs.Marks.{recordAt, Moves, MarkKept, MarksKept, Se
 use Rattle.numbers.proofs.Cores.{entryBy}
 use Rattle.numbers.proofs.Ways.{place, entry, Changes, Way, stays, changes, way}
 
-module _ (policy : Policy) (t : Tables) (q : Request) (i : ℕ) where
-  unchanged : afterRequest policy q t ≡ t → MarkKept policy t q i
-  unchanged e = record { spi = rw e; rises = rw e (omega arith); moved = inl (rw e) }
+module _ (policies : List Policy) (t : Tables) (q : Request) (i : ℕ) where
+  unchanged : afterRequest policies q t ≡ t → MarkKept policies t q i
+  unchanged e = record { spi = rw e; operator = rw e; rises = rw e (omega arith); moved = inl (rw e) }
 
   -- an update that counts carries an ID that exceeds the mark
   newer : applies q (entry t q) ≡ true → (seenIn q .update ≡ true) × (entry t q .«update_mark» ≤ q .asks .id)
   newer e = let b = both (seenIn q .update) (leb (entry t q .«update_mark») (q .asks .id)) e in
       (b .0, leb-true _ _ (b .1))
 
-  module _ (u l : Bool) (m : Marks) (c : Changes policy t q u l m) where
+  module _ (u l : Bool) (m : Marks) (c : Changes policies t q u l m) where
     raised : entry t q .«update_mark» ≤ m .«update_mark»
     raised = ⊎-elim (λ e. omega arith) (λ e. omega (arith, newer (e .0) .1, e .1)) (c .update-mark)
 
     here : place t q < length (t .ike)
     here = ltb-true _ _ (passed _ _ _ q (c .passes) .found)
 
-    changed : MarkKept policy t q i
+    own : entry t q .agreed .operator ≡ q .operator
+    own = passed _ _ _ q (c .passes) .own
+
+    changed : MarkKept policies t q i
     changed = go (ℕ-discrete i (place t q))
       where
         by : (b : Bool) → (b ≡ true → applies q (entry t q) ≡ true) → i ≡ place t q
@@ -53,29 +56,34 @@ module _ (policy : Policy) (t : Tables) (q : Request) (i : ℕ) where
               e,
               record {
                 spi = place-has ikeSpi (q .spi) (t .ike) noIke here;
+                own = own;
                 update = n .0;
                 newer = n .1;
-                pair =
-                    refl;
+                pair = refl;
               },
             )
         by false c e = inl refl
 
-        go : Dec (i ≡ place t q) → MarkKept policy t q i
+        go : Dec (i ≡ place t q) → MarkKept policies t q i
         go (yes e) =
-            let now : recordAt i (afterRequest policy q t) ≡ entryBy q (entry t q) u l m =
+            let now : recordAt i (afterRequest policies q t) ≡ entryBy q (entry t q) u l m =
             rw (c .is, e) (getD-set-same (t .ike) (place t q) (entryBy q (entry t q) u l m) noIke here) in
             let was : recordAt i t ≡ entry t q = ap (λ (j : ℕ). recordAt j t) e in
-            record { spi = rw (now, was); rises = rw (now, was) raised; moved = rw (now, was) (by u (c .moves) e) }
+            record {
+              spi = rw (now, was);
+              operator = rw (now, was);
+              rises = rw (now, was) raised;
+              moved = rw (now, was) (by u (c .moves) e);
+            }
         go (no n) =
-            let now : recordAt i (afterRequest policy q t) ≡ recordAt i t =
+            let now : recordAt i (afterRequest policies q t) ≡ recordAt i t =
             rw (c .is) (getD-set-other (t .ike) (place t q) i (entryBy q (entry t q) u l m) noIke n) in
-            record { spi = rw now; rises = rw now (omega arith); moved = inl (rw now) }
+            record { spi = rw now; operator = rw now; rises = rw now (omega arith); moved = inl (rw now) }
 
-  kept : MarkKept policy t q i
-  kept = go (way policy t q)
+  kept : MarkKept policies t q i
+  kept = go (way policies t q)
     where
-      go : Way policy t q → MarkKept policy t q i
+      go : Way policies t q → MarkKept policies t q i
       go (stays e) = unchanged e
       go (changes u l m c) = changed u l m c
 
@@ -87,8 +95,8 @@ module _ (t : Tables) (x : Sent) (xs : List Sent) (i : ℕ) (rest : NeverLate (t
   abbrev end : IkeRecord
   end = recordAt i (after taken (taken x t) xs)
 
-  first : MarkKept (x .policy) t (x .request) i
-  first = kept (x .policy) t (x .request) i
+  first : MarkKept (x .policies) t (x .request) i
+  first = kept (x .policies) t (x .request) i
 
   abbrev Moved : IkeRecord → Sent → Type 0
   Moved before y = Moves before end (y .request)
@@ -99,6 +107,7 @@ module _ (t : Tables) (x : Sent) (xs : List Sent) (i : ℕ) (rest : NeverLate (t
       ⊎-elim (λ m. inl
       (record {
         spi = sym (first .spi) ∙ m .spi;
+        own = sym (first .operator) ∙ m .own;
         update = m .update;
         newer = omega (arith, first .rises, m .newer);
         pair = m .pair;
@@ -109,7 +118,14 @@ module _ (t : Tables) (x : Sent) (xs : List Sent) (i : ℕ) (rest : NeverLate (t
       → (end .pair ≡ recordAt i t .pair) ⊎ Some (Moved (recordAt i t)) (x ∷ xs)
   unmoved e =
       ⊎-elim (λ f. inl (e ∙ f))
-      (λ m. inr (inl (record { spi = m .1 .spi; update = m .1 .update; newer = m .1 .newer; pair = e ∙ m .1 .pair })))
+      (λ m. inr (inl
+      (record {
+        spi = m .1 .spi;
+        own = m .1 .own;
+        update = m .1 .update;
+        newer = m .1 .newer;
+        pair = e ∙ m .1 .pair;
+      })))
       (first .moved)
 
   one-more : NeverLate t (x ∷ xs) i

@@ -38,14 +38,14 @@ octetsOf xs = chained xs 0
 abbrev rowAt : ℕ → NumberRow
 rowAt k = getD numberRows k (numberRow Done none same)
 
-module _ (policy : Policy) (t : Tables) (q : Request) where
+module _ (policies : List Policy) (t : Tables) (q : Request) where
   abbrev Found : Type 0
-  Found = Some (Gives policy t q) numberRows
+  Found = Some (Gives policies t q) numberRows
 
-  at : (k : ℕ) → k < length numberRows → {n : ℕ} {xs : List Notification} {s : Tables} → ComesTo policy t q n xs s
+  at : (k : ℕ) → k < length numberRows → {n : ℕ} {xs : List Notification} {s : Tables} → ComesTo policies t q n xs s
       → n ≡ rowAt k .number → xs ≡ rowAt k .response q → s ≡ rowAt k .tables q t → Found
   at k l c n o s =
-      some-at (Gives policy t q) (numberRow Done none same) numberRows k l
+      some-at (Gives policies t q) (numberRow Done none same) numberRows k l
       (record {
         number = c .number ∙ n;
         octets = c .octets ∙ ap octetsOf o;
@@ -59,16 +59,25 @@ module _ (policy : Policy) (t : Tables) (q : Request) where
       early-of _ _ _ q (λ (k : ℕ). early t q ≡ k → Found) (
         λ f e. at 1 (omega arith) c e refl refl,
         (
-          λ f e. at 2 (omega arith) c e refl refl,
+          λ f e. at 1 (omega arith) c e refl refl,
           (
-            λ f e. at 3 (omega arith) c e refl refl,
-            (λ f e. at 4 (omega arith) c e refl refl, (λ f e. at 5 (omega arith) c e refl refl, λ e. absurd (n e))),
+            λ f e. at 2 (omega arith) c e refl refl,
+            (
+              λ f e. at 3 (omega arith) c e refl refl,
+              (
+                λ f e. at 4 (omega arith) c e refl refl,
+                (
+                  λ f e. at 4 (omega arith) c e refl refl,
+                  (λ f e. at 5 (omega arith) c e refl refl, λ e. absurd (n e)),
+                ),
+              ),
+            ),
           ),
         ),
       ) refl
     where
-      c : ComesTo policy t q (early t q) [] t
-      c = refused-early policy t q n
+      c : ComesTo policies t q (early t q) [] t
+      c = refused-early policies t q n
 
   chain-row : early t q ≡ 0 → (chainNumber q ≡ 0 → ⊥) → Found
   unfolding chainError
@@ -84,8 +93,8 @@ module _ (policy : Policy) (t : Tables) (q : Request) where
       })
       (q .asks .first) (q .asks .body) (passed _ _ _ q e .short) n refl
     where
-      c : ComesTo policy t q (chainNumber q) (chainError (reading (q .asks .first) (q .asks .body))) t
-      c = refused-chain policy t q e n
+      c : ComesTo policies t q (chainNumber q) (chainError (reading (q .asks .first) (q .asks .body))) t
+      c = refused-chain policies t q e n
 
       malformed : (k : ℕ) → k < length numberRows → chainNumber q ≡ rowAt k .number → eqb (rowAt k .number) 7 ≡ false
           → syntaxError q ≡ rowAt k .response q → t ≡ rowAt k .tables q t → Found
@@ -94,10 +103,11 @@ module _ (policy : Policy) (t : Tables) (q : Request) where
           at k l c f (rw seven o) s
 
   whole-row : early t q ≡ 0 → chainNumber q ≡ 0
-      → Decides (accepts policy q) q (marksIn (entry t q)) (decisionOn (accepts policy q) (q .asks) (marksIn (entry t q))) → Found
-  whole-row e w (done c) = at 0 (omega arith) (decided-here policy t q e w c) refl refl refl
+      → Decides (accepts policies q) q (marksIn (entry t q))
+      (decisionOn (accepts policies q) (q .asks) (marksIn (entry t q))) → Found
+  whole-row e w (done c) = at 0 (omega arith) (decided-here policies t q e w c) refl refl refl
   whole-row e w (refused v which r) =
-      let c = decided-here policy t q e w (r .comes) in
+      let c = decided-here policies t q e w (r .comes) in
       ⊎-elim (λ f. at 12 (omega arith) c (rw f) (rw f) refl) (λ f. at 13 (omega arith) c (rw f) (rw f) refl) which
 
   found : Found
@@ -106,7 +116,7 @@ module _ (policy : Policy) (t : Tables) (q : Request) where
       go : Dec (early t q ≡ 0) → Dec (chainNumber q ≡ 0) → Found
       go (no n) d = early-row n
       go (yes e) (no n) = chain-row e n
-      go (yes e) (yes w) = whole-row e w (decides (accepts policy q) q (marksIn (entry t q)))
+      go (yes e) (yes w) = whole-row e w (decides (accepts policies q) q (marksIn (entry t q)))
 
 pub as-the-table : AsTheTable
 as-the-table = found

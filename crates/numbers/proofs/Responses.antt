@@ -82,12 +82,18 @@ module _ (t : Tables) (q : CheckResponse) where
       (checkResponseChecks (length (t .ipsec)) (hasIke (q .spi) (t .ike)) (entry t q) q) (
         λ f e. refused early 0 0 is 1 (omega arith) e refl refl,
         (
-          λ f e. refused early 0 0 is 2 (omega arith) e refl refl,
+          λ f e. refused early 0 0 is 1 (omega arith) e refl refl,
           (
-            λ f e. refused early 0 0 is 3 (omega arith) e refl refl,
+            λ f e. refused early 0 0 is 2 (omega arith) e refl refl,
             (
-              λ f e. refused early 0 0 is 4 (omega arith) e refl refl,
-              (λ f e. refused early 0 0 is 5 (omega arith) e refl refl, λ e. absurd (n e)),
+              λ f e. refused early 0 0 is 3 (omega arith) e refl refl,
+              (
+                λ f e. refused early 0 0 is 3 (omega arith) e refl refl,
+                (
+                  λ f e. refused early 0 0 is 4 (omega arith) e refl refl,
+                  (λ f e. refused early 0 0 is 5 (omega arith) e refl refl, λ e. absurd (n e)),
+                ),
+              ),
             ),
           ),
         ),

@@ -42,14 +42,14 @@ entry t q = meant (t .ike) (q .spi)
 abbrev pub changedTo : Tables → Request → IkeRecord → Tables
 changedTo t q e = tables (set (t .ike) (place t q) e) (t .ipsec)
 
-module _ (policy : Policy) (t : Tables) (q : Request) where
+module _ (policies : List Policy) (t : Tables) (q : Request) where
   -- number, response with what is told of it, and tables
   pub record ComesTo (n : ℕ) (response : List Notification) (s : Tables) : Type 0 where
-    pub number : handled policy (t .ike) (t .ipsec) q .reply .number ≡ n
-    pub octets : handledResponse policy (t .ike) (t .ipsec) q ≡ chained response 0
-    pub first : handled policy (t .ike) (t .ipsec) q .reply .first ≡ firstType response 0
-    pub long : handled policy (t .ike) (t .ipsec) q .reply .length ≡ length (chained response 0)
-    pub after : afterRequest policy q t ≡ s
+    pub number : handled policies (t .ike) (t .ipsec) q .reply .number ≡ n
+    pub octets : handledResponse policies (t .ike) (t .ipsec) q ≡ chained response 0
+    pub first : handled policies (t .ike) (t .ipsec) q .reply .first ≡ firstType response 0
+    pub long : handled policies (t .ike) (t .ipsec) q .reply .length ≡ length (chained response 0)
+    pub after : afterRequest policies q t ≡ s
 
   pub refused-early : (early t q ≡ 0 → ⊥) → ComesTo (early t q) [] t
   unfolding afterRequest handled handledResponse chained
@@ -59,7 +59,7 @@ module _ (policy : Policy) (t : Tables) (q : Request) where
 
   module _ (passes : early t q ≡ 0) where
     by-core : {n : ℕ} {response : List Notification} {e : IkeRecord}
-        → CoreComes (accepts policy q) q (entry t q) n response e → ComesTo n response (changedTo t q e)
+        → CoreComes (accepts policies q) q (entry t q) n response e → ComesTo n response (changedTo t q e)
     unfolding afterRequest handled handledResponse
     by-core c =
         let f = eq-eqb (early t q) 0 passes in
@@ -74,20 +74,20 @@ module _ (policy : Policy) (t : Tables) (q : Request) where
     pub refused-chain : (chainNumber q ≡ 0 → ⊥)
         → ComesTo (chainNumber q) (chainError (reading (q .asks .first) (q .asks .body))) t
     refused-chain n =
-        let c = by-core (core-refused (accepts policy q) q (entry t q) n) in
+        let c = by-core (core-refused (accepts policies q) q (entry t q) n) in
         let same = ap (λ (ike : List IkeRecord). tables ike (t .ipsec)) (set-getD (t .ike) (place t q) noIke) in
         record { number = c .number; octets = c .octets; first = c .first; long = c .long; after = c .after ∙ same }
 
     pub decided-here : chainNumber q ≡ 0 → {v : Verdict} {u l : Bool} {m : Marks}
-        → Comes v u l m (decisionOn (accepts policy q) (q .asks) (marksIn (entry t q)))
+        → Comes v u l m (decisionOn (accepts policies q) (q .asks) (marksIn (entry t q)))
         → ComesTo (verdictNumber v) (decidedResponse v (q .asks) (seenIn q))
         (changedTo t q (entryBy q (entry t q) u l m))
-    decided-here w c = by-core (core-decided (accepts policy q) q (entry t q) w c)
+    decided-here w c = by-core (core-decided (accepts policies q) q (entry t q) w c)
 
   -- A change of the record meant: it moves only with an update that counts, and its marks stay or become the ID.
   pub record Changes (u l : Bool) (m : Marks) : Type 0 where
     pub passes : early t q ≡ 0
-    pub is : afterRequest policy q t ≡ changedTo t q (entryBy q (entry t q) u l m)
+    pub is : afterRequest policies q t ≡ changedTo t q (entryBy q (entry t q) u l m)
     pub moves : u ≡ true → applies q (entry t q) ≡ true
     pub update-mark : (m .«update_mark» ≡ entry t q .«update_mark») ⊎
         ((applies q (entry t q) ≡ true) × (m .«update_mark» ≡ q .asks .id + 1))
@@ -96,13 +96,14 @@ module _ (policy : Policy) (t : Tables) (q : Request) where
 
   -- What a request does to the tables.
   pub data Way : Type 0 where
-    stays : afterRequest policy q t ≡ t → Way
+    stays : afterRequest policies q t ≡ t → Way
     changes : (u l : Bool) (m : Marks) → Changes u l m → Way
 
   module _ (passes : early t q ≡ 0) (w : chainNumber q ≡ 0) where
     by-marks : {v : Verdict} {u l : Bool} (a b : Bool) → (u ≡ true → applies q (entry t q) ≡ true)
         → (a ≡ true → applies q (entry t q) ≡ true)
-        → Comes v u l (marksBy q a b (marksIn (entry t q))) (decisionOn (accepts policy q) (q .asks) (marksIn (entry t q))) → Way
+        → Comes v u l (marksBy q a b (marksIn (entry t q)))
+        (decisionOn (accepts policies q) (q .asks) (marksIn (entry t q))) → Way
     by-marks {v} {u} {l} a b moves raises c =
         changes u l (marksBy q a b (marksIn (entry t q)))
         (record {
@@ -119,7 +120,8 @@ module _ (policy : Policy) (t : Tables) (q : Request) where
           tally = omega arith;
         })
 
-    whole-way : Decides (accepts policy q) q (marksIn (entry t q)) (decisionOn (accepts policy q) (q .asks) (marksIn (entry t q))) → Way
+    whole-way : Decides (accepts policies q) q (marksIn (entry t q))
+        (decisionOn (accepts policies q) (q .asks) (marksIn (entry t q))) → Way
     whole-way (done c) = by-marks (applies q (entry t q)) (replaces q (entry t q)) (λ f. f) (λ f. f) c
     whole-way (refused v which r) = by-marks true false (λ f. r .counts) (λ f. r .counts) (r .comes)
 
@@ -129,4 +131,4 @@ module _ (policy : Policy) (t : Tables) (q : Request) where
       go : Dec (early t q ≡ 0) → Dec (chainNumber q ≡ 0) → Way
       go (no n) d = stays (refused-early n .after)
       go (yes e) (no n) = stays (refused-chain e n .after)
-      go (yes e) (yes w) = whole-way e w (decides (accepts policy q) q (marksIn (entry t q)))
+      go (yes e) (yes w) = whole-way e w (decides (accepts policies q) q (marksIn (entry t q)))

@@ -120,6 +120,7 @@ pub record NumberRow : Type 0 where
 abbrev pub numberRow : Number → (Request → List Notification) → (Request → Tables → Tables) → NumberRow
 numberRow n response left = record { number = numberOf n; response = response; tables = left }
 
+-- 02, E9: "A call for one operator finds only its own records, else answer 4"; no number is new for a request.
 abbrev pub numberRows : List NumberRow
 numberRows =
     numberRow Done asStep4 asSteps
@@ -145,14 +146,15 @@ module _ {A : Type 0} (P : A → Type 0) where
   Some (x ∷ xs) = P x ⊎ Some xs
 
 -- What a request gives back is a row: number, response with its first type and its length, tables.
-pub record Gives (policy : Policy) (t : Tables) (q : Request) (r : NumberRow) : Type 0 where
-  pub number : handled policy (t .ike) (t .ipsec) q .reply .number ≡ r .number
-  pub octets : handledResponse policy (t .ike) (t .ipsec) q ≡ chained (r .response q) 0
-  pub first : handled policy (t .ike) (t .ipsec) q .reply .first ≡ firstType (r .response q) 0
-  pub long : handled policy (t .ike) (t .ipsec) q .reply .length ≡ length (chained (r .response q) 0)
-  pub left : afterRequest policy q t ≡ r .tables q t
+pub record Gives (policies : List Policy) (t : Tables) (q : Request) (r : NumberRow) : Type 0 where
+  pub number : handled policies (t .ike) (t .ipsec) q .reply .number ≡ r .number
+  pub octets : handledResponse policies (t .ike) (t .ipsec) q ≡ chained (r .response q) 0
+  pub first : handled policies (t .ike) (t .ipsec) q .reply .first ≡ firstType (r .response q) 0
+  pub long : handled policies (t .ike) (t .ipsec) q .reply .length ≡ length (chained (r .response q) 0)
+  pub left : afterRequest policies q t ≡ r .tables q t
 
 -- Demand 1: "Each refusal has a number in document 01. It changes no table and writes nothing but what that table
--- names." Of every request, from any tables and policy; no two rows have one number.
+-- names." Of every request, whatever it names as its operator, from any tables and policies; no two rows have one
+-- number.
 abbrev pub AsTheTable : Type 0
-AsTheTable = (policy : Policy) (t : Tables) (q : Request) → Some (Gives policy t q) numberRows
+AsTheTable = (policies : List Policy) (t : Tables) (q : Request) → Some (Gives policies t q) numberRows

@@ -58,7 +58,8 @@ pub record ResponseRow : Type 0 where
 abbrev pub responseRow : Number → (CheckResponse → ℕ) → (CheckResponse → Tables → Tables) → ResponseRow
 responseRow n payloads left = record { number = numberOf n; payloads = payloads; tables = left }
 
--- "a response checks 1, 3, 4, 5, 14 (no pending check, or another ID), 6, 7"; E4: "61 to 65 take 6's place"
+-- "a response checks 1, 3, 4, 5, 14 (no pending check, or another ID), 6, 7"; E4: "61 to 65 take 6's place"; E9: "A
+-- call for one operator finds only its own records, else answer 4".
 abbrev pub responseRows : List ResponseRow
 responseRows =
     responseRow Done allPayloads asJudged
@@ -81,6 +82,7 @@ pub record GivesBack (t : Tables) (q : CheckResponse) (r : ResponseRow) : Type 0
   pub payloads : checked (t .ike) (t .ipsec) q .told .payloads ≡ r .payloads q
   pub left : afterResponse q t ≡ r .tables q t
 
--- Demand 1: "Each refusal has a number in document 01. It changes no table". Of every check response, from any tables.
+-- Demand 1: "Each refusal has a number in document 01. It changes no table". Of every check response, whatever it names
+-- as its operator, from any tables.
 abbrev pub ResponsesAsTheTable : Type 0
 ResponsesAsTheTable = (t : Tables) (q : CheckResponse) → Some (GivesBack t q) responseRows

@@ -1,6 +1,7 @@
 pub mod Octets
 pub mod Lists
 pub mod Flags
+pub mod Operators
 pub mod Numbers
 pub mod Checks
 pub mod Limits

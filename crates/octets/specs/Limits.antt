@@ -3,6 +3,8 @@
 --   bodyMost                     the longest body that is read
 --   ikePlaces, ipsecPlaces       places of the two tables
 --   peerRecordsMost              a peer with so many IKE records gets no clone
+--   operators                    how many share the gateway
+--   ikeShare, ipsecShare         an operator with so many records gets no more
 --   addressesMost, rulesMost     places of a list of addresses, and of the policy
 --   addressOctets                an address as it travels, of either family
 --   ip4Octets, ip6Octets         an address in a payload
@@ -30,6 +32,17 @@ ipsecPlaces = 128
 -- 02, E8: "42 peer has 4 records or more"
 abbrev pub peerRecordsMost : ℕ
 peerRecordsMost = 4
+
+-- 02, E9: "operator A (0) or B (1), one bit"
+abbrev pub operators : ℕ
+operators = 2
+
+-- 02, E9: "each operator has at most 20 of the 32 and 80 of the 128 IPsec records"
+abbrev pub ikeShare : ℕ
+ikeShare = 20
+
+abbrev pub ipsecShare : ℕ
+ipsecShare = 80
 
 -- "up to 16 additional addresses"; "The first 16 are kept"
 abbrev pub addressesMost : ℕ

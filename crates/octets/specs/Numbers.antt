@@ -3,7 +3,7 @@
 -- (octets after the end)"; E6: "14 (no pending check, or another ID)"; and E7: "30 malformed ..., 31 a middle IKE_AUTH
 -- response, or a nonce outside IKE_SA_INIT, 32 nonce missing or different, 33 time in seconds before the last accepted
 -- one's, 34 five accepted ones less than 300 seconds before it"; and E8: "40 support not agreed", "44 no CLONE_IKE_SA
--- there, 41 being deleted or table full ..., 42 peer has 4 records or more".
+-- there, 41 being deleted or table full ..., 42 peer has 4 records or more"; and E9: "43 operator at its share".
 --
 --   Number     an enum, as `octets/src/number.rt` declares it: a name for each number
 --   numberOf   the number for it
@@ -18,7 +18,7 @@ use Rattle.octets.specs.declared.number.Number.the-variants.{Full, SpiIn
 use Rattle.octets.specs.declared.number.Number.the-variants.{BadRedirect, WrongExchange, WrongNonce}
 use Rattle.octets.specs.declared.number.Number.the-variants.{TimeBeforeLast, TooManyRedirects}
 use Rattle.octets.specs.declared.number.Number.the-variants.{CloningNotAgreed, CannotCloneNow}
-use Rattle.octets.specs.declared.number.Number.the-variants.{PeerAtLimit, NoCloneRequest}
+use Rattle.octets.specs.declared.number.Number.the-variants.{PeerAtLimit, NoCloneRequest, OperatorAtShare}
 
 abbrev pub numberOf : Number → ℕ
 numberOf Done = 0
@@ -47,4 +47,5 @@ numberOf TooManyRedirects = 34
 numberOf CloningNotAgreed = 40
 numberOf CannotCloneNow = 41
 numberOf PeerAtLimit = 42
+numberOf OperatorAtShare = 43
 numberOf NoCloneRequest = 44

@@ -2,6 +2,7 @@
 pub mod flag;
 pub mod limits;
 pub mod number;
+pub mod operator;
 pub mod wire;
 
 use crate::limits::ADDRESS_OCTETS;

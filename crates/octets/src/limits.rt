@@ -9,6 +9,12 @@ pub const IPSEC_PLACES: usize = 128;
 
 pub const PEER_RECORDS_MOST: usize = 4;
 
+pub const OPERATORS: usize = 2;
+
+pub const IKE_SHARE: usize = 20;
+
+pub const IPSEC_SHARE: usize = 80;
+
 pub const ADDRESSES_MOST: usize = 16;
 
 pub const RULES_MOST: usize = 16;

@@ -30,6 +30,7 @@ pub enum Number {
     CloningNotAgreed,
     CannotCloneNow,
     PeerAtLimit,
+    OperatorAtShare,
     NoCloneRequest,
 }
 
@@ -64,6 +65,7 @@ pub fn number_of(n: Number) -> u8
         Number::CloningNotAgreed => 40,
         Number::CannotCloneNow => 41,
         Number::PeerAtLimit => 42,
+        Number::OperatorAtShare => 43,
         Number::NoCloneRequest => 44,
     }
 }

@@ -1,4 +1,5 @@
--- Trusted. The policy: which rules may be set, and which pairs they accept: 01, "The policy is up to 16 rules".
+-- Trusted. The policies, one an operator (02, E9): which rules may be set, and which pairs they accept: 01, "The policy
+-- is up to 16 rules".
 --
 --   ruleFits       both prefixes of a rule are addresses of its family
 --   lengthsFit     both lengths are at most the bits of its family
@@ -6,23 +7,25 @@
 --   acceptable     some rule of a policy accepts a pair
 --   noRule         what stands in a place that holds no rule
 --   kept           a list as it is stored: the first n rules, and nothing after them
+--   newPolicy      a policy as it is set; `noPolicy`: one with no rules
+--   policyOf       an operator's policy
 --   policyChecks   what is checked when a policy is set, in 01's order
---   setPolicy      the number that setting gives, and the policy after it
+--   setPolicy      the number that setting gives, and the policies after it
 use Prim.Native.Nat.{ℕ}
 use mathlib.Core.List.{List, [], _∷_}
 use mathlib.Core.Bool.{Bool, cond, _&&_, not}
 use lib.Dec.{eqb, leb, ltb}
-use lib.ListN.{take, replicate}
+use lib.ListN.{take, replicate, getD, set}
 use Rattle.octets.specs.declared.number.Number.the-variants.{BadArgument, BadPolicy}
 use Rattle.octets.specs.Checks.{Check, _gives_, firstFailed}
 use Rattle.octets.specs.Limits.{rulesMost, addressOctets}
+use Rattle.octets.specs.Operators.{isOperator}
 use Rattle.octets.specs.Lists.{all, any, firstOf}
 use Rattle.address.specs.Address.{widthOf, bothFit}
 use Rattle.address.specs.declared.pair.Pair.{Pair}
 use Rattle.prefix.specs.Prefix.{bitsOf, prefixMatches}
 use Rattle.policy.specs.declared.rules.Rule.{Rule}
 use Rattle.policy.specs.declared.rules.Policy.{Policy}
-use Rattle.policy.specs.declared.rules.PolicyAnswer.{PolicyAnswer}
 
 -- 01: "1: family not 4 or 6, IPv4 tail not zero", of a rule.
 abbrev pub ruleFits : Rule → Bool
@@ -64,19 +67,35 @@ noRule =
 abbrev pub kept : List Rule → ℕ → List Rule
 kept rules n = firstOf rulesMost noRule n rules
 
-abbrev pub policyAnswer : ℕ → Policy → PolicyAnswer
-policyAnswer number policy = record { number = number; policy = policy }
+abbrev pub newPolicy : ℕ → List Rule → Policy
+newPolicy n rules = record { count = n; rules = kept rules n }
 
--- 01: "Setting a policy checks the count (12), then 1, then the lengths (12)", each over the whole list.
-abbrev pub policyChecks : ℕ → List Rule → List Check
-policyChecks n rules =
+abbrev pub noPolicy : Policy
+noPolicy = record { count = 0; rules = replicate rulesMost noRule }
+
+-- E9: "Policies and peer limits are per operator". Whoever is no operator has no rules.
+abbrev pub policyOf : List Policy → ℕ → Policy
+policyOf policies operator = getD policies operator noPolicy
+
+-- What setting comes to: its number, and the policies after it.
+pub record PolicyAnswer : Type 0 where
+  pub number : ℕ
+  pub policies : List Policy
+
+abbrev pub policyAnswer : ℕ → List Policy → PolicyAnswer
+policyAnswer number policies = record { number = number; policies = policies }
+
+-- 01: "Setting a policy checks the count (12), then 1, then the lengths (12)", each over the whole list; a number that
+-- names no operator is a bad argument too.
+abbrev pub policyChecks : ℕ → List Rule → ℕ → List Check
+policyChecks n rules operator =
     ltb rulesMost n gives BadPolicy
-    ∷ not (all ruleFits (take n rules)) gives BadArgument
+    ∷ not (isOperator operator && all ruleFits (take n rules)) gives BadArgument
     ∷ not (all lengthsFit (take n rules)) gives BadPolicy
     ∷ []
 
--- 01: "Setting replaces the whole list".
-unfoldable pub setPolicy : Policy → ℕ → List Rule → PolicyAnswer
-setPolicy policy n rules =
-    let number = firstFailed (policyChecks n rules) in
-    cond (eqb number 0) (policyAnswer 0 (record { count = n; rules = kept rules n })) (policyAnswer number policy)
+-- 01: "Setting replaces the whole list", the operator's own.
+unfoldable pub setPolicy : List Policy → ℕ → List Rule → ℕ → PolicyAnswer
+setPolicy policies n rules operator =
+    let number = firstFailed (policyChecks n rules operator) in
+    cond (eqb number 0) (policyAnswer 0 (set policies operator (newPolicy n rules))) (policyAnswer number policies)

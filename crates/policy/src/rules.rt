@@ -3,9 +3,11 @@ use address::address::both_fit;
 use address::address::width_of;
 use address::pair::Pair;
 use octets::limits::ADDRESS_OCTETS;
+use octets::limits::OPERATORS;
 use octets::limits::RULES_MOST;
 use octets::number::Number;
 use octets::number::number_of;
+use octets::operator::not_operator;
 use prefix::prefix::prefix_matches;
 ghost use mathlib.Core.Path.{_≡_};
 ghost use mathlib.Core.Bool.{cond};
@@ -15,8 +17,9 @@ ghost use Rattle.octets.specs.Checks.{firstFailed};
 ghost use Rattle.octets.specs.Limits.{rulesMost};
 ghost use Rattle.octets.specs.Lists.{all};
 ghost use Rattle.octets.specs.Numbers.{numberOf};
-ghost use Rattle.policy.specs.Policy.{ruleFits, lengthsFit, ruleMatches};
-ghost use Rattle.policy.specs.Policy.{kept, policyChecks, setPolicy};
+ghost use Rattle.policy.specs.Policy.{ruleFits, lengthsFit, ruleMatches, acceptable};
+ghost use Rattle.policy.specs.Policy.{kept, policyChecks};
+ghost use Rattle.policy.specs.Change.{policySetting};
 
 #[repr(C)]
 pub struct Rule {
@@ -33,10 +36,11 @@ pub struct Policy {
     pub rules: [Rule; RULES_MOST],
 }
 
-// The number that setting a policy gives, and the policy after it.
-#[repr(C)]
-pub struct PolicyAnswer {
+// The number that setting a policy gives, and the policy that is stored at an operator's place; past the end, where
+// nothing is stored, with any number but 0.
+pub struct PolicyChange {
     pub number: u8,
+    pub place: usize,
     pub policy: Policy,
 }
 
@@ -84,6 +88,25 @@ pub fn rule_matches(rule: Rule, pair: Pair) -> bool
     } else {
         false
     }
+}
+
+// Whether some rule of the policy accepts the pair.
+pub fn accepts(policy: Policy, pair: Pair) -> bool
+    ensures { λ r. ⌜ r ≡ acceptable policy pair ⌝ }
+{
+    let count = policy.count as usize;
+    let mut i = 0;
+    while i < RULES_MOST {
+        if count <= i {
+            return false;
+        }
+        let rule = policy.rules[i];
+        if rule_matches(rule, pair) {
+            return true;
+        }
+        i += 1;
+    }
+    false
 }
 
 // Whether a rule passes one of the two tests: of its lengths, or of its addresses.
@@ -137,11 +160,14 @@ pub fn kept_rules(rules: [Rule; RULES_MOST], n: usize) -> [Rule; RULES_MOST]
 }
 
 // The number of setting these rules: each test is made of the whole list before the next.
-pub fn policy_number(n: usize, rules: [Rule; RULES_MOST]) -> Number
-    ensures { λ r. ⌜ numberOf r ≡ firstFailed (policyChecks n rules) ⌝ }
+pub fn policy_number(n: usize, rules: [Rule; RULES_MOST], operator: u8) -> Number
+    ensures { λ r. ⌜ numberOf r ≡ firstFailed (policyChecks n rules operator) ⌝ }
 {
     if RULES_MOST < n {
         return Number::BadPolicy;
+    }
+    if not_operator(operator) {
+        return Number::BadArgument;
     }
     if all_pass(rules, n, false) {
         if all_pass(rules, n, true) {
@@ -154,20 +180,24 @@ pub fn policy_number(n: usize, rules: [Rule; RULES_MOST]) -> Number
     }
 }
 
-// Sets the whole policy, or refuses and leaves it.
-pub fn set_policy(policy: Policy, count: u16, rules: [Rule; RULES_MOST]) -> PolicyAnswer
-    ensures { λ r. ⌜ r ≡ setPolicy policy count rules ⌝ }
+// Sets an operator's whole policy, or refuses.
+pub fn set_policy(count: u16, rules: [Rule; RULES_MOST], operator: u8) -> PolicyChange
+    ensures { λ r. ⌜ r ≡ policySetting count rules operator ⌝ }
 {
     let n = count as usize;
-    let number = number_of(policy_number(n, rules));
+    let number = number_of(policy_number(n, rules, operator));
     if number == 0 {
         let kept = kept_rules(rules, n);
-        let new = Policy { count, rules: kept };
-        PolicyAnswer {
+        PolicyChange {
             number,
-            policy: new,
+            place: operator as usize,
+            policy: Policy { count, rules: kept },
         }
     } else {
-        PolicyAnswer { number, policy }
+        PolicyChange {
+            number,
+            place: OPERATORS,
+            policy: Policy { count, rules },
+        }
     }
 }

@@ -19,7 +19,7 @@ pairShown =
     }
 
 pub record Examples : Type 0 where
-  -- "the trace `02 07` prints the one line `0 4 none none`"
+  -- "the trace `02 07` (by E9 `02 07 00`) prints the one line `0 4 none none`"
   pub closed : entryLine 0 4 0 0 ≡ ascii "0 4 none none\n"
   pub applied : entryLine 10 0 1 2 ≡ ascii "10 0 applied stale\n"
   pub replaced : entryLine 11 0 2 1 ≡ ascii "11 0 stale replaced\n"

@@ -38,9 +38,10 @@ released-clear o r clear =
     (λ e. chosen (λ (x : IpsecRecord). x .spi ≡ 0 → x ≡ noIpsec) (eqb (r .owner) o) (λ f z. refl) (λ f. clear))
 
 module _ (t : Tables) (w : WellFormed t) (spi : ℕ) where
-  closed-ipsec : IpsecClosed (t .ipsec) spi → WellFormed (afterCall t (closesIpsec spi))
+  closed-ipsec : (operator : ℕ) → IpsecClosed (t .ike) (t .ipsec) spi operator
+      → WellFormed (afterCall t (closesIpsec spi operator))
   unfolding afterCall
-  closed-ipsec o =
+  closed-ipsec operator o =
       let q = placeOf ipsecSpi spi (t .ipsec) in
       rw (o .is)
       (record {
@@ -73,15 +74,17 @@ module _ (t : Tables) (w : WellFormed t) (spi : ℕ) where
             );
       }
 
-  closed-ike : IkeClosed (t .ike) (t .ipsec) spi → WellFormed (afterCall t (closesIke spi))
+  closed-ike : (operator : ℕ) → IkeClosed (t .ike) (t .ipsec) spi operator
+      → WellFormed (afterCall t (closesIke spi operator))
   unfolding afterCall
-  closed-ike o = rw (o .is) (closed-well (o .there))
+  closed-ike operator o = rw (o .is) (closed-well (o .own .there))
 
-pub closes-ike-keeps : (spi : ℕ) → Keeps (λ (t : Tables). afterCall t (closesIke spi))
+pub closes-ike-keeps : (spi operator : ℕ) → Keeps (λ (t : Tables). afterCall t (closesIke spi operator))
 unfolding afterCall
-closes-ike-keeps spi t w =
-    ⊎-elim (λ e. rw (e .0, e .1) w) (closed-ike t w spi) (close-ike-cases (t .ike) (t .ipsec) spi)
+closes-ike-keeps spi operator t w =
+    ⊎-elim (λ e. rw (e .0, e .1) w) (closed-ike t w spi operator) (close-ike-cases (t .ike) (t .ipsec) spi operator)
 
-pub closes-ipsec-keeps : (spi : ℕ) → Keeps (λ (t : Tables). afterCall t (closesIpsec spi))
+pub closes-ipsec-keeps : (spi operator : ℕ) → Keeps (λ (t : Tables). afterCall t (closesIpsec spi operator))
 unfolding afterCall
-closes-ipsec-keeps spi t w = ⊎-elim (λ e. rw e w) (closed-ipsec t w spi) (close-ipsec-cases (t .ipsec) spi)
+closes-ipsec-keeps spi operator t w =
+    ⊎-elim (λ e. rw e w) (closed-ipsec t w spi operator) (close-ipsec-cases (t .ike) (t .ipsec) spi operator)

@@ -1,7 +1,7 @@
 -- What was agreed for an IKE record in use stays, and so does its deletion mark but for the call that sets it, call by
 -- call.
 use Prim.Native.Nat.{ℕ, _<_}
-use mathlib.Core.Path.{_≡_, refl, sym, ap, subst, _∙_}
+use mathlib.Core.Path.{_≡_, refl, sym, ap, _∙_}
 use mathlib.Core.Logic.{⊎-elim}
 use mathlib.Core.List.{List}
 use native.Mathlib.Decide.{ℕ-discrete}
@@ -14,7 +14,7 @@ use Rattle.records.specs.Records.{ikeSpi, noIke, cloneOf, deletionMarked, unche
 use Rattle.records.specs.declared.ike.IkeRecord.{IkeRecord}
 use Rattle.tables.specs.Opening.{ikeOf}
 use Rattle.tables.specs.Tables.{Tables, meant}
-use Rattle.tables.proofs.Cases.{both-or-neither, close-ike-cases, mark-deletion-cases}
+use Rattle.tables.proofs.Cases.{Own, both-or-neither, close-ike-cases, mark-deletion-cases}
 use Rattle.checking.specs.Checks.{Request}
 use Rattle.checking.proofs.Checks.{passed}
 use Rattle.policy.specs.declared.rules.Policy.{Policy}
@@ -26,7 +26,7 @@ use Rattle.routability.proofs.Laws as laws
 use Rattle.cloning.proofs.Cloned.{clone-cases}
 use Rattle.reached.specs.Reached.{Call, opensBoth, opensIpsec, closesIke, closesIpsec, requests, checks}
 use Rattle.reached.specs.Reached.{clones, marksDeletion, afterCall}
-use Rattle.reached.specs.Deletion.{MarkAfter, kept, marked, Kept, DeletionKept}
+use Rattle.reached.specs.Deletion.{kept, marked, Kept, DeletionKept}
 
 module _ (t : Tables) (i : ℕ) (used : getD (t .ike) i noIke .spi ≡ 0 → ⊥) where
   abbrev old : IkeRecord
@@ -61,12 +61,12 @@ module _ (t : Tables) (i : ℕ) (used : getD (t .ike) i noIke .spi ≡ 0 → ⊥
       → Is c (set (t .ike) (placeOf ikeSpi spi (t .ike)) noIke)
   closed c spi there = stored c (placeOf ikeSpi spi (t .ike)) noIke there (λ e n. absurd (n refl))
 
-  of-request : (policy : Policy) (q : Request) → ways.Way policy t q
-      → Is (requests policy q) (afterRequest policy q t .ike)
-  of-request policy q (ways.stays e) = rw e (same (requests policy q))
-  of-request policy q (ways.changes u l m c) =
+  of-request : (policies : List Policy) (q : Request) → ways.Way policies t q
+      → Is (requests policies q) (afterRequest policies q t .ike)
+  of-request policies q (ways.stays e) = rw e (same (requests policies q))
+  of-request policies q (ways.changes u l m c) =
       rw (c .is)
-      (stored (requests policy q) (ways.place t q) (entryBy q (ways.entry t q) u l m)
+      (stored (requests policies q) (ways.place t q) (entryBy q (ways.entry t q) u l m)
       (ltb-true _ _ (passed _ _ _ q (c .passes) .found))
       (λ e n. rw e (record { spi = refl; agreed = refl; deleting = kept refl })))
 
@@ -82,19 +82,20 @@ module _ (t : Tables) (i : ℕ) (used : getD (t .ike) i noIke .spi ≡ 0 → ⊥
   of-response q (laws.accepted o c) = rw (c .is) (ended q (c .there))
   of-response q (laws.failed c) = rw (c .is) (ended q (c .there))
 
-  marks : (spi : ℕ) → placeOf ikeSpi spi (t .ike) < length (t .ike)
-      → Is (marksDeletion spi)
+  marks : (spi operator : ℕ) → Own operator spi (t .ike)
+      → Is (marksDeletion spi operator)
       (set (t .ike) (placeOf ikeSpi spi (t .ike)) (deletionMarked (meant (t .ike) spi)))
-  marks spi there =
+  marks spi operator own =
       let p = placeOf ikeSpi spi (t .ike) in
       let y = deletionMarked (meant (t .ike) spi) in
-      stored (marksDeletion spi) p y there
+      stored (marksDeletion spi operator) p y (own .there)
       (λ e n.
-      let has : old .spi ≡ spi = ap ikeSpi e ∙ place-has ikeSpi spi (t .ike) noIke there in
+      let has : old .spi ≡ spi = ap ikeSpi e ∙ place-has ikeSpi spi (t .ike) noIke (own .there) in
+      let names : old .agreed .operator ≡ operator = ap (λ (r : IkeRecord). r .agreed .operator) e ∙ own .own in
       record {
         spi = ap ikeSpi (sym e);
         agreed = ap (λ (r : IkeRecord). r .agreed) (sym e);
-        deleting = subst (λ (k : ℕ). MarkAfter old y (marksDeletion k)) has (marked refl);
+        deleting = rw (← has, ← names) (marked refl);
       })
 
   keeps : (c : Call) → Is c (afterCall t c .ike)
@@ -102,20 +103,21 @@ module _ (t : Tables) (i : ℕ) (used : getD (t .ike) i noIke .spi ≡ 0 → ⊥
   keeps (opensBoth o) =
       ⊎-elim (λ b. rw (b .is) (beside (opensBoth o) (ikeOf o) (b .room))) (λ e. rw (e .same) (same (opensBoth o)))
       (both-or-neither (t .ike) (t .ipsec) o)
-  keeps (opensIpsec spi own) = same (opensIpsec spi own)
-  keeps (closesIke spi) =
-      ⊎-elim (λ e. rw (e .0) (same (closesIke spi))) (λ o. rw (o .is) (closed (closesIke spi) spi (o .there)))
-      (close-ike-cases (t .ike) (t .ipsec) spi)
-  keeps (closesIpsec spi) = same (closesIpsec spi)
-  keeps (requests policy q) = of-request policy q (ways.way policy t q)
+  keeps (opensIpsec spi owner operator) = same (opensIpsec spi owner operator)
+  keeps (closesIke spi operator) =
+      ⊎-elim (λ e. rw (e .0) (same (closesIke spi operator)))
+      (λ o. rw (o .is) (closed (closesIke spi operator) spi (o .own .there)))
+      (close-ike-cases (t .ike) (t .ipsec) spi operator)
+  keeps (closesIpsec spi operator) = same (closesIpsec spi operator)
+  keeps (requests policies q) = of-request policies q (ways.way policies t q)
   keeps (checks q) = of-response q (laws.way t q)
   keeps (clones q) =
       ⊎-elim (λ n. rw (n .same) (same (clones q)))
       (λ c. rw (c .is) (beside (clones q) (cloneOf (q .new-spi) (meant (t .ike) (q .spi))) (c .room)))
       (clone-cases (t .ike) q)
-  keeps (marksDeletion spi) =
-      ⊎-elim (λ e. rw e (same (marksDeletion spi))) (λ d. rw (d .is) (marks spi (d .there)))
-      (mark-deletion-cases (t .ike) spi)
+  keeps (marksDeletion spi operator) =
+      ⊎-elim (λ e. rw e (same (marksDeletion spi operator))) (λ d. rw (d .is) (marks spi operator (d .own)))
+      (mark-deletion-cases (t .ike) spi operator)
 
 pub deletion-kept : DeletionKept
 deletion-kept t c i used = keeps t i used c

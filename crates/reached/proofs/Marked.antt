@@ -11,14 +11,15 @@ use Rattle.reached.specs.WellFormed.{WellFormed}
 use Rattle.reached.specs.Reached.{marksDeletion, afterCall}
 use Rattle.reached.proofs.Stored.{Keeps, held, ike-changed}
 
-marked : (t : Tables) → WellFormed t → (spi : ℕ) → DeletionMarked (t .ike) spi
-    → WellFormed (afterCall t (marksDeletion spi))
+marked : (t : Tables) → WellFormed t → (spi operator : ℕ) → DeletionMarked (t .ike) spi operator
+    → WellFormed (afterCall t (marksDeletion spi operator))
 unfolding afterCall
-marked t w spi d =
-    let h = held t w spi (d .named) (d .there) in
+marked t w spi operator d =
+    let own = d .own in
+    let h = held t w spi (own .named) (own .there) in
     let old = h .fits in
     rw (d .is)
-    (ike-changed t w (placeOf ikeSpi spi (t .ike)) (deletionMarked (meant (t .ike) spi)) (d .there) (h .named) refl
+    (ike-changed t w (placeOf ikeSpi spi (t .ike)) (deletionMarked (meant (t .ike) spi)) (own .there) (h .named) refl
     (record {
       agreed = old .agreed;
       pair = old .pair;
@@ -31,6 +32,7 @@ marked t w spi d =
       deleting = omega arith;
     }))
 
-pub marks-deletion-keeps : (spi : ℕ) → Keeps (λ (t : Tables). afterCall t (marksDeletion spi))
+pub marks-deletion-keeps : (spi operator : ℕ) → Keeps (λ (t : Tables). afterCall t (marksDeletion spi operator))
 unfolding afterCall
-marks-deletion-keeps spi t w = ⊎-elim (λ e. rw e w) (marked t w spi) (mark-deletion-cases (t .ike) spi)
+marks-deletion-keeps spi operator t w =
+    ⊎-elim (λ e. rw e w) (marked t w spi operator) (mark-deletion-cases (t .ike) spi operator)

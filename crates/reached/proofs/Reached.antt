@@ -21,13 +21,13 @@ use Rattle.reached.proofs.Marked.{marks-deletion-keeps}
 -- A law for each call.
 keeps : (c : Call) → Typed c → Keeps (λ (t : Tables). afterCall t c)
 keeps (opensBoth o) typed = opens-both-keeps o typed
-keeps (opensIpsec spi owner) typed = opens-ipsec-keeps spi owner
-keeps (closesIke spi) typed = closes-ike-keeps spi
-keeps (closesIpsec spi) typed = closes-ipsec-keeps spi
-keeps (requests policy q) typed = requests-keeps policy q typed
+keeps (opensIpsec spi owner operator) typed = opens-ipsec-keeps spi owner operator
+keeps (closesIke spi operator) typed = closes-ike-keeps spi operator
+keeps (closesIpsec spi operator) typed = closes-ipsec-keeps spi operator
+keeps (requests policies q) typed = requests-keeps policies q typed
 keeps (checks q) typed = checks-keeps q
 keeps (clones q) typed = clones-keeps q
-keeps (marksDeletion spi) typed = marks-deletion-keeps spi
+keeps (marksDeletion spi operator) typed = marks-deletion-keeps spi operator
 
 pub stays-well-formed : StaysWellFormed
 unfolding afterAll

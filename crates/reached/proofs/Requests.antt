@@ -30,7 +30,7 @@ use Rattle.reached.proofs.Stored.{Keeps, Held, held, ike-changed}
 abbrev Families : ℕ → List Address → Type 0
 Families n addresses = (i : ℕ) → i < n → isFamily (getD addresses i noAddress .family) ≡ true
 
-module _ (policy : Policy) (q : Request) (typed : LentWith q) (t : Tables) (w : WellFormed t) where
+module _ (policies : List Policy) (q : Request) (typed : LentWith q) (t : Tables) (w : WellFormed t) where
   module _ (passes : early t q ≡ 0) where
     there : place t q < length (t .ike)
     there = ltb-true _ _ (passed _ _ _ q passes .found)
@@ -41,7 +41,7 @@ module _ (policy : Policy) (q : Request) (typed : LentWith q) (t : Tables) (w : 
     pair-fits : pairFits (q .asks .pair) ≡ true
     pair-fits = passed _ _ _ q passes .pair
 
-  module _ (u l : Bool) (m : Marks) (c : Changes policy t q u l m) where
+  module _ (u l : Bool) (m : Marks) (c : Changes policies t q u l m) where
     in-bounds : IkeBounds (entryBy q (entry t q) u l m)
     in-bounds =
         let old = meant-held (c .passes) .fits in
@@ -67,17 +67,17 @@ module _ (policy : Policy) (q : Request) (typed : LentWith q) (t : Tables) (w : 
         listed h true = families-known (q .asks .first) (q .asks .body)
         listed h false = h
 
-    changed : WellFormed (afterRequest policy q t)
+    changed : WellFormed (afterRequest policies q t)
     changed =
         let named = meant-held (c .passes) .named in
         rw (c .is)
         (ike-changed t w (place t q) (entryBy q (entry t q) u l m) (there (c .passes)) named refl in-bounds)
 
-  kept : Way policy t q → WellFormed (afterRequest policy q t)
+  kept : Way policies t q → WellFormed (afterRequest policies q t)
   kept (stays e) = rw e w
   kept (changes u l m c) = changed u l m c
 
-pub requests-keeps : (policy : Policy) (q : Request) → LentWith q
-    → Keeps (λ (t : Tables). afterCall t (requests policy q))
+pub requests-keeps : (policies : List Policy) (q : Request) → LentWith q
+    → Keeps (λ (t : Tables). afterCall t (requests policies q))
 unfolding afterCall
-requests-keeps policy q typed t w = kept policy q typed t w (way policy t q)
+requests-keeps policies q typed t w = kept policies q typed t w (way policies t q)

@@ -6,7 +6,7 @@ use mathlib.Core.List.{List, [], _∷_, map}
 use borrow.Author.Tests.{eqb-true, eqb-false, eq-eqb, ne-eqb, lt-ltb}
 use lib.Dec.{eqb}
 use lib.ListN.{length, getD, set, length-set, length-map, List·getD-map}
-use lib.Seq.{set-set, set-getD, ext-getD}
+use lib.Seq.{getD-set-same, set-set, set-getD, ext-getD}
 use Rattle.octets.specs.Limits.{ipsecPlaces}
 use Rattle.octets.specs.Lists.{placeOf}
 use Rattle.octets.proofs.Small.{chosen}
@@ -23,6 +23,7 @@ use Rattle.tables.proofs.Cases.{both-or-neither}
 use Rattle.reached.specs.WellFormed.{Cleared, WellFormed}
 use Rattle.reached.specs.Reached.{afterAll, empty}
 use Rattle.reached.specs.Undone.{ClosingUndoes}
+use Rattle.reached.proofs.Opens.{names-operator}
 use Rattle.reached.proofs.Stored.{owned-by-none}
 use Rattle.reached.proofs.Reached.{reached}
 
@@ -60,8 +61,8 @@ module _ (t : Tables) (w : WellFormed t) (o : Opening) (b : BothOpened (t .ike) 
       ∙ unreleased (o .spi) (getD (t .ipsec) i noIpsec)
       (owned-by-none t w (o .spi) (b .new) i (rw (← length-map (t .ipsec) (released (o .spi))) l)))
 
-  undone : closeIke (set (t .ike) p (ikeOf o)) (set (t .ipsec) q (childOf o)) (o .spi) ≡ tablesAnswer 0 (t .ike)
-      (t .ipsec)
+  undone : closeIke (set (t .ike) p (ikeOf o)) (set (t .ipsec) q (childOf o)) (o .spi) (o .agreed .operator)
+      ≡ tablesAnswer 0 (t .ike) (t .ipsec)
   unfolding closeIke
   undone =
       let gone : released (o .spi) (childOf o) ≡ noIpsec =
@@ -70,9 +71,12 @@ module _ (t : Tables) (w : WellFormed t) (o : Opening) (b : BothOpened (t .ike) 
         length-set (t .ipsec) q (childOf o),
         eq-eqb (length (t .ipsec)) ipsecPlaces (w .ipsecs .long),
         ne-eqb (o .spi) 0 (b .named),
+        names-operator t o b,
         finds-opened ikeSpi noIke (t .ike) (ikeOf o) (b .room) (b .new),
         length-set (t .ike) p (ikeOf o),
         lt-ltb p (length (t .ike)) (b .room),
+        getD-set-same (t .ike) p (ikeOf o) noIke (b .room),
+        eq-eqb (o .agreed .operator) (o .agreed .operator) refl,
         set-set (t .ike) p (ikeOf o) noIke,
         map-set (released (o .spi)) (t .ipsec) q (childOf o),
         none-released,

@@ -25,31 +25,33 @@ use Rattle.reached.specs.WellFormed.{messageIds, peerNumbers, WellFormed
 abbrev pub empty : Tables
 empty = tables (replicate ikePlaces noIke) (replicate ipsecPlaces noIpsec)
 
--- Each call that writes tables, with its arguments; a request comes with the policy of its time.
+-- Each call that writes tables, with its arguments; a request comes with the policies of its time. 02, E9: "Each ...
+-- table call names operator A (0) or B (1)", an opening of both in what is agreed.
 pub data Call : Type 0 where
   opensBoth : Opening → Call
-  opensIpsec : ℕ → ℕ → Call
-  closesIke : ℕ → Call
-  closesIpsec : ℕ → Call
-  requests : Policy → Request → Call
+  opensIpsec : ℕ → ℕ → ℕ → Call
+  closesIke : ℕ → ℕ → Call
+  closesIpsec : ℕ → ℕ → Call
+  requests : List Policy → Request → Call
   checks : CheckResponse → Call
   clones : CloneRequest → Call
-  marksDeletion : ℕ → Call
+  marksDeletion : ℕ → ℕ → Call
 
 -- the tables after a call, whatever number it gives
 unfoldable pub afterCall : Tables → Call → Tables
 afterCall t (opensBoth o) =
     let r = openBoth (t .ike) (t .ipsec) o in
     tables (r .ike) (r .ipsec)
-afterCall t (opensIpsec spi owner) = tables (t .ike) (openIpsec (t .ike) (t .ipsec) spi owner .ipsec)
-afterCall t (closesIke spi) =
-    let r = closeIke (t .ike) (t .ipsec) spi in
+afterCall t (opensIpsec spi owner operator) =
+    tables (t .ike) (openIpsec (t .ike) (t .ipsec) spi owner operator .ipsec)
+afterCall t (closesIke spi operator) =
+    let r = closeIke (t .ike) (t .ipsec) spi operator in
     tables (r .ike) (r .ipsec)
-afterCall t (closesIpsec spi) = tables (t .ike) (closeIpsec (t .ipsec) spi .ipsec)
-afterCall t (requests policy q) = afterRequest policy q t
+afterCall t (closesIpsec spi operator) = tables (t .ike) (closeIpsec (t .ike) (t .ipsec) spi operator .ipsec)
+afterCall t (requests policies q) = afterRequest policies q t
 afterCall t (checks q) = afterResponse q t
 afterCall t (clones q) = tables (afterClone q (t .ike)) (t .ipsec)
-afterCall t (marksDeletion spi) = tables (markDeletion (t .ike) spi .ike) (t .ipsec)
+afterCall t (marksDeletion spi operator) = tables (markDeletion (t .ike) spi operator .ike) (t .ipsec)
 
 unfoldable pub afterAll : Tables → List Call → Tables
 unfolding afterCall
@@ -64,16 +66,17 @@ pub record LentWith (q : Request) : Type 0 where
   pub check-id-fits : check-id < messageIds
   pub check : q .asks .check ≡ checkOf cookie check-id
 
--- What the types of the exported arguments fix: a message ID and a peer number have 32 bits.
+-- What the types of the exported arguments fix: a message ID and a peer number have 32 bits. Any number may be named as
+-- the operator: one that is none is refused.
 abbrev pub Typed : Call → Type 0
 Typed (opensBoth o) = o .agreed .peer < peerNumbers
-Typed (opensIpsec spi owner) = Unit {0}
-Typed (closesIke spi) = Unit {0}
-Typed (closesIpsec spi) = Unit {0}
-Typed (requests policy q) = LentWith q
+Typed (opensIpsec spi owner operator) = Unit {0}
+Typed (closesIke spi operator) = Unit {0}
+Typed (closesIpsec spi operator) = Unit {0}
+Typed (requests policies q) = LentWith q
 Typed (checks q) = Unit {0}
 Typed (clones q) = Unit {0}
-Typed (marksDeletion spi) = Unit {0}
+Typed (marksDeletion spi operator) = Unit {0}
 
 -- Whatever calls are made on well-formed tables, and so on empty ones.
 abbrev pub StaysWellFormed : Type 0

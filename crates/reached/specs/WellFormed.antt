@@ -19,6 +19,7 @@ use lib.Dec.{eqb}
 use lib.ListN.{length, getD}
 use Rattle.octets.specs.Limits.{ikePlaces, ipsecPlaces, addressesMost, cookieMost, tallyMost}
 use Rattle.octets.specs.Lists.{placeOf}
+use Rattle.octets.specs.Operators.{isOperator}
 use Rattle.address.specs.Address.{widthOf, noAddress, pairFits}
 use Rattle.records.specs.Pending.{cookieSized}
 use Rattle.records.specs.Records.{ikeSpi, ipsecSpi, noIke, noIpsec}
@@ -70,10 +71,12 @@ pub record CheckBounds (c : PendingCheck) : Type 0 where
   pub no-id : c .length ≡ 0 → c .id ≡ 0
   pub id : c .id < messageIds
 
--- What is agreed at an opening, and kept by a clone: a yes is stored as 1.
+-- What is agreed at an opening, and kept by a clone: a yes is stored as 1. 02, E9: "Each IKE record ... names operator
+-- A (0) or B (1)".
 pub record AgreedBounds (a : Agreed) : Type 0 where
   pub mobike : a .mobike ≤ 1
   pub cloning : a .cloning ≤ 1
+  pub operator : isOperator (a .operator) ≡ true
   pub peer : a .peer < peerNumbers
 
 -- What 01 says of an IKE record in use: its pair passed check 1, so its family is 4 or 6; "an update mark and a list

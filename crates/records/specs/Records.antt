@@ -11,7 +11,7 @@
 --   remarked, relisted      a record with other marks (and pair and check), with another list
 --   unchecked               a record whose check has ended
 --   deletionMarked          a record that is being deleted
---   ofPeer                  a record in use has a peer number
+--   ofOperator, ofPeer      a record in use is an operator's, and of a peer number
 use Prim.Native.Nat.{ℕ}
 use mathlib.Core.Bool.{Bool, cond, _&&_, not}
 use mathlib.Core.List.{List}
@@ -37,10 +37,16 @@ ipsecSpi r = r .spi
 
 -- What is agreed at an opening, as it is stored; and of a place that is free.
 abbrev pub settled : Agreed → Agreed
-settled a = record { mobike = zeroOrOne (a .mobike); cloning = zeroOrOne (a .cloning); peer = a .peer }
+settled a =
+    record {
+      mobike = zeroOrOne (a .mobike);
+      cloning = zeroOrOne (a .cloning);
+      operator = a .operator;
+      peer = a .peer;
+    }
 
 abbrev pub noneAgreed : Agreed
-noneAgreed = record { mobike = 0; cloning = 0; peer = 0 }
+noneAgreed = record { mobike = 0; cloning = 0; operator = 0; peer = 0 }
 
 -- 01: "A new IKE record has no marks, an empty list, tally 0." It has no pending check (02, E6) and no deletion mark
 -- (E8) either.
@@ -145,6 +151,11 @@ deletionMarked r =
       deleting = 1;
     }
 
--- E8: "peer has 4 records or more": those in use with its number, being deleted or not.
-abbrev pub ofPeer : ℕ → IkeRecord → Bool
-ofPeer peer r = not (eqb (r .spi) 0) && eqb (r .agreed .peer) peer
+-- E9: "Each IKE record ... names operator A (0) or B (1)".
+abbrev pub ofOperator : ℕ → IkeRecord → Bool
+ofOperator operator r = not (eqb (r .spi) 0) && eqb (r .agreed .operator) operator
+
+-- E8: "peer has 4 records or more": those in use with its number, being deleted or not; E9: "peer limits are per
+-- operator".
+abbrev pub ofPeer : ℕ → ℕ → IkeRecord → Bool
+ofPeer operator peer r = ofOperator operator r && eqb (r .agreed .peer) peer

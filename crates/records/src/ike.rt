@@ -15,6 +15,8 @@ ghost use Rattle.records.specs.Records.{unchecked, deletionMarked};
 pub struct Agreed {
     pub mobike: u8,
     pub cloning: u8,
+    // Whose the record is: 0 or 1; any other octet is neither operator's.
+    pub operator: u8,
     // The host's number for the peer, which its clones share.
     pub peer: u32,
 }
@@ -52,6 +54,7 @@ pub fn settle(given: Agreed) -> Agreed
     Agreed {
         mobike: zero_or_one(given.mobike),
         cloning: zero_or_one(given.cloning),
+        operator: given.operator,
         peer: given.peer,
     }
 }
@@ -100,6 +103,7 @@ pub fn no_ike() -> IkeRecord
     let agreed = Agreed {
         mobike: 0,
         cloning: 0,
+        operator: 0,
         peer: 0,
     };
     new_ike(0, agreed, pair)

@@ -1,5 +1,6 @@
 -- Requests and check responses as calls by their SPI.
 use mathlib.Core.Path.{_≡_, ap}
+use mathlib.Core.List.{List}
 use Rattle.policy.specs.declared.rules.Policy.{Policy}
 use Rattle.tables.specs.Tables.{Tables}
 use Rattle.tables.specs.View.{View, view, Change, applied, Proper, BySpi}
@@ -8,26 +9,26 @@ use Rattle.reordering.specs.Events.{Answer, replied, assessed, answer}
 use Rattle.reordering.proofs.Steps as requests
 use Rattle.reordering.proofs.Responses as responses
 
-module _ (policy : Policy) where
+module _ (policies : List Policy) where
   abbrev does : Event → View → Change
-  does (request q) v = requests.does policy q v
+  does (request q) v = requests.does policies q v
   does (response q) v = responses.does q v
 
   abbrev says : Event → View → Answer
-  says (request q) v = replied (requests.says policy q v)
+  says (request q) v = replied (requests.says policies q v)
   says (response q) v = assessed (responses.says q v)
 
   proper : (e : Event) (v : View) → Proper (v .entry) (does e v)
-  proper (request q) v = requests.proper policy q v
+  proper (request q) v = requests.proper policies q v
   proper (response q) v = responses.proper q v
 
-  step-is : (e : Event) (t : Tables) → afterEvent policy e t ≡ applied (spiOf e) (does e (view (spiOf e) t)) t
-  step-is (request q) t = requests.step-is policy q t
+  step-is : (e : Event) (t : Tables) → afterEvent policies e t ≡ applied (spiOf e) (does e (view (spiOf e) t)) t
+  step-is (request q) t = requests.step-is policies q t
   step-is (response q) t = responses.step-is q t
 
-  answer-is : (e : Event) (t : Tables) → answer policy e t ≡ says e (view (spiOf e) t)
-  answer-is (request q) t = ap replied (requests.answer-is policy q t)
+  answer-is : (e : Event) (t : Tables) → answer policies e t ≡ says e (view (spiOf e) t)
+  answer-is (request q) t = ap replied (requests.answer-is policies q t)
   answer-is (response q) t = ap assessed (responses.answer-is q t)
 
-  pub by-spi : BySpi spiOf (afterEvent policy) (answer policy)
+  pub by-spi : BySpi spiOf (afterEvent policies) (answer policies)
   by-spi = record { does = does; says = says; proper = proper; step-is = step-is; answer-is = answer-is }

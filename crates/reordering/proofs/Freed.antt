@@ -2,6 +2,7 @@
 -- order.
 use Prim.Native.Nat.{ℕ, _+_, min}
 use mathlib.Core.Path.{_≡_, refl, sym, ap, _∙_}
+use mathlib.Core.List.{List}
 use mathlib.Core.Option.{none, some, orElse}
 use native.Mathlib.Omega.{arith}
 use Rattle.octets.specs.Limits.{addressesMost}
@@ -45,29 +46,29 @@ advanced-agree q r d e =
 abbrev pub seeing : IkeRecord → ℕ → View
 seeing e n = record { entry = some e; lent = n }
 
-module _ (policy : Policy) where
+module _ (policies : List Policy) where
   -- a sound request for k
   pub record Taken (k : ℕ) (w : Terms) (q : Request) : Type 0 where
     pub spi : q .spi ≡ k
     pub passes : earlyBy q w ≡ 0
-    pub fine : Sound policy q
+    pub fine : Sound policies q
 
   module _ (k : ℕ) (s : Tables) {e : IkeRecord} {n : ℕ} (seen : view k s ≡ seeing e n) (q : Request)
       (w : Taken k (terms (seeing e n)) q) where
-    step-sound : afterRequest policy q s ≡ applied k (becomes (stepped q e) none) s
+    step-sound : afterRequest policies q s ≡ applied k (becomes (stepped q e) none) s
     step-sound =
-        step-is policy q s
-        ∙ ap (λ (i : ℕ). applied i (does policy q (view i s)) s) (w .spi)
-        ∙ ap (λ (v : View). applied k (does policy q v) s) seen
-        ∙ (rw (does-taken policy q (seeing e n) (w .passes) refl, core-sound policy q (w .fine) e))
+        step-is policies q s
+        ∙ ap (λ (i : ℕ). applied i (does policies q (view i s)) s) (w .spi)
+        ∙ ap (λ (v : View). applied k (does policies q v) s) seen
+        ∙ (rw (does-taken policies q (seeing e n) (w .passes) refl, core-sound policies q (w .fine) e))
 
-    pub view-sound : view k (afterRequest policy q s) ≡ seeing (stepped q e) n
+    pub view-sound : view k (afterRequest policies q s) ≡ seeing (stepped q e) n
     view-sound =
         ap (view k) step-sound
         ∙ view-own k s (ap (λ (v : View). v .entry) seen) (stepped q e) refl none
         ∙ ap (λ (v : View). seeing (stepped q e) (v .lent)) seen
 
-    pub place-sound : place k (afterRequest policy q s) ≡ place k s
+    pub place-sound : place k (afterRequest policies q s) ≡ place k s
     place-sound =
         ap (place k) step-sound
         ∙ stays-in-place k s (ap (λ (v : View). v .entry) seen) (stepped q e) refl none
@@ -77,13 +78,13 @@ module _ (policy : Policy) where
     Fits q = Taken k (terms (seeing e n)) q
 
     two-sound : (q r : Request) → Fits q → Fits r
-        → afterRequest policy r (afterRequest policy q s) ≡ applied k (becomes (stepped r (stepped q e)) none) s
+        → afterRequest policies r (afterRequest policies q s) ≡ applied k (becomes (stepped r (stepped q e)) none) s
     unfolding orElse
     two-sound q r v w =
-        step-sound k (afterRequest policy q s) (view-sound k s seen q v) r w
+        step-sound k (afterRequest policies q s) (view-sound k s seen q v) r w
         ∙ ap (applied k (becomes (stepped r (stepped q e)) none)) (step-sound k s seen q v)
         ∙ applied-twice k s (ap (λ (v : View). v .entry) seen) (stepped q e) refl none _ none
 
     pub swap-sound : (q r : Request) → Fits q → Fits r → (idIn q ≡ idIn r → ⊥)
-        → afterRequest policy r (afterRequest policy q s) ≡ afterRequest policy q (afterRequest policy r s)
+        → afterRequest policies r (afterRequest policies q s) ≡ afterRequest policies q (afterRequest policies r s)
     swap-sound q r v w d = two-sound q r v w ∙ (rw (advanced-agree q r d e) (sym (two-sound r q w v)))

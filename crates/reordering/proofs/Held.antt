@@ -35,35 +35,35 @@ abbrev nextAll : ℕ → List Event → IkeRecord → IkeRecord
 nextAll k [] e = e
 nextAll k (x ∷ xs) e = nextAll k xs (next k x e)
 
-module _ (policy : Policy) (k : ℕ) where
+module _ (policies : List Policy) (k : ℕ) where
   -- an event for k is a request that is sound on these terms
   abbrev pub Fits : Terms → Event → Type 0
-  Fits w (request q) = q .spi ≡ k → Taken policy k w q
+  Fits w (request q) = q .spi ≡ k → Taken policies k w q
   Fits w (response q) = q .spi ≡ k → ⊥
 
   view-next : (s : Tables) {e : IkeRecord} {n : ℕ} → view k s ≡ seeing e n → (x : Event) → Fits (terms (seeing e n)) x
-      → view k (afterEvent policy x s) ≡ seeing (next k x e) n
-  view-next s {e} {n} seen (response q) w = unseen-by (by-spi policy) (response q) k w s ∙ seen
+      → view k (afterEvent policies x s) ≡ seeing (next k x e) n
+  view-next s {e} {n} seen (response q) w = unseen-by (by-spi policies) (response q) k w s ∙ seen
   view-next s {e} {n} seen (request q) w = go (ℕ-discrete (q .spi) k)
     where
-      go : Dec (q .spi ≡ k) → view k (afterEvent policy (request q) s) ≡ seeing (next k (request q) e) n
-      go (no x) = rw (ne-eqb (q .spi) k x) (unseen-by (by-spi policy) (request q) k x s ∙ seen)
-      go (yes x) = rw (eq-eqb (q .spi) k x) (view-sound policy k s seen q (w x))
+      go : Dec (q .spi ≡ k) → view k (afterEvent policies (request q) s) ≡ seeing (next k (request q) e) n
+      go (no x) = rw (ne-eqb (q .spi) k x) (unseen-by (by-spi policies) (request q) k x s ∙ seen)
+      go (yes x) = rw (eq-eqb (q .spi) k x) (view-sound policies k s seen q (w x))
 
   place-next : (s : Tables) {e : IkeRecord} {n : ℕ} → view k s ≡ seeing e n → (x : Event)
-      → Fits (terms (seeing e n)) x → place k (afterEvent policy x s) ≡ place k s
+      → Fits (terms (seeing e n)) x → place k (afterEvent policies x s) ≡ place k s
   place-next s {e} {n} seen x w = go x w
     where
       named : k ≡ 0 → ⊥
       named = found k s (ap (λ (v : View). v .entry) seen) .named
 
-      go : (x : Event) → Fits (terms (seeing e n)) x → place k (afterEvent policy x s) ≡ place k s
-      go (response q) w = place-by (by-spi policy) (response q) k w named s
+      go : (x : Event) → Fits (terms (seeing e n)) x → place k (afterEvent policies x s) ≡ place k s
+      go (response q) w = place-by (by-spi policies) (response q) k w named s
       go (request q) w = of (ℕ-discrete (q .spi) k)
         where
-          of : Dec (q .spi ≡ k) → place k (afterEvent policy (request q) s) ≡ place k s
-          of (no n) = place-by (by-spi policy) (request q) k n named s
-          of (yes o) = place-sound policy k s seen q (w o)
+          of : Dec (q .spi ≡ k) → place k (afterEvent policies (request q) s) ≡ place k s
+          of (no n) = place-by (by-spi policies) (request q) k n named s
+          of (yes o) = place-sound policies k s seen q (w o)
 
   terms-next : (x : Event) (e : IkeRecord) (n : ℕ) → terms (seeing (next k x e) n) ≡ terms (seeing e n)
   terms-next (response q) e n = refl
@@ -73,13 +73,13 @@ module _ (policy : Policy) (k : ℕ) where
   -- what k sees at the end, and where
   view-all : (w : Terms) (s : Tables) (e : IkeRecord) (n : ℕ) → terms (seeing e n) ≡ w → view k s ≡ seeing e n
       → (xs : List Event) → All (Fits w) xs
-      → let last = after (afterEvent policy) s xs in
+      → let last = after (afterEvent policies) s xs in
       (view k last ≡ seeing (nextAll k xs e) n) × (place k last ≡ place k s)
   view-all w s e n same seen [] a = (seen, refl)
   view-all w s e n same seen (x ∷ xs) a =
       let fits : Fits (terms (seeing e n)) x = rw same (a .0) in
       let rest =
-      view-all w (afterEvent policy x s) (next k x e) n (terms-next x e n ∙ same) (view-next s seen x fits) xs (a .1)
+      view-all w (afterEvent policies x s) (next k x e) n (terms-next x e n ∙ same) (view-next s seen x fits) xs (a .1)
       in
       (rest .0, rest .1 ∙ place-next s seen x fits)
 
@@ -88,17 +88,17 @@ module _ (policy : Policy) (k : ℕ) where
     abbrev pub start : IkeRecord
     start = meant (s .ike) k
 
-    ends : let last = after (afterEvent policy) s xs in
+    ends : let last = after (afterEvent policies) s xs in
         (view k last ≡ seeing (nextAll k xs start) (length (s .ipsec))) × (place k last ≡ place k s)
     ends =
         let seen : view k s ≡ seeing start (length (s .ipsec)) = rw u in
         view-all (terms (view k s)) s start (length (s .ipsec)) (ap terms (sym seen)) seen xs a
 
-    pub place-ends : place k (after (afterEvent policy) s xs) ≡ place k s
+    pub place-ends : place k (after (afterEvent policies) s xs) ≡ place k s
     place-ends = ends .1
 
-    pub record-ends : meant (after (afterEvent policy) s xs .ike) k ≡ nextAll k xs start
-    record-ends = found k (after (afterEvent policy) s xs) (ap (λ (v : View). v .entry) (ends .0)) .is
+    pub record-ends : meant (after (afterEvent policies) s xs .ike) k ≡ nextAll k xs start
+    record-ends = found k (after (afterEvent policies) s xs) (ap (λ (v : View). v .entry) (ends .0)) .is
 
 -- What a record holds of the updates that were applied: the pair, and the pending check.
 module _ {A : Type 0} (carried : Request → A) (holds : IkeRecord → A)
@@ -138,11 +138,11 @@ module _ {A : Type 0} (carried : Request → A) (holds : IkeRecord → A)
       held-all k xs (next k (request q) e) ∙ held-next k q e (updatesFor carried k xs)
 
   -- of an IKE SA whose requests are all sound
-  pub held-ends : (policy : Policy) (k : ℕ) (s : Tables) → inUse k s ≡ true → (xs : List Event)
-      → All (Fits policy k (terms (view k s))) xs
-      → heldBy holds k (after (afterEvent policy) s xs)
+  pub held-ends : (policies : List Policy) (k : ℕ) (s : Tables) → inUse k s ≡ true → (xs : List Event)
+      → All (Fits policies k (terms (view k s))) xs
+      → heldBy holds k (after (afterEvent policies) s xs)
       ≡ settled (greatest (updatesFor carried k xs)) (heldBy holds k s)
-  held-ends policy k s u xs a =
-      ap held (record-ends policy k s u xs a)
+  held-ends policies k s u xs a =
+      ap held (record-ends policies k s u xs a)
       ∙ held-all k xs (meant (s .ike) k)
       ∙ latest-is-greatest (updatesFor carried k xs) (held (meant (s .ike) k))

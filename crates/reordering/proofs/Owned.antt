@@ -15,7 +15,7 @@ use Rattle.responder.specs.Handle.{afterRequest}
 use Rattle.reordering.specs.Events.{Event, request, response, afterEvent}
 use Rattle.reordering.proofs.Responses.{does, step-is}
 
-module _ (policy : Policy) (k j : ℕ) where
+module _ (policies : List Policy) (k j : ℕ) where
   abbrev record-at : Tables → IpsecRecord
   record-at t = getD (t .ipsec) j noIpsec
 
@@ -25,7 +25,7 @@ module _ (policy : Policy) (k j : ℕ) where
   Quiet (response q) = q .spi ≡ k → ⊥
 
   one-kept : (x : Event) → Quiet x → (t : Tables) → record-at t .owner ≡ k
-      → record-at (afterEvent policy x t) ≡ record-at t
+      → record-at (afterEvent policies x t) ≡ record-at t
   unfolding afterRequest
   one-kept (request q) n t o = refl
   one-kept (response q) n t o =
@@ -33,8 +33,8 @@ module _ (policy : Policy) (k j : ℕ) where
       ∙ child-beside (q .spi) (does q (view (q .spi) t)) t j (λ e. n (sym e ∙ o))
 
   pub owned-kept : (xs : List Event) → All Quiet xs → (t : Tables) → record-at t .owner ≡ k
-      → record-at (after (afterEvent policy) t xs) ≡ record-at t
+      → record-at (after (afterEvent policies) t xs) ≡ record-at t
   owned-kept [] a t o = refl
   owned-kept (x ∷ xs) a t o =
       let same = one-kept x (a .0) t o in
-      owned-kept xs (a .1) (afterEvent policy x t) (ap (λ (r : IpsecRecord). r .owner) same ∙ o) ∙ same
+      owned-kept xs (a .1) (afterEvent policies x t) (ap (λ (r : IpsecRecord). r .owner) same ∙ o) ∙ same

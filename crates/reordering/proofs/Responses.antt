@@ -8,6 +8,7 @@ use borrow.Author.Tests.{eq-eqb, ne-eqb}
 use lib.Dec.{eqb, ltb}
 use lib.ListN.{length}
 use Rattle.octets.specs.Limits.{bodyMost, ipsecPlaces}
+use Rattle.octets.specs.Operators.{isOperator}
 use Rattle.octets.proofs.Small.{chosen}
 use Rattle.values.specs.Values.{partOf}
 use Rattle.records.specs.Records.{noIke, unchecked}
@@ -37,14 +38,18 @@ module _ (q : CheckResponse) where
 
   nobody : (lent : ℕ) (e f : IkeRecord) → checkTold lent false e q ≡ checkTold lent false f q
   unfolding checkTold earlyResponse
-  nobody lent e f = go (not (eqb lent ipsecPlaces) || eqb (q .spi) 0) refl (ltb bodyMost (length (q .body))) refl
+  nobody lent e f =
+      go (not (eqb lent ipsecPlaces) || eqb (q .spi) 0) refl (isOperator (q .operator)) refl
+      (ltb bodyMost (length (q .body))) refl
     where
       go : (a : Bool) → not (eqb lent ipsecPlaces) || eqb (q .spi) 0 ≡ a
+          → (o : Bool) → isOperator (q .operator) ≡ o
           → (b : Bool) → ltb bodyMost (length (q .body)) ≡ b
           → checkTold lent false e q ≡ checkTold lent false f q
-      go true x b y = rw x
-      go false x true y = rw (x, y)
-      go false x false y = rw (x, y)
+      go true x o w b y = rw x
+      go false x false w b y = rw (x, w)
+      go false x true w true y = rw (x, w, y)
+      go false x true w false y = rw (x, w, y)
 
   told-is : (t : Tables) → laws.told t q ≡ toldBy (view (q .spi) t)
   told-is t = go (eqb (q .spi) 0) refl (hasIke (q .spi) (t .ike)) refl

@@ -2,6 +2,7 @@
 use Prim.Native.Nat.{ℕ}
 use mathlib.Core.Path.{_≡_}
 use mathlib.Core.Logic.{⊎-elim}
+use mathlib.Core.List.{List}
 use mathlib.Core.Bool.{true, _&&_, _||_, not, false≢true}
 use borrow.Author.Tests.{eqb-true}
 use lib.Dec.{eqb, leb}
@@ -25,18 +26,18 @@ use Rattle.reordering.proofs.Steps.{early, core}
 abbrev pub idIn : Request → ℕ
 idIn q = q .asks .id
 
-module _ (policy : Policy) (q : Request) where
+module _ (policies : List Policy) (q : Request) where
   pub record Sound : Type 0 where
     pub whole : reading (q .asks .first) (q .asks .body) .number ≡ 0
     pub fine : seenIn q .update ≡ true
-        → isAccepted (verdict (accepts policy q) (noNatsSeen (q .asks .body) (seenIn q)) (q .asks .pair)) ≡ true
+        → isAccepted (verdict (accepts policies q) (noNatsSeen (q .asks .body) (seenIn q)) (q .asks .pair)) ≡ true
 
-  pub core-sound : Sound → (e : IkeRecord) → core policy q e .entry ≡ stepped q e
-  core-sound w e = go (decides (accepts policy q) q (marksIn e))
+  pub core-sound : Sound → (e : IkeRecord) → core policies q e .entry ≡ stepped q e
+  core-sound w e = go (decides (accepts policies q) q (marksIn e))
     where
-      go : Decides (accepts policy q) q (marksIn e) (decisionOn (accepts policy q) (q .asks) (marksIn e))
-          → core policy q e .entry ≡ stepped q e
-      go (done c) = core-decided (accepts policy q) q e (w .whole) c .entry
+      go : Decides (accepts policies q) q (marksIn e) (decisionOn (accepts policies q) (q .asks) (marksIn e))
+          → core policies q e .entry ≡ stepped q e
+      go (done c) = core-decided (accepts policies q) q e (w .whole) c .entry
       go (refused v which r) =
           let accepted : isAccepted v ≡ true =
           rw (r .verdict-is) at (w .fine (both (seenIn q .update) (leb (e .«update_mark») (q .asks .id)) (r .counts)
@@ -44,12 +45,12 @@ module _ (policy : Policy) (q : Request) where
           absurd (⊎-elim (λ f. false≢true (rw f at accepted)) (λ f. false≢true (rw f at accepted)) which)
 
 -- 01's soundness on the starting tables, taken apart
-pub sound-parts : (policy : Policy) (t : Tables) (q : Request) → soundRequest policy t q ≡ true
-    → (early t q ≡ 0) × Sound policy q
-sound-parts policy t q e =
+pub sound-parts : (policies : List Policy) (t : Tables) (q : Request) → soundRequest policies t q ≡ true
+    → (early t q ≡ 0) × Sound policies q
+sound-parts policies t q e =
     let n = eqb (early t q) 0 in
     let m = eqb (reading (q .asks .first) (q .asks .body) .number) 0 in
-    let v = isAccepted (verdict (accepts policy q) (noNatsSeen (q .asks .body) (seenIn q)) (q .asks .pair)) in
+    let v = isAccepted (verdict (accepts policies q) (noNatsSeen (q .asks .body) (seenIn q)) (q .asks .pair)) in
     let x = both n (m && (not (seenIn q .update) || v)) e in
     let y = both m (not (seenIn q .update) || v) (x .1) in (
       eqb-true (early t q) 0 (x .0),

@@ -1,7 +1,7 @@
 -- A request as a call by its SPI: what it does to the record that it sees, and what it answers.
 use Prim.Native.Nat.{ℕ}
 use mathlib.Core.Path.{_≡_, refl, sym, ap, _∙_}
-use mathlib.Core.List.{[]}
+use mathlib.Core.List.{List, []}
 use mathlib.Core.Bool.{Bool, true, false, cond, and-false, false≢true}
 use mathlib.Core.Option.{Option, none, some, Option·map, Option·getD}
 use native.Mathlib.Decide.{ℕ-discrete}
@@ -28,8 +28,8 @@ use Rattle.reordering.specs.Requests.{RequestAnswer, requestAnswer}
 abbrev pub early : Tables → Request → ℕ
 early t q = earlyNumber (t .ike) (t .ipsec) q
 
--- What checks 1 to 5 go by beside the request: how many IPsec records are lent, and what was agreed for the record, if
--- there is one.
+-- What checks 1 to 5 go by beside the request: how many IPsec records are lent, and what was agreed for the record, its
+-- operator included, if there is one.
 pub record Terms : Type 0 where
   pub lent : ℕ
   pub agreed : Option Agreed
@@ -63,9 +63,9 @@ passed-seen q v e = go (v .entry) (passed _ _ _ q e .found)
     go none z = absurd (false≢true z)
     go (some r) z = (r, refl)
 
-module _ (policy : Policy) where
+module _ (policies : List Policy) where
   abbrev pub core : Request → IkeRecord → CoreResult
-  core q e = coreResult (accepts policy q) (q .asks) e
+  core q e = coreResult (accepts policies q) (q .asks) e
 
   -- what it does where checks 1 to 5 pass, and what it does at all
   abbrev pub altered : Request → Option IkeRecord → Change
@@ -82,7 +82,7 @@ module _ (policy : Policy) where
       record {
         reply = r;
         cookie = partOf (q .asks .body) (r .cookie) (r .«cookie_len»);
-        octets = cond (eqb n 0) (coreResponse (accepts policy q) (q .asks) (marksIn e)) [];
+        octets = cond (eqb n 0) (coreResponse (accepts policies q) (q .asks) (marksIn e)) [];
       }
 
   abbrev pub says : Request → View → RequestAnswer
@@ -96,8 +96,8 @@ module _ (policy : Policy) where
       go none true = refl
       go none false = refl
       go (some r) true =
-          chosen (λ (x : IkeRecord). x .spi ≡ r .spi) (listReplaced (coreAnswer (accepts policy q) (q .asks) (marksIn r)))
-          (λ e. refl) (λ e. refl)
+          chosen (λ (x : IkeRecord). x .spi ≡ r .spi)
+          (listReplaced (coreAnswer (accepts policies q) (q .asks) (marksIn r))) (λ e. refl) (λ e. refl)
       go (some r) false = tt
 
   pub does-taken : (q : Request) (v : View) {r : IkeRecord} → earlyBy q (terms v) ≡ 0 → v .entry ≡ some r
@@ -105,35 +105,35 @@ module _ (policy : Policy) where
   does-taken q v e o = rw (eq-eqb (earlyBy q (terms v)) 0 e, o)
 
   step-taken : (q : Request) (t : Tables) {r : IkeRecord} → early t q ≡ 0 → view (q .spi) t .entry ≡ some r
-      → afterRequest policy q t ≡ applied (q .spi) (altered q (some r)) t
+      → afterRequest policies q t ≡ applied (q .spi) (altered q (some r)) t
   unfolding afterRequest handled
   step-taken q t {r} e o =
       rw (eq-eqb (early t q) 0 e, found (q .spi) t o .is) (sym (applied-alone (q .spi) t (core q r .entry)))
 
-  step-refused : (q : Request) (t : Tables) → (early t q ≡ 0 → ⊥) → afterRequest policy q t ≡ t
+  step-refused : (q : Request) (t : Tables) → (early t q ≡ 0 → ⊥) → afterRequest policies q t ≡ t
   unfolding afterRequest handled
   step-refused q t n = rw (ne-eqb (early t q) 0 n)
 
-  pub step-is : (q : Request) (t : Tables) → afterRequest policy q t ≡ applied (q .spi) (does q (view (q .spi) t)) t
+  pub step-is : (q : Request) (t : Tables) → afterRequest policies q t ≡ applied (q .spi) (does q (view (q .spi) t)) t
   step-is q t = go (ℕ-discrete (early t q) 0)
     where
-      go : Dec (early t q ≡ 0) → afterRequest policy q t ≡ applied (q .spi) (does q (view (q .spi) t)) t
+      go : Dec (early t q ≡ 0) → afterRequest policies q t ≡ applied (q .spi) (does q (view (q .spi) t)) t
       go (yes e) =
           let passes = sym (early-is q t) ∙ e in
           let o = passed-seen q (view (q .spi) t) passes .1 in
           step-taken q t e o ∙ ap (λ (c : Change). applied (q .spi) c t) (sym (does-taken q (view (q .spi) t) passes o))
       go (no n) = step-refused q t n ∙ sym (rw (← early-is q t, ne-eqb (early t q) 0 n) (applied-stays (q .spi) t))
 
-  answer-by : (q : Request) (t : Tables) → requestAnswer policy q t ≡ answerBy q (early t q) (meant (t .ike) (q .spi))
+  answer-by : (q : Request) (t : Tables) → requestAnswer policies q t ≡ answerBy q (early t q) (meant (t .ike) (q .spi))
   unfolding requestAnswer handled handledResponse
   answer-by q t = go (eqb (early t q) 0) refl
     where
       go : (b : Bool) → eqb (early t q) 0 ≡ b
-          → requestAnswer policy q t ≡ answerBy q (early t q) (meant (t .ike) (q .spi))
+          → requestAnswer policies q t ≡ answerBy q (early t q) (meant (t .ike) (q .spi))
       go true e = rw e
       go false e = rw e
 
-  pub answer-is : (q : Request) (t : Tables) → requestAnswer policy q t ≡ says q (view (q .spi) t)
+  pub answer-is : (q : Request) (t : Tables) → requestAnswer policies q t ≡ says q (view (q .spi) t)
   answer-is q t = answer-by q t ∙ go (ℕ-discrete (early t q) 0) ∙ ap (λ (n : ℕ). answerBy q n e) (early-is q t)
     where
       e : IkeRecord

@@ -36,21 +36,21 @@ pairs-have {R} P Q (x ∷ xs) a p = (beside xs (a .1) (p .0), pairs-have P Q xs 
     beside [] b q = tt
     beside (y ∷ ys) b q = ((a .0, b .0, q .0), beside ys (b .1) (q .1))
 
-module _ (policy : Policy) (t : Tables) where
+module _ (policies : List Policy) (t : Tables) where
   -- two of one SPI, sound on t, with different IDs
   record Both (e f : Event) : Type 0 where
     same : spiOf e ≡ spiOf f
-    first : sound policy t e ≡ true
-    second : sound policy t f ≡ true
+    first : sound policies t e ≡ true
+    second : sound policies t f ≡ true
     distinct : idOf e ≡ idOf f → ⊥
 
   -- the terms of k are those of the starting tables
   abbrev Same : ℕ → Tables → Type 0
   Same k s = terms (view k s) ≡ terms (view k t)
 
-  taken : (k : ℕ) (q : Request) → q .spi ≡ k → soundRequest policy t q ≡ true → Taken policy k (terms (view k t)) q
+  taken : (k : ℕ) (q : Request) → q .spi ≡ k → soundRequest policies t q ≡ true → Taken policies k (terms (view k t)) q
   taken k q e w =
-      let parts = sound-parts policy t q w in
+      let parts = sound-parts policies t q w in
       record {
         spi = e;
         passes =
@@ -63,10 +63,10 @@ module _ (policy : Policy) (t : Tables) where
     record Seen : Type 0 where
       entry : IkeRecord
       whole : view k s ≡ seeing entry (length (s .ipsec))
-      fits : (q : Request) → q .spi ≡ k → soundRequest policy t q ≡ true
-          → Taken policy k (terms (seeing entry (length (s .ipsec)))) q
+      fits : (q : Request) → q .spi ≡ k → soundRequest policies t q ≡ true
+          → Taken policies k (terms (seeing entry (length (s .ipsec)))) q
 
-    seen : Same k s → (q : Request) → q .spi ≡ k → soundRequest policy t q ≡ true → Seen
+    seen : Same k s → (q : Request) → q .spi ≡ k → soundRequest policies t q ≡ true → Seen
     seen same q p w =
         let x = passed-seen q (view k s) (ap (earlyBy q) same ∙ taken k q p w .passes) in
         let whole : view k s ≡ seeing (x .0) (length (s .ipsec)) =
@@ -74,29 +74,29 @@ module _ (policy : Policy) (t : Tables) where
         record {
           entry = x .0;
           whole = whole;
-          fits = λ r o v. subst (λ (u : Terms). Taken policy k u r) (sym same ∙ ap terms whole) (taken k r o v);
+          fits = λ r o v. subst (λ (u : Terms). Taken policies k u r) (sym same ∙ ap terms whole) (taken k r o v);
         }
 
-  keep : (e : Event) → sound policy t e ≡ true → (s : Tables) → Same (spiOf e) s
-      → Same (spiOf e) (afterEvent policy e s)
+  keep : (e : Event) → sound policies t e ≡ true → (s : Tables) → Same (spiOf e) s
+      → Same (spiOf e) (afterEvent policies e s)
   keep (response q) w s same = absurd (false≢true w)
   keep (request q) w s same =
       let x = seen (q .spi) s same q refl w in
-      ap terms (view-sound policy (q .spi) s (x .whole) q (x .fits q refl w)) ∙ ap terms (sym (x .whole)) ∙ same
+      ap terms (view-sound policies (q .spi) s (x .whole) q (x .fits q refl w)) ∙ ap terms (sym (x .whole)) ∙ same
 
   swap : (e f : Event) → Both e f → (s : Tables) → Same (spiOf e) s
-      → afterEvent policy f (afterEvent policy e s) ≡ afterEvent policy e (afterEvent policy f s)
+      → afterEvent policies f (afterEvent policies e s) ≡ afterEvent policies e (afterEvent policies f s)
   swap (response q) f b s same = absurd (false≢true (b .first))
   swap (request q) (response r) b s same = absurd (false≢true (b .second))
   swap (request q) (request r) b s same =
       let x = seen (q .spi) s same q refl (b .first) in
-      swap-sound policy (q .spi) s (x .whole) q r (x .fits q refl (b .first)) (x .fits r (sym (b .same)) (b .second))
+      swap-sound policies (q .spi) s (x .whole) q r (x .fits q refl (b .first)) (x .fits r (sym (b .same)) (b .second))
       (b .distinct)
 
   -- Some SPIs are freed, and what is for them is sound.
   module _ (freed : ℕ → Bool) where
     abbrev Fine : Event → Type 0
-    Fine e = freed (spiOf e) ≡ true → sound policy t e ≡ true
+    Fine e = freed (spiOf e) ≡ true → sound policies t e ≡ true
 
     abbrev Differ : Event → Event → Type 0
     Differ e f = freed (spiOf e) ≡ true → spiOf e ≡ spiOf f → idOf e ≡ idOf f → ⊥
@@ -113,38 +113,39 @@ module _ (policy : Policy) (t : Tables) where
 
     -- an IKE SA that is freed
     module _ (k : ℕ) (u : inUse k t ≡ true) (o : freed k ≡ true) where
-      fits : (e : Event) → Fine e → Fits policy k (terms (view k t)) e
+      fits : (e : Event) → Fine e → Fits policies k (terms (view k t)) e
       fits (request q) f = λ x. taken k q x (f (ap freed x ∙ o))
       fits (response q) f = λ x. false≢true (f (ap freed x ∙ o))
 
-      quiet : (j : ℕ) (e : Event) → Fine e → Quiet policy k j e
+      quiet : (j : ℕ) (e : Event) → Fine e → Quiet policies k j e
       quiet j (request q) f = tt
       quiet j (response q) f = λ x. false≢true (f (ap freed x ∙ o))
 
-      ends : (es : List Event) → All Fine es → FreedEnds k t es (after (afterEvent policy) t es)
+      ends : (es : List Event) → All Fine es → FreedEnds k t es (after (afterEvent policies) t es)
       ends es fine =
           record {
-            place = place-ends policy k t u es (all-map fits es fine);
+            place = place-ends policies k t u es (all-map fits es fine);
             pair =
                 ap (λ (h : Held Pair). h .value)
-                (held-ends (λ q. q .asks .pair) (λ r. r .pair) (λ q e. refl) policy k t u es (all-map fits es fine));
+                (held-ends (λ q. q .asks .pair) (λ r. r .pair) (λ q e. refl) policies k t u es (all-map fits es fine));
             check =
                 ap (λ (h : Held PendingCheck). h .value)
-                (held-ends (λ q. q .asks .check) (λ r. r .check) (λ q e. refl) policy k t u es (all-map fits es fine));
-            owned = λ j n. owned-kept policy k j es (all-map (quiet j) es fine) t n;
+                (held-ends (λ q. q .asks .check) (λ r. r .check) (λ q e. refl) policies k t u es
+                (all-map fits es fine));
+            owned = λ j n. owned-kept policies k j es (all-map (quiet j) es fine) t n;
           }
 
-  tables-kept : (es fs : List Event) → TablesKept policy t es fs
+  tables-kept : (es fs : List Event) → TablesKept policies t es fs
   tables-kept es fs freed sounds distinct o =
       let free =
       order-pairs (λ (e f : Event). Fine freed e × Fine freed f × Differ freed e f) o
       (pairs-have (Fine freed) (Differ freed) es sounds distinct) (may freed) in
       let same =
-      calls.tables-kept (by-spi policy) t terms freed (Fine freed) Both (λ e f x. keep e (f x)) swap sounds free in (
+      calls.tables-kept (by-spi policies) t terms freed (Fine freed) Both (λ e f x. keep e (f x)) swap sounds free in (
         same,
         λ k u x. subst (FreedEnds k t es) same (ends freed k u x es sounds),
       )
 
 -- Demand 3.
 pub any-order : AnyOrder
-any-order policy t es fs = (calls.answers-kept (by-spi policy) t, tables-kept policy t es fs)
+any-order policies t es fs = (calls.answers-kept (by-spi policies) t, tables-kept policies t es fs)

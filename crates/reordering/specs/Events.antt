@@ -30,7 +30,8 @@ pub data Event : Type 0 where
   request : Request → Event
   response : CheckResponse → Event
 
--- "each counted as one of the requests that give its SPI"
+-- 01: "an IKE SA's requests are all those that give its SPI", whichever operator they name (02, E9); E6: "each counted
+-- as one of the requests that give its SPI".
 abbrev pub spiOf : Event → ℕ
 spiOf (request q) = q .spi
 spiOf (response q) = q .spi
@@ -39,9 +40,9 @@ abbrev pub idOf : Event → ℕ
 idOf (request q) = q .asks .id
 idOf (response q) = q .id
 
-abbrev pub afterEvent : Policy → Event → Tables → Tables
-afterEvent policy (request q) t = afterRequest policy q t
-afterEvent policy (response q) t = afterResponse q t
+abbrev pub afterEvent : List Policy → Event → Tables → Tables
+afterEvent policies (request q) t = afterRequest policies q t
+afterEvent policies (response q) t = afterResponse q t
 
 -- 01: "The same answer is all that the call gives back but the tables, the cookie by its octets". A check response
 -- writes nothing.
@@ -58,18 +59,20 @@ pub data Answer : Type 0 where
   replied : RequestAnswer → Answer
   assessed : ResponseAnswer → Answer
 
-abbrev pub answer : Policy → Event → Tables → Answer
-answer policy (request q) t = replied (requestAnswer policy q t)
-answer policy (response q) t = assessed (responseAnswer q t)
+abbrev pub answer : List Policy → Event → Tables → Answer
+answer policies (request q) t = replied (requestAnswer policies q t)
+answer policies (response q) t = assessed (responseAnswer q t)
 
--- Two that belong to no common IKE SA of the starting tables: they give different SPIs, or one that no record has.
+-- Two that belong to no common IKE SA of the starting tables: they give different SPIs, or one that no record has. Two
+-- operators' calls of one SPI are not apart: where two records have it, a check may close the lower one, A's, and the
+-- one meant is then B's.
 abbrev pub Apart : Tables → Event → Event → Type 0
 Apart t e f = (spiOf e ≡ spiOf f → ⊥) ⊎ (inUse (spiOf e) t ≡ false)
 
 -- 02, E6: "only an IKE SA without check responses may change its own sequence": so none of them is sound.
-abbrev pub sound : Policy → Tables → Event → Bool
-sound policy t (request q) = soundRequest policy t q
-sound policy t (response q) = false
+abbrev pub sound : List Policy → Tables → Event → Bool
+sound policies t (request q) = soundRequest policies t q
+sound policies t (response q) = false
 
 -- What an update carries, and what an IKE SA holds of it: the pair, or the pending check.
 module _ {A : Type 0} where

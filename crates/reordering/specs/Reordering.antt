@@ -1,4 +1,4 @@
--- Trusted. Demand 3: one statement about whole lists of requests and check responses, from any policy and any tables.
+-- Trusted. Demand 3: one statement about whole lists of requests and check responses, from any policies and any tables.
 --   AnswersKept             its first half: each IKE SA's own requests in sequence
 --   FreedEnds               what an IKE SA whose own sequence changes ends with
 --   TablesKept              its second half: some IKE SAs' own sequences change too
@@ -29,12 +29,12 @@ use Rattle.reordering.specs.Events.{Event, spiOf, idOf, afterEvent, answ
 --     of the tables t.
 --   "each request gets the same answer and octets": the events with their answers stand in the same other order.
 --   "the tables end the same": `after` is equal, so each field of each place is.
-abbrev pub AnswersKept : Policy → Tables → List Event → List Event → Type 0
-AnswersKept policy t es fs =
-    let made = answered (afterEvent policy) (answer policy) t in
+abbrev pub AnswersKept : List Policy → Tables → List Event → List Event → Type 0
+AnswersKept policies t es fs =
+    let made = answered (afterEvent policies) (answer policies) t in
     Order (Apart t) es fs
     → (Order (FreeAnswered (Apart t)) (made es) (made fs))
-    × (after (afterEvent policy) t es ≡ after (afterEvent policy) t fs)
+    × (after (afterEvent policies) t es ≡ after (afterEvent policies) t fs)
 
 -- "The address pair of each IKE SA so freed ends as the one carried by its update with the greatest ID, if that exceeds
 -- the update mark it began with, else as the pair it had." So does its pending check, the one lent with that update.
@@ -55,22 +55,23 @@ pub record FreedEnds (k : ℕ) (t : Tables) (es : List Event) (s : Tables) : Typ
 -- change too. For every order that keeps the sequence of all other IKE SAs, the tables still end the same." 02, E6:
 -- "only an IKE SA without check responses may change its own sequence".
 --   `freed` picks the IKE SAs that are freed, by their SPIs; any of those that may be.
---   "all sound", on the starting tables t, which no check response is; "no two of them have the same message ID": of
---     the events for a freed SPI.
+--   "all sound", on the starting tables t, which no check response is, nor a request that names another operator than
+--     the record's (02, E9); "no two of them have the same message ID": of the events for a freed SPI.
 --   "keeps the sequence of all other IKE SAs": two events may change places if they are apart or the first one's SPI
 --     is freed.
 --   "each IKE SA so freed": a freed SPI that a record of the starting tables has.
-abbrev pub TablesKept : Policy → Tables → List Event → List Event → Type 0
-TablesKept policy t es fs =
+abbrev pub TablesKept : List Policy → Tables → List Event → List Event → Type 0
+TablesKept policies t es fs =
     (freed : ℕ → Bool)
-    → All (λ (e : Event). freed (spiOf e) ≡ true → sound policy t e ≡ true) es
+    → All (λ (e : Event). freed (spiOf e) ≡ true → sound policies t e ≡ true) es
     → Pairwise (λ (e f : Event). freed (spiOf e) ≡ true → spiOf e ≡ spiOf f → idOf e ≡ idOf f → ⊥) es
     → Order (λ (e f : Event). Apart t e f ⊎ (freed (spiOf e) ≡ true)) es fs
-    → (after (afterEvent policy) t es ≡ after (afterEvent policy) t fs)
-    × ((k : ℕ) → inUse k t ≡ true → freed k ≡ true → FreedEnds k t es (after (afterEvent policy) t fs))
+    → (after (afterEvent policies) t es ≡ after (afterEvent policies) t fs)
+    × ((k : ℕ) → inUse k t ≡ true → freed k ≡ true → FreedEnds k t es (after (afterEvent policies) t fs))
 
 -- Both halves, "from any tables and policy": those not reached from empty ones and an IPsec list of any length
--- included.
+-- included. 02, E9: both operators' policies, in one list that stays as it is, and each request is judged by its
+-- operator's.
 abbrev pub AnyOrder : Type 0
-AnyOrder = (policy : Policy) (t : Tables) (es fs : List Event)
-    → AnswersKept policy t es fs × TablesKept policy t es fs
+AnyOrder = (policies : List Policy) (t : Tables) (es fs : List Event)
+    → AnswersKept policies t es fs × TablesKept policies t es fs

@@ -22,20 +22,21 @@ pub record RequestAnswer : Type 0 where
   pub cookie : List ℕ
   pub octets : List ℕ
 
-unfoldable pub requestAnswer : Policy → Request → Tables → RequestAnswer
-requestAnswer policy q t =
-    let r = handled policy (t .ike) (t .ipsec) q .reply in
+unfoldable pub requestAnswer : List Policy → Request → Tables → RequestAnswer
+requestAnswer policies q t =
+    let r = handled policies (t .ike) (t .ipsec) q .reply in
     record {
       reply = r;
       cookie = partOf (q .asks .body) (r .cookie) (r .«cookie_len»);
-      octets = handledResponse policy (t .ike) (t .ipsec) q;
+      octets = handledResponse policies (t .ike) (t .ipsec) q;
     }
 
 -- "A request is sound if checks 1 to 7 pass and, where it carries an update, those of 8 and 9 would pass too, whatever
--- the mark."
-abbrev pub soundRequest : Policy → Tables → Request → Bool
-soundRequest policy t q =
+-- the mark." 02, E9: "A call for one operator finds only its own records, else answer 4": it names an operator, and the
+-- record meant in these tables is that operator's. "Policies ... are per operator": `accepts` asks that operator's.
+abbrev pub soundRequest : List Policy → Tables → Request → Bool
+soundRequest policies t q =
     eqb (earlyNumber (t .ike) (t .ipsec) q) 0
     && (eqb (reading (q .asks .first) (q .asks .body) .number) 0
     && (not (seenIn q .update)
-    || isAccepted (verdict (accepts policy q) (noNatsSeen (q .asks .body) (seenIn q)) (q .asks .pair))))
+    || isAccepted (verdict (accepts policies q) (noNatsSeen (q .asks .body) (seenIn q)) (q .asks .pair))))

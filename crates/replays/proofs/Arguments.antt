@@ -62,15 +62,17 @@ module _ (w behind slots : List ℕ) where
       let child = then-fits _ _ _ _ (to-port .1) in
       let peer = then-fits _ _ _ _ (child .1) in
       let cloning = then-fits _ _ _ _ (peer .1) in
+      let operator = then-fits _ _ _ _ (cloning .1) in
       let given = lent slots in
       let p1 = number-taken w behind given _ 1 (simp getD-drop (told slots 1)) 8 _ (agreed .0) (omega arith) in
       let p7 = number-taken w behind given _ 7 (simp getD-drop (told slots 7)) 32 _ (child .0) (omega arith) in
       let p8 = number-taken w behind given _ 8 (simp getD-drop (told slots 8)) 32 _ (peer .0) (omega arith) in
       let p9 = number-taken w behind given _ 9 (simp getD-drop (told slots 9)) 8 _ (cloning .0) (omega arith) in
+      let p10 = number-taken w behind given _ 10 (simp getD-drop (told slots 10)) 8 _ (operator .0) (omega arith) in
       let pair = pair-taken _ (agreed .1) in
       λ i. record {
         spi = told slots 0 i;
-        agreed = record { mobike = p1 i; cloning = p9 i; peer = p8 i };
+        agreed = record { mobike = p1 i; cloning = p9 i; operator = p10 i; peer = p8 i };
         pair = pair i;
         child = p7 i;
       }
@@ -92,6 +94,7 @@ module _ (w behind slots : List ℕ) where
       let body = then-fits _ _ _ _ (first .1) in
       let cookie = then-fits _ _ _ _ (body .1) in
       let check-id = then-fits _ _ _ _ (cookie .1) in
+      let operator = then-fits _ _ _ _ (check-id .1) in
       let given = lent slots in
       let p1 = number-taken w behind given _ 1 (simp getD-drop (told slots 1)) 32 _ (id .0) (omega arith) in
       let pair = pair-taken _ (id .1) in
@@ -106,8 +109,9 @@ module _ (w behind slots : List ℕ) where
       let p14 =
       string-taken w behind given _ 14 (simp getD-drop (told slots 14)) (simp getD-drop (told slots 15)) (cookie .0) in
       let p16 = number-taken w behind given _ 16 (simp getD-drop (told slots 16)) 32 _ (check-id .0) (omega arith) in
+      let p17 = number-taken w behind given _ 17 (simp getD-drop (told slots 17)) 8 _ (operator .0) (omega arith) in
       λ i. requestOf (told slots 0 i)
-      (asked (p1 i) (pair i) (p7 i) (p9 i) (p11 i) (p12 i) (checkOf (p14 i) (p16 i))) responseRoom
+      (asked (p1 i) (pair i) (p7 i) (p9 i) (p11 i) (p12 i) (checkOf (p14 i) (p16 i))) responseRoom (p17 i)
 
   pub response-taken : fitsIn (fieldsOf kind.CheckResponse) w slots ≡ true
       → responseBy (w ++ behind) (lent slots) ≡ responseFrom (valueIn (fieldsOf kind.CheckResponse) w slots)
@@ -117,12 +121,14 @@ module _ (w behind slots : List ℕ) where
       let id = then-fits _ _ _ _ (spi .1) in
       let first = then-fits _ _ _ _ (id .1) in
       let body = then-fits _ _ _ _ (first .1) in
+      let operator = then-fits _ _ _ _ (body .1) in
       let given = lent slots in
       let p1 = number-taken w behind given _ 1 (simp getD-drop (told slots 1)) 32 _ (id .0) (omega arith) in
       let p2 = number-taken w behind given _ 2 (simp getD-drop (told slots 2)) 8 _ (first .0) (omega arith) in
       let p3 =
       string-taken w behind given _ 3 (simp getD-drop (told slots 3)) (simp getD-drop (told slots 4)) (body .0) in
-      λ i. checkResponse (told slots 0 i) (p1 i) (p2 i) (p3 i)
+      let p5 = number-taken w behind given _ 5 (simp getD-drop (told slots 5)) 8 _ (operator .0) (omega arith) in
+      λ i. checkResponse (told slots 0 i) (p1 i) (p2 i) (p3 i) (p5 i)
 
   pub clone-taken : fitsIn (fieldsOf kind.Clone) w slots ≡ true
       → cloneBy (w ++ behind) (lent slots) responseRoom ≡ cloneFrom (valueIn (fieldsOf kind.Clone) w slots)
@@ -132,9 +138,11 @@ module _ (w behind slots : List ℕ) where
       let new-spi = then-fits _ _ _ _ (spi .1) in
       let first = then-fits _ _ _ _ (new-spi .1) in
       let body = then-fits _ _ _ _ (first .1) in
+      let operator = then-fits _ _ _ _ (body .1) in
       let given = lent slots in
       let p1 = told slots 1 ∙ sym (getD-drop 1 slots 0 0) in
       let p2 = number-taken w behind given _ 2 (simp getD-drop (told slots 2)) 8 _ (first .0) (omega arith) in
       let p3 =
       string-taken w behind given _ 3 (simp getD-drop (told slots 3)) (simp getD-drop (told slots 4)) (body .0) in
-      λ i. cloneRequest (told slots 0 i) (p1 i) (p2 i) (p3 i) responseRoom
+      let p5 = number-taken w behind given _ 5 (simp getD-drop (told slots 5)) 8 _ (operator .0) (omega arith) in
+      λ i. cloneRequest (told slots 0 i) (p1 i) (p2 i) (p3 i) responseRoom (p5 i)

@@ -1,4 +1,4 @@
--- The rules of a policy, as taken from the slots, are those of the entry. Assumes nothing.
+-- The rules of a policy and its operator, as taken from the slots, are those of the entry. Assumes nothing.
 use Prim.Native.Nat.{ℕ, zero, suc, _+_, _-_, _*_, _≤_}
 use mathlib.Core.Path.{_≡_, refl, _∙_, ap, ap₂}
 use mathlib.Core.Bool.{true}
@@ -13,11 +13,11 @@ use Rattle.octets.specs.Limits.{rulesMost}
 use Rattle.octets.proofs.Small.{both}
 use Rattle.policy.specs.Policy.{noRule}
 use Rattle.policy.specs.declared.rules.Rule.{Rule}
-use Rattle.fields.specs.Fields.{Field, inOrder, listOf, none, listMost}
+use Rattle.fields.specs.Fields.{Field, inOrder, listOf, none, _then_, listMost}
 use Rattle.fields.specs.Slots.{itemsIn, allIn, valueIn, fitsIn}
-use Rattle.entries.specs.Kinds.{fieldsOf, ruleFields}
+use Rattle.entries.specs.Kinds.{fieldsOf, ruleFields, operator}
 use Rattle.entries.specs.declared.kind.Kind.the-variants as kind
-use Rattle.given.specs.Given.{ruleIn, rulesFrom, rulesIn, countIn}
+use Rattle.given.specs.Given.{ruleIn, rulesFrom, rulesIn, countIn, policyOperator}
 use Rattle.replays.specs.Calls.{ruleOf, rulesOf}
 use Rattle.replays.proofs.Taken.{lent, told, then-fits, number-taken, address-taken}
 
@@ -88,10 +88,19 @@ module _ (w behind slots : List ℕ) where
   unfolding fitsIn valueIn rulesIn
   rules-taken h =
       let count = getD slots 0 0 in
-      let listed = then-fits (listOf rule) none w slots h .0 in
+      let listed = then-fits (listOf rule) (operator then none) w slots h .0 in
       let parts = both (leb count listMost) (allIn count 5 (fitsIn rule w) (drop 1 slots)) listed in
       let few : count ≤ listMost = leb-true count listMost (parts .0) in
       let size = length-items count 5 (valueIn rule w) (drop 1 slots) in (
         rw (told slots 0, size) (mod-eq-of-lt (omega arith)),
         rw size (rules-from rulesMost count 0 (zero-add count) few (parts .1)),
       )
+
+  -- its operator, behind all places of the rules
+  pub operator-taken : fitsIn (fieldsOf kind.Policy) w slots ≡ true
+      → policyOperator (lent slots) ≡ valueIn (fieldsOf kind.Policy) w slots .1 .0
+  unfolding valueIn
+  operator-taken h =
+      let behind-rules = then-fits (listOf rule) (operator then none) w slots h .1 in
+      let own = then-fits operator none w (drop 81 slots) behind-rules .0 in
+      number-taken w behind (lent slots) _ 81 (simp getD-drop (told slots 81)) 8 _ own (omega arith)

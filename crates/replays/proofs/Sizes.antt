@@ -6,12 +6,12 @@ use mathlib.Core.Logic.{⊎-elim}
 use lib.Dec.{eqb}
 use lib.ListN.{length, length-set, length-map, length-replicate}
 use Rattle.octets.specs.Limits.{ikePlaces, ipsecPlaces}
-use Rattle.octets.specs.Checks.{firstFailed}
 use Rattle.records.specs.Records.{noIke, noIpsec}
-use Rattle.tables.specs.Calls.{openingChecks, addingChecks, closingChecks, hasIke, hasIpsec}
+use Rattle.tables.specs.Calls.{hasIke}
 use Rattle.tables.specs.declared.calls.Opening.{Opening}
 use Rattle.tables.specs.Calls.{openBoth, openIpsec, closeIke, closeIpsec, markDeletion}
 use Rattle.tables.specs.Tables.{meant}
+use Rattle.tables.proofs.Cases.{both-or-neither, open-ipsec-cases, close-ike-cases, close-ipsec-cases}
 use Rattle.tables.proofs.Cases.{mark-deletion-cases}
 use Rattle.checking.specs.Checks.{Request}
 use Rattle.responder.specs.Handle.{earlyNumber, handled}
@@ -35,54 +35,42 @@ pub record Sized (g : Gateway) : Type 0 where
 pub empty-sized : Sized empty
 empty-sized = record { ikes = length-replicate ikePlaces noIke; ipsecs = length-replicate ipsecPlaces noIpsec }
 
--- ---- each call, by its number
+-- ---- each call, by what it can come to
 opened : (g : Gateway) (o : Opening) → Sized g
-    → let a = openBoth (g .ike) (g .ipsec) o in Sized (gateway (a .ike) (a .ipsec) (g .policy))
-unfolding openBoth
-opened g o h = go (eqb (firstFailed (openingChecks (g .ike) (g .ipsec) o)) 0) refl
-  where
-    go : (b : Bool) → eqb (firstFailed (openingChecks (g .ike) (g .ipsec) o)) 0 ≡ b
-        → let a = openBoth (g .ike) (g .ipsec) o in Sized (gateway (a .ike) (a .ipsec) (g .policy))
-    go true e = rw e (record { ikes = rw length-set (h .ikes); ipsecs = rw length-set (h .ipsecs) })
-    go false e = rw e (record { ikes = h .ikes; ipsecs = h .ipsecs })
+    → let a = openBoth (g .ike) (g .ipsec) o in Sized (gateway (a .ike) (a .ipsec) (g .policies))
+opened g o h =
+    ⊎-elim (λ m. record { ikes = rw (m .is, length-set) (h .ikes); ipsecs = rw (m .is, length-set) (h .ipsecs) })
+    (λ m. record { ikes = rw (m .same) (h .ikes); ipsecs = rw (m .child-same) (h .ipsecs) })
+    (both-or-neither (g .ike) (g .ipsec) o)
 
-added : (g : Gateway) (spi owner : ℕ) → Sized g
-    → Sized (gateway (g .ike) (openIpsec (g .ike) (g .ipsec) spi owner .ipsec) (g .policy))
-unfolding openIpsec
-added g spi owner h = go (eqb (firstFailed (addingChecks (g .ike) (g .ipsec) spi owner)) 0) refl
-  where
-    go : (b : Bool) → eqb (firstFailed (addingChecks (g .ike) (g .ipsec) spi owner)) 0 ≡ b
-        → Sized (gateway (g .ike) (openIpsec (g .ike) (g .ipsec) spi owner .ipsec) (g .policy))
-    go true e = rw e (record { ikes = h .ikes; ipsecs = rw length-set (h .ipsecs) })
-    go false e = rw e (record { ikes = h .ikes; ipsecs = h .ipsecs })
+added : (g : Gateway) (spi owner operator : ℕ) → Sized g
+    → Sized (gateway (g .ike) (openIpsec (g .ike) (g .ipsec) spi owner operator .ipsec) (g .policies))
+added g spi owner operator h =
+    ⊎-elim (λ e. record { ikes = h .ikes; ipsecs = rw e (h .ipsecs) })
+    (λ m. record { ikes = h .ikes; ipsecs = rw (m .is, length-set) (h .ipsecs) })
+    (open-ipsec-cases (g .ike) (g .ipsec) spi owner operator)
 
-closed : (g : Gateway) (spi : ℕ) → Sized g
-    → let a = closeIke (g .ike) (g .ipsec) spi in Sized (gateway (a .ike) (a .ipsec) (g .policy))
-unfolding closeIke
-closed g spi h = go (eqb (firstFailed (closingChecks (g .ipsec) spi (hasIke spi (g .ike)))) 0) refl
-  where
-    go : (b : Bool) → eqb (firstFailed (closingChecks (g .ipsec) spi (hasIke spi (g .ike)))) 0 ≡ b
-        → let a = closeIke (g .ike) (g .ipsec) spi in Sized (gateway (a .ike) (a .ipsec) (g .policy))
-    go true e = rw e (record { ikes = rw length-set (h .ikes); ipsecs = rw length-map (h .ipsecs) })
-    go false e = rw e (record { ikes = h .ikes; ipsecs = h .ipsecs })
+closed : (g : Gateway) (spi operator : ℕ) → Sized g
+    → let a = closeIke (g .ike) (g .ipsec) spi operator in Sized (gateway (a .ike) (a .ipsec) (g .policies))
+closed g spi operator h =
+    ⊎-elim (λ e. record { ikes = rw (e .0) (h .ikes); ipsecs = rw (e .1) (h .ipsecs) })
+    (λ m. record { ikes = rw (m .is, length-set) (h .ikes); ipsecs = rw (m .is, length-map) (h .ipsecs) })
+    (close-ike-cases (g .ike) (g .ipsec) spi operator)
 
-child-closed : (g : Gateway) (spi : ℕ) → Sized g
-    → Sized (gateway (g .ike) (closeIpsec (g .ipsec) spi .ipsec) (g .policy))
-unfolding closeIpsec
-child-closed g spi h = go (eqb (firstFailed (closingChecks (g .ipsec) spi (hasIpsec spi (g .ipsec)))) 0) refl
-  where
-    go : (b : Bool) → eqb (firstFailed (closingChecks (g .ipsec) spi (hasIpsec spi (g .ipsec)))) 0 ≡ b
-        → Sized (gateway (g .ike) (closeIpsec (g .ipsec) spi .ipsec) (g .policy))
-    go true e = rw e (record { ikes = h .ikes; ipsecs = rw length-set (h .ipsecs) })
-    go false e = rw e (record { ikes = h .ikes; ipsecs = h .ipsecs })
+child-closed : (g : Gateway) (spi operator : ℕ) → Sized g
+    → Sized (gateway (g .ike) (closeIpsec (g .ike) (g .ipsec) spi operator .ipsec) (g .policies))
+child-closed g spi operator h =
+    ⊎-elim (λ e. record { ikes = h .ikes; ipsecs = rw e (h .ipsecs) })
+    (λ m. record { ikes = h .ikes; ipsecs = rw (m .is, length-set) (h .ipsecs) })
+    (close-ipsec-cases (g .ike) (g .ipsec) spi operator)
 
 answered : (g : Gateway) (q : Request) → Sized g
-    → let a = handled (g .policy) (g .ike) (g .ipsec) q in Sized (gateway (a .ike) (g .ipsec) (g .policy))
+    → let a = handled (g .policies) (g .ike) (g .ipsec) q in Sized (gateway (a .ike) (g .ipsec) (g .policies))
 unfolding handled
 answered g q h = go (eqb (earlyNumber (g .ike) (g .ipsec) q) 0) refl
   where
     go : (b : Bool) → eqb (earlyNumber (g .ike) (g .ipsec) q) 0 ≡ b
-        → let a = handled (g .policy) (g .ike) (g .ipsec) q in Sized (gateway (a .ike) (g .ipsec) (g .policy))
+        → let a = handled (g .policies) (g .ike) (g .ipsec) q in Sized (gateway (a .ike) (g .ipsec) (g .policies))
     go true e = rw e (record { ikes = rw length-set (h .ikes); ipsecs = h .ipsecs })
     go false e = rw e (record { ikes = h .ikes; ipsecs = h .ipsecs })
 
@@ -92,7 +80,7 @@ module _ (g : Gateway) (q : CheckResponse) (h : Sized g) where
   told = checkTold (length (g .ipsec)) (hasIke (q .spi) (g .ike)) (meant (g .ike) (q .spi)) q
 
   abbrev Left : Type 0
-  Left = let a = checked (g .ike) (g .ipsec) q in Sized (gateway (a .ike) (a .ipsec) (g .policy))
+  Left = let a = checked (g .ike) (g .ipsec) q in Sized (gateway (a .ike) (a .ipsec) (g .policies))
 
   responded : Left
   unfolding checked
@@ -112,26 +100,26 @@ module _ (g : Gateway) (q : CheckResponse) (h : Sized g) where
 
 -- a clone is stored, a record is marked, or the table stays
 cloned-sized : (g : Gateway) (q : CloneRequest) → Sized g
-    → Sized (gateway (cloned (g .ike) q .ike) (g .ipsec) (g .policy))
+    → Sized (gateway (cloned (g .ike) q .ike) (g .ipsec) (g .policies))
 cloned-sized g q h =
     ⊎-elim (λ m. record { ikes = rw (m .same) (h .ikes); ipsecs = h .ipsecs })
     (λ m. record { ikes = rw (m .is, length-set) (h .ikes); ipsecs = h .ipsecs })
     (clone-cases (g .ike) q)
 
-marked-sized : (g : Gateway) (spi : ℕ) → Sized g
-    → Sized (gateway (markDeletion (g .ike) spi .ike) (g .ipsec) (g .policy))
-marked-sized g spi h =
+marked-sized : (g : Gateway) (spi operator : ℕ) → Sized g
+    → Sized (gateway (markDeletion (g .ike) spi operator .ike) (g .ipsec) (g .policies))
+marked-sized g spi operator h =
     ⊎-elim (λ e. record { ikes = rw e (h .ikes); ipsecs = h .ipsecs })
     (λ m. record { ikes = rw (m .is, length-set) (h .ikes); ipsecs = h .ipsecs })
-    (mark-deletion-cases (g .ike) spi)
+    (mark-deletion-cases (g .ike) spi operator)
 
 pub called-sized : (k : Kind) (v : Value (fieldsOf k)) (g : Gateway) → Sized g → Sized (calledAs k v g .after)
 called-sized kind.OpenBoth v g h = opened g (openingOf v) h
-called-sized kind.AddIpsec v g h = added g (v .0) (v .1 .0) h
-called-sized kind.CloseIke v g h = closed g (v .0) h
-called-sized kind.CloseIpsec v g h = child-closed g (v .0) h
+called-sized kind.AddIpsec v g h = added g (v .0) (v .1 .0) (v .1 .1 .0) h
+called-sized kind.CloseIke v g h = closed g (v .0) (v .1 .0) h
+called-sized kind.CloseIpsec v g h = child-closed g (v .0) (v .1 .0) h
 called-sized kind.Request v g h = answered g (requestFrom v) h
 called-sized kind.Policy v g h = record { ikes = h .ikes; ipsecs = h .ipsecs }
 called-sized kind.CheckResponse v g h = responded g (responseFrom v) h
 called-sized kind.Clone v g h = cloned-sized g (cloneFrom v) h
-called-sized kind.MarkDeletion v g h = marked-sized g (v .0) h
+called-sized kind.MarkDeletion v g h = marked-sized g (v .0) (v .1 .0) h

@@ -16,6 +16,7 @@ use Rattle.writing.specs.Notify.{placed}
 use Rattle.writing.proofs.Placed.{placed-front}
 use Rattle.fields.specs.Fields.{Field, upTo, address, string, _then_, stringMost}
 use Rattle.fields.specs.Slots.{width, fitsIn}
+use Rattle.entries.specs.Slots.{entrySlots}
 use Rattle.given.specs.Given.{addressIn, stringIn}
 use Rattle.replaying.specs.Turns.{noSlots}
 
@@ -38,7 +39,7 @@ told slots i = rw (placed-front noSlots slots) (go (ltb i (length slots)) refl)
         let split : i ≡ length slots + (i - length slots) = omega arith in
         ap (λ (k : ℕ). getD (slots ++ drop (length slots) noSlots) k 0) split
         ∙ getD-append-add slots (drop (length slots) noSlots) (i - length slots) 0
-        ∙ getD-drop (length slots) noSlots (i - length slots) 0 ∙ zeros 81 (length slots + (i - length slots))
+        ∙ getD-drop (length slots) noSlots (i - length slots) 0 ∙ zeros entrySlots (length slots + (i - length slots))
         ∙ sym (List·getD-eq-default slots 0 past)
 
 pub then-fits : (f g : Field) (w slots : List ℕ) → fitsIn (f then g) w slots ≡ true

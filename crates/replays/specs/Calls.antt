@@ -6,13 +6,12 @@
 use Prim.Native.Nat.{ℕ, _-_}
 use mathlib.Core.List.{List, map, _++_}
 use lib.ListN.{length, replicate}
-use Rattle.octets.specs.Limits.{ikePlaces, ipsecPlaces, rulesMost, responseRoom}
+use Rattle.octets.specs.Limits.{ikePlaces, ipsecPlaces, rulesMost, operators, responseRoom}
 use Rattle.address.specs.declared.pair.Pair.{Pair}
 use Rattle.records.specs.Pending.{checkOf}
 use Rattle.records.specs.Records.{noIke, noIpsec}
-use Rattle.policy.specs.Policy.{setPolicy, noRule}
+use Rattle.policy.specs.Policy.{setPolicy, noRule, noPolicy}
 use Rattle.policy.specs.declared.rules.Rule.{Rule}
-use Rattle.policy.specs.declared.rules.Policy.{Policy}
 use Rattle.tables.specs.Calls.{openBoth, openIpsec, closeIke, closeIpsec, markDeletion}
 use Rattle.tables.specs.declared.calls.Opening.{Opening}
 use Rattle.answering.specs.Core.{asked}
@@ -30,8 +29,7 @@ use Rattle.acts.specs.Performed.{Gateway, gateway, Performed, gives}
 
 abbrev pub empty : Gateway
 empty =
-    gateway (replicate ikePlaces noIke) (replicate ipsecPlaces noIpsec)
-    (record { count = 0; rules = replicate rulesMost noRule })
+    gateway (replicate ikePlaces noIke) (replicate ipsecPlaces noIpsec) (replicate operators noPolicy)
 
 -- ---- arguments
 
@@ -54,28 +52,28 @@ openingOf v =
     let more = behindPair (v .1 .1) in
     record {
       spi = v .0;
-      agreed = record { mobike = v .1 .0; cloning = more .1 .1 .0; peer = more .1 .0 };
+      agreed = record { mobike = v .1 .0; cloning = more .1 .1 .0; operator = more .1 .1 .1 .0; peer = more .1 .0 };
       pair = pairOf (v .1 .1);
       child = more .0;
     }
 
 -- "A request is given as SPI, ID, packet's pair, the two NAT values, first type, body", and with it the cookie and the
--- ID of our check; the replay lends an output of the room that a response needs
+-- ID of our check and its operator; the replay lends an output of the room that a response needs
 abbrev pub requestFrom : Value (fieldsOf kind.Request) → Request
 requestFrom v =
     let pair = v .1 .1 in
     let more = behindPair pair in
     let check = checkOf (more .1 .1 .1 .1 .0) (more .1 .1 .1 .1 .1 .0) in
     let a = asked (v .1 .0) (pairOf pair) (more .0) (more .1 .0) (more .1 .1 .0) (more .1 .1 .1 .0) check in
-    requestOf (v .0) a responseRoom
+    requestOf (v .0) a responseRoom (more .1 .1 .1 .1 .1 .1 .0)
 
 -- 02, E6: "a response (SPI, ID, first type, body)"
 abbrev pub responseFrom : Value (fieldsOf kind.CheckResponse) → CheckResponse
-responseFrom v = checkResponse (v .0) (v .1 .0) (v .1 .1 .0) (v .1 .1 .1 .0)
+responseFrom v = checkResponse (v .0) (v .1 .0) (v .1 .1 .0) (v .1 .1 .1 .0) (v .1 .1 .1 .1 .0)
 
 -- 02, E8: "a CREATE_CHILD_SA request given as an IKE rekey (SPI, new SPI, first type, body)"; the output is the same
 abbrev pub cloneFrom : Value (fieldsOf kind.Clone) → CloneRequest
-cloneFrom v = cloneRequest (v .0) (v .1 .0) (v .1 .1 .0) (v .1 .1 .1 .0) responseRoom
+cloneFrom v = cloneRequest (v .0) (v .1 .0) (v .1 .1 .0) (v .1 .1 .1 .0) responseRoom (v .1 .1 .1 .1 .0)
 
 abbrev pub ruleOf : Value (inOrder ruleFields) → Rule
 ruleOf v =
@@ -91,36 +89,36 @@ ruleOf v =
 abbrev pub rulesOf : List (Value (inOrder ruleFields)) → List Rule
 rulesOf vs = map ruleOf vs ++ replicate (rulesMost - length vs) noRule
 
--- ---- the calls
+-- ---- the calls, each for the operator that its entry names (02, E9)
 abbrev pub calledAs : (k : Kind) → Value (fieldsOf k) → Gateway → Performed
 calledAs kind.OpenBoth v g =
     let a = openBoth (g .ike) (g .ipsec) (openingOf v) in
-    gives (numberedBy (a .number)) (gateway (a .ike) (a .ipsec) (g .policy))
+    gives (numberedBy (a .number)) (gateway (a .ike) (a .ipsec) (g .policies))
 calledAs kind.AddIpsec v g =
-    let a = openIpsec (g .ike) (g .ipsec) (v .0) (v .1 .0) in
-    gives (numberedBy (a .number)) (gateway (g .ike) (a .ipsec) (g .policy))
+    let a = openIpsec (g .ike) (g .ipsec) (v .0) (v .1 .0) (v .1 .1 .0) in
+    gives (numberedBy (a .number)) (gateway (g .ike) (a .ipsec) (g .policies))
 calledAs kind.CloseIke v g =
-    let a = closeIke (g .ike) (g .ipsec) (v .0) in
-    gives (numberedBy (a .number)) (gateway (a .ike) (a .ipsec) (g .policy))
+    let a = closeIke (g .ike) (g .ipsec) (v .0) (v .1 .0) in
+    gives (numberedBy (a .number)) (gateway (a .ike) (a .ipsec) (g .policies))
 calledAs kind.CloseIpsec v g =
-    let a = closeIpsec (g .ipsec) (v .0) in
-    gives (numberedBy (a .number)) (gateway (g .ike) (a .ipsec) (g .policy))
+    let a = closeIpsec (g .ike) (g .ipsec) (v .0) (v .1 .0) in
+    gives (numberedBy (a .number)) (gateway (g .ike) (a .ipsec) (g .policies))
 calledAs kind.Request v g =
-    let a = handled (g .policy) (g .ike) (g .ipsec) (requestFrom v) in
-    gives (repliedBy (a .reply)) (gateway (a .ike) (g .ipsec) (g .policy))
+    let a = handled (g .policies) (g .ike) (g .ipsec) (requestFrom v) in
+    gives (repliedBy (a .reply)) (gateway (a .ike) (g .ipsec) (g .policies))
 calledAs kind.Policy v g =
-    let a = setPolicy (g .policy) (length (v .0)) (rulesOf (v .0)) in
-    gives (numberedBy (a .number)) (gateway (g .ike) (g .ipsec) (a .policy))
+    let a = setPolicy (g .policies) (length (v .0)) (rulesOf (v .0)) (v .1 .0) in
+    gives (numberedBy (a .number)) (gateway (g .ike) (g .ipsec) (a .policies))
 -- its outcome is not printed: what it did shows in the pairs
 calledAs kind.CheckResponse v g =
     let a = checked (g .ike) (g .ipsec) (responseFrom v) in
-    gives (numberedBy (a .told .number)) (gateway (a .ike) (a .ipsec) (g .policy))
+    gives (numberedBy (a .told .number)) (gateway (a .ike) (a .ipsec) (g .policies))
 calledAs kind.Clone v g =
     let a = cloned (g .ike) (cloneFrom v) in
-    gives (numberedBy (a .reply .number)) (gateway (a .ike) (g .ipsec) (g .policy))
+    gives (numberedBy (a .reply .number)) (gateway (a .ike) (g .ipsec) (g .policies))
 calledAs kind.MarkDeletion v g =
-    let a = markDeletion (g .ike) (v .0) in
-    gives (numberedBy (a .number)) (gateway (a .ike) (g .ipsec) (g .policy))
+    let a = markDeletion (g .ike) (v .0) (v .1 .0) in
+    gives (numberedBy (a .number)) (gateway (a .ike) (g .ipsec) (g .policies))
 
 abbrev pub called : Entry → Gateway → Performed
 called e g = calledAs (e .kind) (e .values) g

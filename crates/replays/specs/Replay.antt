@@ -4,7 +4,7 @@
 --   lines k es g     the lines of entries, the first of which has the ordinal k
 --   left es g        the gateway after them
 --   pairs g          the pair of each record in use: IKE records by place, then IPsec records by place
---   replayed t       of a whole trace, on empty tables and an empty policy; endOf t: the gateway after it
+--   replayed t       of a whole trace, on empty tables and empty policies; endOf t: the gateway after it
 use Prim.Native.Nat.{ℕ, suc}
 use mathlib.Core.Bool.{true, false}
 use mathlib.Core.List.{List, [], _∷_, _++_}

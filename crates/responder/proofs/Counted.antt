@@ -24,10 +24,10 @@ use Rattle.tables.specs.Tables.{meant}
 refused-none : (n first : ℕ) (body : List ℕ) → oneToSeven n ≡ true → 0 ≡ countTold n first body
 refused-none n first body e = rw e
 
-module _ (policy : Policy) (ike : List IkeRecord) (ipsec : List IpsecRecord) (q : Request) where
+module _ (policies : List Policy) (ike : List IkeRecord) (ipsec : List IpsecRecord) (q : Request) where
   abbrev Counted : Type 0
   Counted =
-      let r = handled policy ike ipsec q .reply in
+      let r = handled policies ike ipsec q .reply in
       r .payloads ≡ countTold (r .number) (q .asks .first) (q .asks .body)
 
   pub payloads-counted : Counted
@@ -63,4 +63,4 @@ module _ (policy : Policy) (ike : List IkeRecord) (ipsec : List IpsecRecord) (q 
           (verdict-of
           (λ n. reading (q .asks .first) (q .asks .body) .seen .tally .payloads ≡ countTold n (q .asks .first)
           (q .asks .body)) c c c
-          (decisionOn (accepts policy q) (q .asks) (marksIn (meant ike (q .spi))) .verdict))
+          (decisionOn (accepts policies q) (q .asks) (marksIn (meant ike (q .spi))) .verdict))

@@ -22,7 +22,7 @@ use Rattle.responder.specs.Looked.{handledAt, responseAt}
 use Rattle.checking.specs.declared.lookup.Looked.{Looked}
 use Rattle.tables.specs.Tables.{meant}
 
-module _ (policy : Policy) (ike : List IkeRecord) (ipsec : List IpsecRecord) (q : Request)
+module _ (policies : List Policy) (ike : List IkeRecord) (ipsec : List IpsecRecord) (q : Request)
     (long : length ike ≡ ikePlaces) where
   abbrev place : ℕ
   place = placeOf ikeSpi (q .spi) ike
@@ -31,7 +31,7 @@ module _ (policy : Policy) (ike : List IkeRecord) (ipsec : List IpsecRecord) (q 
   looked = lookedUp (length ipsec) place (meant ike (q .spi))
 
   abbrev result : CoreAnswer
-  result = handledAt (accepts policy q) looked q
+  result = handledAt (accepts policies q) looked q
 
   same-number : earlyNumber ike ipsec q ≡ earlyNumberAt looked q
   same-number = rw long
@@ -41,13 +41,13 @@ module _ (policy : Policy) (ike : List IkeRecord) (ipsec : List IpsecRecord) (q 
     pub reply : result .reply ≡ h .reply
     pub ike-after :
         set ike place (changedBy result (q .asks .pair) (q .asks .check) (q .asks .body) (meant ike (q .spi))) ≡ h .ike
-    pub octets : responseAt (accepts policy q) looked q ≡ response
+    pub octets : responseAt (accepts policies q) looked q ≡ response
 
-  pub handles : Handles (handled policy ike ipsec q) (handledResponse policy ike ipsec q)
+  pub handles : Handles (handled policies ike ipsec q) (handledResponse policies ike ipsec q)
   unfolding handled handledResponse handledAt responseAt changedBy
   handles = go (ℕ-discrete (earlyNumberAt looked q) 0)
     where
-      go : Dec (earlyNumberAt looked q ≡ 0) → Handles (handled policy ike ipsec q) (handledResponse policy ike ipsec q)
+      go : Dec (earlyNumberAt looked q ≡ 0) → Handles (handled policies ike ipsec q) (handledResponse policies ike ipsec q)
       go (yes e) =
           let t = eq-eqb _ 0 e in
           record {

@@ -25,21 +25,24 @@ pub fn handle_at(
     nat_destination: &[u8],
     body: &[u8],
     out: &mut [u8],
+    operator: u8,
 ) -> CoreAnswer
     requires { ⌜ (
-        let q = requestBy packet (now «nat_source») (now «nat_destination») (now body) (length (now out)) in
+        let q = requestBy packet (now «nat_source») (now «nat_destination») (now body) (length (now out)) operator in
         received ≡ receivedAt looked q
         ) ⌝ }
     ensures { λ r. ⌜ (
         let nat-source = now («nat_source» .entry) in
         let nat-destination = now («nat_destination» .entry) in
-        let q = requestBy packet nat-source nat-destination (now (body .entry)) (length (now (out .entry))) in
+        let room = length (now (out .entry)) in
+        let q = requestBy packet nat-source nat-destination (now (body .entry)) room operator in
         r ≡ handledAt accepted looked q
         ) ⌝ }
     ensures { λ _. ⌜ (
         let nat-source = now («nat_source» .entry) in
         let nat-destination = now («nat_destination» .entry) in
-        let q = requestBy packet nat-source nat-destination (now (body .entry)) (length (now (out .entry))) in
+        let room = length (now (out .entry)) in
+        let q = requestBy packet nat-source nat-destination (now (body .entry)) room operator in
         now (out .exit) ≡ placed (now (out .entry)) 0 (responseAt accepted looked q)
         ) ⌝ }
 {

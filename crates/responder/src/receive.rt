@@ -39,15 +39,26 @@ pub fn received_at(
     nat_destination: &[u8],
     body: &[u8],
     out: &[u8],
+    operator: u8,
 ) -> Received
     ensures { λ r. ⌜ (
         let nat-source = now («nat_source» .entry) in
         let nat-destination = now («nat_destination» .entry) in
-        let q = requestBy packet nat-source nat-destination (now (body .entry)) (length (now (out .entry))) in
+        let room = length (now (out .entry)) in
+        let q = requestBy packet nat-source nat-destination (now (body .entry)) room operator in
         r ≡ receivedAt looked q
         ) ⌝ }
 {
-    let early = early_number(looked, packet, nat_source, nat_destination, body, out.len());
+    let room = out.len();
+    let early = early_number(
+        looked,
+        packet,
+        nat_source,
+        nat_destination,
+        body,
+        room,
+        operator,
+    );
     let number = number_of(early);
     if number != 0 {
         let none = refuse(number, 0, 0, 0);

@@ -50,6 +50,7 @@ module _ (t : Tables) (q : CheckResponse) where
   pub record Comes (s : Tables) : Type 0 where
     pub named : q .spi ≡ 0 → ⊥
     pub there : place < length (t .ike)
+    pub own : entry .agreed .operator ≡ q .operator
     pub is : afterResponse q t ≡ s
 
   pub data Way : Type 0 where
@@ -63,7 +64,7 @@ module _ (t : Tables) (q : CheckResponse) where
   comes : (told .outcome ≡ noOutcome → ⊥) → {s : Tables} → afterResponse q t ≡ s → Comes s
   comes n e =
       let k = told-passed (length (t .ipsec)) (hasIke (q .spi) (t .ike)) entry q n in
-      record { named = k .named; there = ltb-true _ _ (k .found); is = e }
+      record { named = k .named; there = ltb-true _ _ (k .found); own = k .own; is = e }
 
   pub way : Way
   unfolding afterResponse checked

@@ -17,6 +17,7 @@ use lib.Dec.{eqb, ltb}
 use lib.ListN.{length, set}
 use Rattle.octets.specs.Checks.{Check, _gives_, firstFailed}
 use Rattle.octets.specs.Flags.{isYes}
+use Rattle.octets.specs.Operators.{isOperator}
 use Rattle.octets.specs.Limits.{bodyMost, ipsecPlaces}
 use Rattle.octets.specs.Lists.{placeOf}
 use Rattle.octets.specs.declared.number.Number.the-variants.{BadArgument, BodyTooLong, NoSuchRecord, MobikeNotAgreed}
@@ -32,27 +33,32 @@ use Rattle.initiator.specs.Response.{outcomeNumber, noOutcome, refusal, assessm
 use Rattle.initiator.specs.declared.response.Assessment.{Assessment}
 use Rattle.initiator.specs.declared.response.Outcome.the-variants.{Close, Accepted}
 
--- E6: "a response (SPI, ID, first type, body)".
+-- E6: "a response (SPI, ID, first type, body)"; E9: and its operator.
 pub record CheckResponse : Type 0 where
   pub spi : ℕ
   pub id : ℕ
   pub first : ℕ
   pub body : List ℕ
+  pub operator : ℕ
 
-abbrev pub checkResponse : ℕ → ℕ → ℕ → List ℕ → CheckResponse
-checkResponse spi id first body = record { spi = spi; id = id; first = first; body = body }
+abbrev pub checkResponse : ℕ → ℕ → ℕ → List ℕ → ℕ → CheckResponse
+checkResponse spi id first body operator =
+    record { spi = spi; id = id; first = first; body = body; operator = operator }
 
 -- E6: "14 (no pending check, or another ID)".
 abbrev pub pendingFor : IkeRecord → ℕ → Bool
 pendingFor e id = isPending (e .check) && eqb (e .check .id) id
 
 -- E6: "a response checks 1, 3, 4, 5, 14, 6, 7", those before its chain is read: beside a list of `lent` IPsec records;
--- `there` says whether the SPI means a record, and `e` is that record.
+-- `there` says whether the SPI means a record, and `e` is that record. E9: "A call for one operator finds only its own
+-- records, else answer 4".
 abbrev pub checkResponseChecks : ℕ → Bool → IkeRecord → CheckResponse → List Check
 checkResponseChecks lent there e q =
     (not (eqb lent ipsecPlaces) || eqb (q .spi) 0) gives BadArgument
+    ∷ not (isOperator (q .operator)) gives BadArgument
     ∷ ltb bodyMost (length (q .body)) gives BodyTooLong
     ∷ not there gives NoSuchRecord
+    ∷ not (eqb (e .agreed .operator) (q .operator)) gives NoSuchRecord
     ∷ not (isYes (e .agreed .mobike)) gives MobikeNotAgreed
     ∷ not (pendingFor e (q .id)) gives CheckNotPending
     ∷ []

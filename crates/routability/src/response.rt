@@ -11,6 +11,7 @@ use octets::limits::IKE_PLACES;
 use octets::limits::IPSEC_PLACES;
 use octets::number::Number;
 use octets::number::number_of;
+use octets::operator::not_operator;
 use records::check::PendingCheck;
 use records::check::is_pending;
 use records::ike::IkeRecord;
@@ -57,9 +58,10 @@ pub fn early_response(
     id: u32,
     first: u8,
     body: &[u8],
+    operator: u8,
 ) -> Number
     ensures { λ r. ⌜ (
-        let q = checkResponse spi id first (now (body .entry)) in
+        let q = checkResponse spi id first (now (body .entry)) operator in
         numberOf r ≡ earlyResponse size (ltb place ikePlaces) entry q
         ) ⌝ }
 {
@@ -70,10 +72,16 @@ pub fn early_response(
     if spi == 0 {
         return Number::BadArgument;
     }
+    if not_operator(operator) {
+        return Number::BadArgument;
+    }
     if BODY_MOST < body.len() {
         return Number::BodyTooLong;
     }
     if IKE_PLACES <= place {
+        return Number::NoSuchRecord;
+    }
+    if agreed.operator != operator {
         return Number::NoSuchRecord;
     }
     if !is_yes(agreed.mobike) {
@@ -105,13 +113,14 @@ pub fn tell(
     id: u32,
     first: u8,
     body: &[u8],
+    operator: u8,
 ) -> Assessment
     ensures { λ r. ⌜ (
-        let q = checkResponse spi id first (now (body .entry)) in
+        let q = checkResponse spi id first (now (body .entry)) operator in
         r ≡ checkTold size (ltb place ikePlaces) entry q
         ) ⌝ }
 {
-    let early = early_response(size, place, entry, spi, id, first, body);
+    let early = early_response(size, place, entry, spi, id, first, body, operator);
     let number = number_of(early);
     if number != 0 {
         return refuse(number, 0, 0);
@@ -147,10 +156,11 @@ pub fn end_check(
     id: u32,
     first: u8,
     body: &[u8],
+    operator: u8,
 ) -> Ending
-    ensures { λ r. ⌜ r ≡ endingOf size place entry (checkResponse spi id first (now (body .entry))) ⌝ }
+    ensures { λ r. ⌜ r ≡ endingOf size place entry (checkResponse spi id first (now (body .entry)) operator) ⌝ }
 {
-    let told = tell(size, place, entry, spi, id, first, body);
+    let told = tell(size, place, entry, spi, id, first, body, operator);
     let closes = told.outcome == outcome_number(Outcome::Close);
     let moves = told.outcome == outcome_number(Outcome::Accepted);
     Ending {

@@ -1,4 +1,4 @@
--- 01's rows a to j hold of the definitions: one test, computed over the whole table.
+-- 01's rows a to j hold of the definitions, for either operator: one test, computed over the whole table.
 use mathlib.Core.Path.{_≡_, refl}
 use mathlib.Core.Bool.{true}
 use Rattle.octets.specs.Lists.{all}
@@ -16,10 +16,10 @@ use Rattle.answering.specs.Core.{chainError, coreResponse, coreAnswer}
 use Rattle.replying.specs.Change.{changedBy}
 use Rattle.checking.specs.Checks.{earlyNumberBy}
 use Rattle.responder.specs.Handle.{handled, handledResponse}
-use Rattle.rows.specs.Rows.{rowHolds, rows}
+use Rattle.rows.specs.Rows.{holdsFor, rowHolds, rows}
 
 pub rows-hold : all rowHolds rows ≡ true
-unfolding rowHolds kindOf notifyAt sized payloadAt noted contentNoted chain chainAt scanned reading prefixMatches
-    ruleMatches acceptable checkOf notifyOctets unaltered verdict listDecided updateDecided decided chained chainError
-    coreResponse coreAnswer changedBy earlyNumberBy handled handledResponse
+unfolding holdsFor rowHolds kindOf notifyAt sized payloadAt noted contentNoted chain chainAt scanned reading
+    prefixMatches ruleMatches acceptable checkOf notifyOctets unaltered verdict listDecided updateDecided decided
+    chained chainError coreResponse coreAnswer changedBy earlyNumberBy handled handledResponse
 rows-hold = refl

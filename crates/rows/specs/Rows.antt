@@ -1,19 +1,19 @@
 -- Trusted. 01's rows a to j, and its two whole octet strings, as one table of requests with what each must give
 -- ("The rows a to j form a single table, checked by one theorem about the definitions"); 02, E4: "rows b, d and e now
--- give 61, 65 and 63".
+-- give 61, 65 and 63"; E9: for either operator, where the other's policy says the opposite.
 --   Given, Result, Row      what is given, what must come of it, and both
---   rowHolds                whether the definitions give that
+--   holdsFor                whether the definitions give that to an operator; rowHolds: to both
 --   a to j, whole           the rows by their letters, and "Row c with a cookie, whole"
 --   rows                    the table
 use Prim.Native.Nat.{ℕ, _+_, _-_}
 use mathlib.Core.List.{List, [], _∷_, _++_}
-use mathlib.Core.Bool.{Bool, true, false, _&&_}
+use mathlib.Core.Bool.{Bool, true, false, _&&_, not}
 use lib.Dec.{eqb}
-use lib.ListN.{length, getD, replicate}
+use lib.ListN.{length, getD, replicate, set}
 use Rattle.octets.specs.declared.number.Number.{Number}
 use Rattle.octets.specs.declared.number.Number.the-variants as told
 use Rattle.octets.specs.Limits.{addressOctets, cookieLeast, ipsecPlaces, natOctets, notifyHeader, responseRoom}
-use Rattle.octets.specs.Limits.{rulesMost}
+use Rattle.octets.specs.Limits.{rulesMost, operators}
 use Rattle.octets.specs.Numbers.{numberOf}
 use Rattle.octets.specs.Wire.{notifyPayload}
 use Rattle.octets.specs.Octets.{padded}
@@ -60,9 +60,13 @@ every =
       «destination_len» = 0;
     }
 
-abbrev policyOf : Bool → Policy
-policyOf true = record { count = 1; rules = every ∷ replicate (rulesMost - 1) noRule }
-policyOf false = record { count = 0; rules = replicate rulesMost noRule }
+abbrev accepting : Bool → Policy
+accepting true = record { count = 1; rules = every ∷ replicate (rulesMost - 1) noRule }
+accepting false = record { count = 0; rules = replicate rulesMost noRule }
+
+-- E9: "Policies ... are per operator": the operator's accepts the pair or not, and the other's does the opposite
+abbrev policiesFor : ℕ → Bool → List Policy
+policiesFor operator accepted = set (replicate operators (accepting (not accepted))) operator (accepting accepted)
 
 -- What is given: the chain, the ID, the record's update mark as it is kept (0 for none), whether the pair is
 -- acceptable.
@@ -88,30 +92,32 @@ pub record Row : Type 0 where
   pub given : Given
   pub result : Result
 
-abbrev agreed : Agreed
-agreed = record { mobike = 1; cloning = 0; peer = 0 }
+abbrev agreed : ℕ → Agreed
+agreed operator = record { mobike = 1; cloning = 0; operator = operator; peer = 0 }
 
--- a record of SPI 7 for which MOBIKE was agreed, with this mark
-abbrev recordWith : ℕ → IkeRecord
-recordWith mark =
-    let marks : Marks = record { agreed = agreed; «update_mark» = mark; «list_mark» = 0; unknown = 0 } in
-    remarked marks false pair noCheck (newIke 7 agreed pair)
+-- an operator's record of SPI 7 for which MOBIKE was agreed, with this mark
+abbrev recordWith : ℕ → ℕ → IkeRecord
+recordWith operator mark =
+    let marks : Marks = record { agreed = agreed operator; «update_mark» = mark; «list_mark» = 0; unknown = 0 } in
+    remarked marks false pair noCheck (newIke 7 (agreed operator) pair)
 
--- a request for that record, with a cookie of ours that passes check 1 (02, E6)
-abbrev asksFor : Given → Request
-asksFor g =
+-- that operator's request for that record, with a cookie of ours that passes check 1 (02, E6)
+abbrev asksFor : ℕ → Given → Request
+asksFor operator g =
     let check = checkOf (replicate cookieLeast 3) 1 in
     let asks = asked (g .id) pair (replicate natOctets 1) (replicate natOctets 2) (g .first) (g .body) check in
-    requestOf 7 asks responseRoom
+    requestOf 7 asks responseRoom operator
 
-unfoldable pub rowHolds : Row → Bool
-rowHolds r =
+unfoldable pub holdsFor : ℕ → Row → Bool
+holdsFor operator r =
     let g = r .given in
     let must = r .result in
-    let ike = recordWith (g .mark) ∷ [] in
+    let q = asksFor operator g in
+    let policies = policiesFor operator (g .accepted) in
+    let ike = recordWith operator (g .mark) ∷ [] in
     let ipsec = replicate ipsecPlaces noIpsec in
-    let h = handled (policyOf (g .accepted)) ike ipsec (asksFor g) in
-    let octets = handledResponse (policyOf (g .accepted)) ike ipsec (asksFor g) in
+    let h = handled policies ike ipsec q in
+    let octets = handledResponse policies ike ipsec q in
     eqb (h .reply .number) (must .number)
     && (eqb (h .reply .offset) (must .offset)
     && (eqb (h .reply .ordinal) (must .ordinal)
@@ -120,6 +126,10 @@ rowHolds r =
     && (eqb (getD (h .ike) 0 noIke .unknown) (must .tally)
     && (eqb (h .reply .length) (length octets)
     && sameList octets (must .response)))))))
+
+-- "operator A (0) or B (1)"
+unfoldable pub rowHolds : Row → Bool
+rowHolds r = holdsFor 0 r && holdsFor 1 r
 
 abbrev update : List ℕ
 update = 0 ∷ 0 ∷ 0 ∷ 8 ∷ 0 ∷ 0 ∷ 0x40 ∷ 0x10 ∷ []

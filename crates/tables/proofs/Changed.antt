@@ -3,19 +3,22 @@
 use Prim.Native.Nat.{ℕ}
 use mathlib.Core.Path.{_≡_, refl}
 use mathlib.Core.List.{List, map}
-use mathlib.Core.Bool.{Bool, true, false, cond}
+use mathlib.Core.Bool.{Bool, true, false, cond, _&&_, _||_, not}
 use native.Mathlib.Omega.{arith}
 use borrow.Author.Tests.{eqb-true}
-use lib.Dec.{eqb, ltb}
+use lib.Dec.{eqb, leb, ltb}
 use lib.ListN.{length, getD, set}
 use lib.Seq.{set-out}
-use Rattle.octets.specs.Limits.{ikePlaces}
+use Rattle.octets.specs.Limits.{ikePlaces, ipsecPlaces, ikeShare, ipsecShare}
 use Rattle.octets.specs.Lists.{placeOf}
 use Rattle.records.specs.Records.{ikeSpi, ipsecSpi, noIke, newIpsec, noIpsec, released, deletionMarked}
 use Rattle.tables.specs.Opening.{ikeOf, childOf}
+use Rattle.octets.specs.Operators.{isOperator}
 use Rattle.tables.specs.Calls.{TablesAnswer, ikeAnswer, ipsecAnswer, tablesAnswer, hasIpsec, openingFits}
+use Rattle.tables.specs.Calls.{ikesOf, ipsecsOf}
 use Rattle.tables.specs.Calls.{openBoth, openIpsec, closeIke, closeIpsec, markDeletion}
-use Rattle.tables.specs.Changes.{badList, badAdding, addingNumber, closingNumber, bothNumber}
+use Rattle.tables.specs.Changes.{isOwn, isOwnChild, badList, badClosing, badAdding, badMarking}
+use Rattle.tables.specs.Changes.{addingNumber, closingNumber, bothNumber}
 use Rattle.tables.specs.Changes.{bothOpening, ipsecOpening, ikeClosing, ipsecClosing, ikeMarking}
 use Rattle.tables.specs.declared.calls.Opening.{Opening}
 use Rattle.records.specs.declared.ike.IkeRecord.{IkeRecord}
@@ -25,12 +28,28 @@ use Rattle.records.specs.declared.ipsec.IpsecRecord.{IpsecRecord}
 unstored : {A : Type 0} (xs : List A) (n : ℕ) (x : A) → length xs ≡ n → set xs n x ≡ xs
 unstored xs n x e = set-out xs n x (omega arith)
 
+-- that an SPI is not 0 is a check before, so that a record that is found is one's own as `owns` has it
+own-closed : (x z y o : Bool) → closingNumber ((x || z) || y) (not z && o) ≡ closingNumber ((x || z) || y) o
+own-closed true z y o = refl
+own-closed false true y o = refl
+own-closed false false y o = refl
+
+own-added : (x z y o taken limited room : Bool)
+    → addingNumber ((x || z) || y) (not z && o) taken limited room
+    ≡ addingNumber ((x || z) || y) o taken limited room
+own-added true z y o taken limited room = refl
+own-added false true y o taken limited room = refl
+own-added false false y o taken limited room = refl
+
 module _ (ike : List IkeRecord) (long : length ike ≡ ikePlaces) where
   module _ (ipsec : List IpsecRecord) where
     pub opens-both : (o : Opening)
         → let taken = placeOf ikeSpi (o .spi) ike in
         let childTaken = placeOf ipsecSpi (o .child) ipsec in
-        let c = bothOpening (length ipsec) o taken (placeOf ikeSpi 0 ike) childTaken (placeOf ipsecSpi 0 ipsec) in
+        let own = ikesOf (o .agreed .operator) ike in
+        let childOwn = ipsecsOf (o .agreed .operator) ike ipsec in
+        let c =
+        bothOpening (length ipsec) o taken (placeOf ikeSpi 0 ike) childTaken (placeOf ipsecSpi 0 ipsec) own childOwn in
         let r = openBoth ike ipsec o in
         (c .number ≡ r .number) × (set ike (c .place) (c .entry) ≡ r .ike)
         × (set ipsec (c .«child_place») (c .child) ≡ r .ipsec)
@@ -40,7 +59,9 @@ module _ (ike : List IkeRecord) (long : length ike ≡ ikePlaces) where
         number : ℕ
         number =
             bothNumber (openingFits (length ipsec) o) (ltb (placeOf ikeSpi (o .spi) ike) ikePlaces)
-            (hasIpsec (o .child) ipsec) (ltb (placeOf ikeSpi 0 ike) ikePlaces) (hasIpsec 0 ipsec)
+            (hasIpsec (o .child) ipsec) (leb ikeShare (ikesOf (o .agreed .operator) ike))
+            (leb ipsecShare (ipsecsOf (o .agreed .operator) ike ipsec)) (ltb (placeOf ikeSpi 0 ike) ikePlaces)
+            (hasIpsec 0 ipsec)
 
         opened : TablesAnswer
         opened =
@@ -53,23 +74,40 @@ module _ (ike : List IkeRecord) (long : length ike ≡ ikePlaces) where
         go true e = (eqb-true number 0 e, refl, refl)
         go false e = (refl, unstored ike ikePlaces (ikeOf o) long, unstored ipsec (length ipsec) (childOf o) refl)
 
-    pub opens-ipsec : (spi owner : ℕ)
+    pub opens-ipsec : (spi owner operator : ℕ)
         → let owned = placeOf ikeSpi owner ike in
-        let pair = getD ike owned noIke .pair in
+        let found = getD ike owned noIke in
         let taken = placeOf ipsecSpi spi ipsec in
-        let c = ipsecOpening (length ipsec) spi owner owned pair taken (placeOf ipsecSpi 0 ipsec) in
-        let r = openIpsec ike ipsec spi owner in
+        let free = placeOf ipsecSpi 0 ipsec in
+        let own = ipsecsOf operator ike ipsec in
+        let c = ipsecOpening (length ipsec) spi owner operator owned found taken free own in
+        let r = openIpsec ike ipsec spi owner operator in
         (c .number ≡ r .number) × (set ipsec (c .place) (c .entry) ≡ r .ipsec)
     unfolding openIpsec ipsecOpening
-    opens-ipsec spi owner = rw long (go (eqb number 0) refl)
+    opens-ipsec spi owner operator =
+        rw (
+          long,
+          own-added (badList (length ipsec) spi) (eqb owner 0) (not (isOperator operator))
+              (isOwn owned found operator) (hasIpsec spi ipsec) limited (hasIpsec 0 ipsec),
+        )
+        (go (eqb number 0) refl)
       where
+        owned : ℕ
+        owned = placeOf ikeSpi owner ike
+
+        found : IkeRecord
+        found = getD ike owned noIke
+
+        limited : Bool
+        limited = leb ipsecShare (ipsecsOf operator ike ipsec)
+
         number : ℕ
         number =
-            addingNumber (badAdding (length ipsec) spi owner) (ltb (placeOf ikeSpi owner ike) ikePlaces)
-            (hasIpsec spi ipsec) (hasIpsec 0 ipsec)
+            addingNumber (badAdding (length ipsec) spi owner operator) (isOwn owned found operator)
+            (hasIpsec spi ipsec) limited (hasIpsec 0 ipsec)
 
         new : IpsecRecord
-        new = newIpsec spi owner (getD ike (placeOf ikeSpi owner ike) noIke .pair)
+        new = newIpsec spi owner (found .pair)
 
         go : (b : Bool) → eqb number 0 ≡ b
             → let r = cond b (ipsecAnswer 0 (set ipsec (placeOf ipsecSpi 0 ipsec) new)) (ipsecAnswer number ipsec) in
@@ -77,39 +115,83 @@ module _ (ike : List IkeRecord) (long : length ike ≡ ikePlaces) where
         go true e = (eqb-true number 0 e, refl)
         go false e = (refl, unstored ipsec (length ipsec) new refl)
 
-    pub closes-ike : (spi : ℕ) → let c = ikeClosing (length ipsec) spi (placeOf ikeSpi spi ike) in
-        let r = closeIke ike ipsec spi in
+    pub closes-ike : (spi operator : ℕ)
+        → let place = placeOf ikeSpi spi ike in
+        let c = ikeClosing (length ipsec) spi operator place (getD ike place noIke) in
+        let r = closeIke ike ipsec spi operator in
         (c .number ≡ r .number) × (set ike (c .place) (c .entry) ≡ r .ike)
         × (cond (eqb (c .number) 0) (map (released spi) ipsec) ipsec ≡ r .ipsec)
     unfolding closeIke ikeClosing
-    closes-ike spi = rw long (go (eqb number 0) refl)
+    closes-ike spi operator =
+        rw (
+          long,
+          own-closed (not (eqb (length ipsec) ipsecPlaces)) (eqb spi 0) (not (isOperator operator))
+              (isOwn place (getD ike place noIke) operator),
+        )
+        (go (eqb number 0) refl)
       where
+        place : ℕ
+        place = placeOf ikeSpi spi ike
+
         number : ℕ
-        number = closingNumber (badList (length ipsec) spi) (ltb (placeOf ikeSpi spi ike) ikePlaces)
+        number =
+            closingNumber (badClosing (length ipsec) spi operator) (isOwn place (getD ike place noIke) operator)
 
         closed : TablesAnswer
-        closed = tablesAnswer 0 (set ike (placeOf ikeSpi spi ike) noIke) (map (released spi) ipsec)
+        closed = tablesAnswer 0 (set ike place noIke) (map (released spi) ipsec)
 
         go : (b : Bool) → eqb number 0 ≡ b
             → let r = cond b closed (tablesAnswer number ike ipsec) in
-            (number ≡ r .number) × (set ike (cond b (placeOf ikeSpi spi ike) ikePlaces) noIke ≡ r .ike)
+            (number ≡ r .number) × (set ike (cond b place ikePlaces) noIke ≡ r .ike)
             × (cond b (map (released spi) ipsec) ipsec ≡ r .ipsec)
         go true e = (eqb-true number 0 e, refl, refl)
         go false e = (refl, unstored ike ikePlaces noIke long, refl)
 
-  pub marks-deletion : (spi : ℕ)
+    pub closes-ipsec : (spi operator : ℕ)
+        → let place = placeOf ipsecSpi spi ipsec in
+        let entry = getD ipsec place noIpsec in
+        let owned = placeOf ikeSpi (entry .owner) ike in
+        let c = ipsecClosing (length ipsec) spi operator place entry owned (getD ike owned noIke) in
+        let r = closeIpsec ike ipsec spi operator in
+        (c .number ≡ r .number) × (set ipsec (c .place) (c .entry) ≡ r .ipsec)
+    unfolding closeIpsec ipsecClosing
+    closes-ipsec spi operator = rw long (go (eqb number 0) refl)
+      where
+        place : ℕ
+        place = placeOf ipsecSpi spi ipsec
+
+        entry : IpsecRecord
+        entry = getD ipsec place noIpsec
+
+        owned : ℕ
+        owned = placeOf ikeSpi (entry .owner) ike
+
+        number : ℕ
+        number =
+            closingNumber (badClosing (length ipsec) spi operator)
+            (isOwnChild entry owned (getD ike owned noIke) operator)
+
+        go : (b : Bool) → eqb number 0 ≡ b
+            → let r = cond b (ipsecAnswer 0 (set ipsec place noIpsec)) (ipsecAnswer number ipsec) in
+            (number ≡ r .number) × (set ipsec (cond b place (length ipsec)) noIpsec ≡ r .ipsec)
+        go true e = (eqb-true number 0 e, refl)
+        go false e = (refl, unstored ipsec (length ipsec) noIpsec refl)
+
+  pub marks-deletion : (spi operator : ℕ)
       → let place = placeOf ikeSpi spi ike in
-      let c = ikeMarking spi place (getD ike place noIke) in
-      let r = markDeletion ike spi in
+      let c = ikeMarking spi operator place (getD ike place noIke) in
+      let r = markDeletion ike spi operator in
       (c .number ≡ r .number) × (set ike (c .place) (c .entry) ≡ r .ike)
   unfolding markDeletion ikeMarking
-  marks-deletion spi = rw long (go (eqb number 0) refl)
+  marks-deletion spi operator =
+      rw (long, own-closed false (eqb spi 0) (not (isOperator operator)) (isOwn place (getD ike place noIke) operator))
+      (go (eqb number 0) refl)
     where
       place : ℕ
       place = placeOf ikeSpi spi ike
 
       number : ℕ
-      number = closingNumber (eqb spi 0) (ltb place ikePlaces)
+      number = closingNumber (badMarking spi operator) (isOwn place (getD ike place noIke) operator)
 
       marked : IkeRecord
       marked = deletionMarked (getD ike place noIke)
@@ -119,19 +201,3 @@ module _ (ike : List IkeRecord) (long : length ike ≡ ikePlaces) where
           (number ≡ r .number) × (set ike (cond b place ikePlaces) marked ≡ r .ike)
       go true e = (eqb-true number 0 e, refl)
       go false e = (refl, unstored ike ikePlaces marked long)
-
-pub closes-ipsec : (ipsec : List IpsecRecord) (spi : ℕ)
-    → let c = ipsecClosing (length ipsec) spi (placeOf ipsecSpi spi ipsec) in
-    let r = closeIpsec ipsec spi in
-    (c .number ≡ r .number) × (set ipsec (c .place) (c .entry) ≡ r .ipsec)
-unfolding closeIpsec ipsecClosing
-closes-ipsec ipsec spi = go (eqb number 0) refl
-  where
-    number : ℕ
-    number = closingNumber (badList (length ipsec) spi) (hasIpsec spi ipsec)
-
-    go : (b : Bool) → eqb number 0 ≡ b
-        → let r = cond b (ipsecAnswer 0 (set ipsec (placeOf ipsecSpi spi ipsec) noIpsec)) (ipsecAnswer number ipsec) in
-        (number ≡ r .number) × (set ipsec (cond b (placeOf ipsecSpi spi ipsec) (length ipsec)) noIpsec ≡ r .ipsec)
-    go true e = (eqb-true number 0 e, refl)
-    go false e = (refl, unstored ipsec (length ipsec) noIpsec refl)

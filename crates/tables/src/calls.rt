@@ -2,9 +2,13 @@
 use address::pair::Pair;
 use address::pair::pair_fits;
 use octets::limits::IKE_PLACES;
+use octets::limits::IKE_SHARE;
 use octets::limits::IPSEC_PLACES;
+use octets::limits::IPSEC_SHARE;
+use octets::limits::OPERATORS;
 use octets::number::Number;
 use octets::number::number_of;
+use octets::operator::not_operator;
 use records::ike::Agreed;
 use records::ike::IkeRecord;
 use records::ike::mark_deletion;
@@ -13,12 +17,13 @@ use records::ike::no_ike;
 use records::ipsec::IpsecRecord;
 use records::ipsec::no_ipsec;
 ghost use mathlib.Core.Path.{_≡_};
-ghost use mathlib.Core.Bool.{cond};
+ghost use mathlib.Core.Bool.{cond, not};
 ghost use lib.Dec.{eqb};
 ghost use Rattle.octets.specs.Numbers.{numberOf};
 ghost use Rattle.tables.specs.Opening.{ikeOf, childOf};
 ghost use Rattle.tables.specs.Calls.{openingFits};
-ghost use Rattle.tables.specs.Changes.{badList, badAdding, addingNumber, closingNumber, bothNumber};
+ghost use Rattle.tables.specs.Changes.{isOwn, badList, badClosing, badAdding, addingNumber, closingNumber};
+ghost use Rattle.tables.specs.Changes.{bothNumber, isOwnChild, badMarking};
 ghost use Rattle.tables.specs.Changes.{bothOpening, ipsecOpening, ikeClosing, ipsecClosing, ikeMarking};
 
 // What is given to open an IKE record and its first IPsec record, whose SPI is `child`.
@@ -54,9 +59,22 @@ pub struct BothChange {
     pub child: IpsecRecord,
 }
 
-// The number of opening another IPsec record: a bad argument, no owner, the SPI in use, no room, or 0.
-pub fn adding_number(bad: bool, owned: bool, taken: bool, room: bool) -> Number
-    ensures { λ r. ⌜ numberOf r ≡ addingNumber bad owned taken room ⌝ }
+// Whether what was found at a place is the operator's.
+pub fn is_own(place: usize, entry: IkeRecord, operator: u8) -> bool
+    ensures { λ r. ⌜ r ≡ isOwn place entry operator ⌝ }
+{
+    let agreed = entry.agreed;
+    if place < IKE_PLACES {
+        agreed.operator == operator
+    } else {
+        false
+    }
+}
+
+// The number of opening another IPsec record: a bad argument, no owner, the SPI in use, the operator at its share, no
+// room, or 0.
+pub fn adding_number(bad: bool, owned: bool, taken: bool, limited: bool, room: bool) -> Number
+    ensures { λ r. ⌜ numberOf r ≡ addingNumber bad owned taken limited room ⌝ }
 {
     if bad {
         return Number::BadArgument;
@@ -64,6 +82,9 @@ pub fn adding_number(bad: bool, owned: bool, taken: bool, room: bool) -> Number
     if owned {
         if taken {
             return Number::SpiInUse;
+        }
+        if limited {
+            return Number::OperatorAtShare;
         }
         if room { Number::Done } else { Number::Full }
     } else {
@@ -99,14 +120,27 @@ pub fn is_bad_list(size: usize, spi: u64) -> bool
     if size == IPSEC_PLACES { spi == 0 } else { true }
 }
 
-// The same, or the owner's SPI is 0.
-pub fn is_bad_adding(size: usize, spi: u64, owner: u64) -> bool
-    ensures { λ r. ⌜ r ≡ badAdding size spi owner ⌝ }
+// The same, or no operator is named.
+pub fn is_bad_closing(size: usize, spi: u64, operator: u8) -> bool
+    ensures { λ r. ⌜ r ≡ badClosing size spi operator ⌝ }
 {
     if is_bad_list(size, spi) {
         return true;
     }
-    owner == 0
+    not_operator(operator)
+}
+
+// The same, or the owner's SPI is 0.
+pub fn is_bad_adding(size: usize, spi: u64, owner: u64, operator: u8) -> bool
+    ensures { λ r. ⌜ r ≡ badAdding size spi owner operator ⌝ }
+{
+    if is_bad_list(size, spi) {
+        return true;
+    }
+    if owner == 0 {
+        return true;
+    }
+    not_operator(operator)
 }
 
 // Whether two records with these SPIs and this pair may be opened beside a list of `size`.
@@ -122,19 +156,27 @@ pub fn opening_fits(size: usize, o: Opening) -> bool
     if o.child == 0 {
         return false;
     }
+    let agreed = o.agreed;
+    if OPERATORS <= agreed.operator as usize {
+        return false;
+    }
     let pair = o.pair;
     pair_fits(pair)
 }
 
-// The number of opening both: of each record, whether its SPI is in use and whether there is room for it.
+// The number of opening both: of each record, whether its SPI is in use, whether the operator is at its share, and
+// whether there is room for it.
 pub fn both_number(
     fits: bool,
     taken: bool,
     child_taken: bool,
+    limited: bool,
+    child_limited: bool,
     room: bool,
     child_room: bool,
 ) -> Number
-    ensures { λ r. ⌜ numberOf r ≡ bothNumber fits taken «child_taken» room «child_room» ⌝ }
+    ensures { λ r. ⌜ numberOf r
+        ≡ bothNumber fits taken «child_taken» limited «child_limited» room «child_room» ⌝ }
 {
     if !fits {
         return Number::BadArgument;
@@ -144,6 +186,12 @@ pub fn both_number(
     }
     if child_taken {
         return Number::SpiInUse;
+    }
+    if limited {
+        return Number::OperatorAtShare;
+    }
+    if child_limited {
+        return Number::OperatorAtShare;
     }
     if !room {
         return Number::Full;
@@ -175,7 +223,8 @@ pub fn child_of(o: Opening) -> IpsecRecord
     }
 }
 
-// Opening both in a list of `size`: of each record, the lowest place with its SPI and the lowest free one.
+// Opening both in a list of `size`: of each record, the lowest place with its SPI and the lowest free one, and how many
+// the operator has.
 pub fn both_opening(
     size: usize,
     o: Opening,
@@ -183,14 +232,18 @@ pub fn both_opening(
     free: usize,
     child_taken: usize,
     child_free: usize,
+    own: usize,
+    child_own: usize,
 ) -> BothChange
-    ensures { λ r. ⌜ r ≡ bothOpening size o taken free «child_taken» «child_free» ⌝ }
+    ensures { λ r. ⌜ r ≡ bothOpening size o taken free «child_taken» «child_free» own «child_own» ⌝ }
 {
     let fits = opening_fits(size, o);
     let number = number_of(both_number(
         fits,
         taken < IKE_PLACES,
         child_taken < size,
+        IKE_SHARE <= own,
+        IPSEC_SHARE <= child_own,
         free < IKE_PLACES,
         child_free < size,
     ));
@@ -203,20 +256,24 @@ pub fn both_opening(
     }
 }
 
-// Opening an IPsec record in a list of `size`, with the pair of its IKE record `of`, whose place is `owned`.
+// Opening an IPsec record in a list of `size`, with the pair of its IKE record `of`, whose place is `owned`; `own` is
+// how many IPsec records the operator has.
 pub fn ipsec_opening(
     size: usize,
     spi: u32,
     owner: u64,
+    operator: u8,
     owned: usize,
     of: IkeRecord,
     taken: usize,
     free: usize,
+    own: usize,
 ) -> IpsecChange
-    ensures { λ r. ⌜ r ≡ ipsecOpening size spi owner owned («of» .pair) taken free ⌝ }
+    ensures { λ r. ⌜ r ≡ ipsecOpening size spi owner operator owned «of» taken free own ⌝ }
 {
-    let bad = is_bad_adding(size, spi as u64, owner);
-    let number = number_of(adding_number(bad, owned < IKE_PLACES, taken < size, free < size));
+    let bad = is_bad_adding(size, spi as u64, owner, operator);
+    let mine = is_own(owned, of, operator);
+    let number = number_of(adding_number(bad, mine, taken < size, IPSEC_SHARE <= own, free < size));
     let pair = of.pair;
     IpsecChange {
         number,
@@ -225,37 +282,71 @@ pub fn ipsec_opening(
     }
 }
 
-// Closing an IKE record, beside an IPsec list of `size`; `place` is the lowest with its SPI.
-pub fn ike_closing(size: usize, spi: u64, place: usize) -> IkeChange
-    ensures { λ r. ⌜ r ≡ ikeClosing size spi place ⌝ }
+// Closing an IKE record, beside an IPsec list of `size`; `place` is the lowest with its SPI, and `entry` the record
+// there.
+pub fn ike_closing(size: usize, spi: u64, operator: u8, place: usize, entry: IkeRecord) -> IkeChange
+    ensures { λ r. ⌜ r ≡ ikeClosing size spi operator place entry ⌝ }
 {
-    let number = number_of(closing_number(is_bad_list(size, spi), place < IKE_PLACES));
-    let entry = no_ike();
+    let bad = is_bad_closing(size, spi, operator);
+    let number = number_of(closing_number(bad, is_own(place, entry, operator)));
     IkeChange {
         number,
         place: place_if(number, place, IKE_PLACES),
-        entry,
+        entry: no_ike(),
     }
 }
 
-// Closing an IPsec record of a list of `size`; `place` is the lowest with its SPI.
-pub fn ipsec_closing(size: usize, spi: u32, place: usize) -> IpsecChange
-    ensures { λ r. ⌜ r ≡ ipsecClosing size spi place ⌝ }
+// Whether an IPsec record is the operator's, by its owner's record `of`, whose place is `owned`.
+pub fn is_own_child(entry: IpsecRecord, owned: usize, of: IkeRecord, operator: u8) -> bool
+    ensures { λ r. ⌜ r ≡ isOwnChild entry owned «of» operator ⌝ }
 {
-    let number = number_of(closing_number(is_bad_list(size, spi as u64), place < size));
-    let entry = no_ipsec();
+    if entry.spi == 0 {
+        return false;
+    }
+    if entry.owner == 0 {
+        return false;
+    }
+    is_own(owned, of, operator)
+}
+
+// Closing an IPsec record of a list of `size`; `place` is the lowest with its SPI, `entry` the record there, `of` its
+// owner's, whose place is `owned`.
+pub fn ipsec_closing(
+    size: usize,
+    spi: u32,
+    operator: u8,
+    place: usize,
+    entry: IpsecRecord,
+    owned: usize,
+    of: IkeRecord,
+) -> IpsecChange
+    ensures { λ r. ⌜ r ≡ ipsecClosing size spi operator place entry owned «of» ⌝ }
+{
+    let bad = is_bad_closing(size, spi as u64, operator);
+    let number = number_of(closing_number(bad, is_own_child(entry, owned, of, operator)));
     IpsecChange {
         number,
         place: place_if(number, place, size),
-        entry,
+        entry: no_ipsec(),
     }
 }
 
-// Marking an IKE record as being deleted; `place` is the lowest with its SPI, and `entry` the record there.
-pub fn ike_marking(spi: u64, place: usize, entry: IkeRecord) -> IkeChange
-    ensures { λ r. ⌜ r ≡ ikeMarking spi place entry ⌝ }
+// Whether an SPI is 0, or no operator is named.
+pub fn is_bad_marking(spi: u64, operator: u8) -> bool
+    ensures { λ r. ⌜ r ≡ badMarking spi operator ⌝ }
 {
-    let number = number_of(closing_number(spi == 0, place < IKE_PLACES));
+    if spi == 0 {
+        return true;
+    }
+    not_operator(operator)
+}
+
+// Marking an IKE record as being deleted; `place` is the lowest with its SPI, and `entry` the record there.
+pub fn ike_marking(spi: u64, operator: u8, place: usize, entry: IkeRecord) -> IkeChange
+    ensures { λ r. ⌜ r ≡ ikeMarking spi operator place entry ⌝ }
+{
+    let bad = is_bad_marking(spi, operator);
+    let number = number_of(closing_number(bad, is_own(place, entry, operator)));
     IkeChange {
         number,
         place: place_if(number, place, IKE_PLACES),

@@ -24,8 +24,8 @@ pub enum Next {
 }
 
 // So many octets decide every entry: a request's, with two NAT values, a body and a cookie of 4,096 octets each, and an
-// ID of ten octets, which is too large.
-pub const ENTRY_SIGHT: usize = 16460;
+// operator of ten octets, which is too large.
+pub const ENTRY_SIGHT: usize = 16465;
 
 // What a refusal within the window says, with so many octets in sight: one for a cut entry may come of the window's
 // end.

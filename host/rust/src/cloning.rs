@@ -1,5 +1,5 @@
 //! Cloning an IKE SA (RFC 7791), so that one client has an IKE SA on each of its networks.
-use crate::layout::{Ask, CloneReply, IkeRecord, Written};
+use crate::layout::{Ask, CloneReply, IkeRecord, Operator, Written};
 use crate::limits::IKE_PLACES;
 use crate::{raw, write, Draft, Number};
 
@@ -20,6 +20,8 @@ pub struct CloneRequest<'a> {
     pub first: u8,
     /// The payloads; those of the key exchange are skipped.
     pub body: &'a [u8],
+    /// Whose the IKE SA is, and the clone.
+    pub operator: Operator,
 }
 
 /// Writes CLONE_IKE_SA_SUPPORTED and nothing else to the start of `out`, as [`write`](crate::write): for the
@@ -46,12 +48,13 @@ pub fn write_clone(out: &mut [u8]) -> Written {
 ///
 /// | Number | Response |
 /// |---|---|
-/// | [`BadArgument`](Number::BadArgument) for an SPI of 0, [`OutputTooShort`](Number::OutputTooShort), [`BodyTooLong`](Number::BodyTooLong), [`NoSuchRecord`](Number::NoSuchRecord), [`CloningNotAgreed`](Number::CloningNotAgreed) | none |
+/// | [`BadArgument`](Number::BadArgument) for an SPI of 0 or an operator that is neither, [`OutputTooShort`](Number::OutputTooShort), [`BodyTooLong`](Number::BodyTooLong), [`NoSuchRecord`](Number::NoSuchRecord), [`CloningNotAgreed`](Number::CloningNotAgreed) | none |
 /// | [malformed](Number::is_malformed), [`UnknownCritical`](Number::UnknownCritical) | the error |
 /// | [`NoCloneRequest`](Number::NoCloneRequest): a plain rekey | none |
 /// | [`CannotCloneNow`](Number::CannotCloneNow) | TEMPORARY_FAILURE |
 /// | [`PeerAtLimit`](Number::PeerAtLimit) | NO_ADDITIONAL_SAS |
-/// | [`SpiInUse`](Number::SpiInUse): the host draws another SPI | none |
+/// | [`SpiInUse`](Number::SpiInUse), by either operator: the host draws another SPI | none |
+/// | [`OperatorAtShare`](Number::OperatorAtShare) | NO_ADDITIONAL_SAS |
 /// | [`Done`](Number::Done) | CLONE_IKE_SA |
 ///
 /// The clone is at the lowest free place, with the new SPI and the original's pair and agreements, and owns
@@ -74,6 +77,7 @@ pub fn clone_ike(
             request.body.len(),
             out.as_mut_ptr(),
             out.len(),
+            request.operator,
         )
     }
 }

@@ -8,7 +8,8 @@
 //! What the host does around the calls stands in [`guide`].
 //!
 //! The tables are lent, and no table is copied. [`Gateway`] owns one set of them, for a host that has
-//! no other place for them.
+//! no other place for them. Two operators may share them: each call names an [`Operator`], and finds the
+//! records of this one alone.
 //!
 //! It links `libunmavreth.a`, which `host/archive` proves and writes to `target/staticlib`; the environment
 //! variable `UNMAVRETH_LIBRARY_DIRECTORY` names another directory. A library whose interface has another
@@ -20,16 +21,16 @@
 //! ```
 //! use unmavreth::limits::{NAT_OCTETS, REQUEST_ROOM, RESPONSE_ROOM};
 //! use unmavreth::{assess, read, write, write_check, Agreed, Ask, CheckResponse, Draft, Effect, Gateway};
-//! use unmavreth::{Number, Opening, Outcome, Pair, Request, Rule};
+//! use unmavreth::{Number, Opening, Operator, Outcome, Pair, Request, Rule};
 //!
-//! // The responder's end: one IKE SA with one IPsec SA, and where peers may move to.
+//! // The responder's end: one IKE SA with one IPsec SA, and where peers of its operator may move to.
 //! let old = Pair::ipv4(([203, 0, 113, 5], 4500), ([192, 0, 2, 1], 4500));
 //! let mut gateway = Gateway::new();
 //! let agreed = Agreed { mobike: true.into(), ..Agreed::NONE };
 //! let opening = Opening { spi: 7, agreed, pair: old, child: 70 };
 //! assert_eq!(gateway.open(&opening), Number::Done);
 //! let rule = Rule::ipv4(([198, 51, 100, 0], 24), ([192, 0, 2, 0], 24));
-//! assert_eq!(gateway.set_policy(&[rule]), Number::Done);
+//! assert_eq!(gateway.set_policy(&[rule], Operator::A), Number::Done);
 //!
 //! // The initiator's end writes an update, with a cookie for the return routability check.
 //! let ask = Ask { update: true, ..Ask::default() };
@@ -51,6 +52,7 @@
 //!     body: written.body(&out),
 //!     cookie: &[9; 16],
 //!     check_id: 0,
+//!     operator: Operator::A,
 //! };
 //! let mut answer = [0; RESPONSE_ROOM];
 //! let reply = gateway.handle(&request, &mut answer);
@@ -71,7 +73,8 @@
 //! let copied = write(&Draft { cookie, ..Draft::default() }, &mut copy);
 //!
 //! // It comes back, and the IPsec record moves.
-//! let response = CheckResponse { spi: 7, id: 0, first: copied.first(), body: copied.body(&copy) };
+//! let (first, body) = (copied.first(), copied.body(&copy));
+//! let response = CheckResponse { spi: 7, id: 0, first, body, operator: Operator::A };
 //! assert_eq!(gateway.check(&response).outcome(), Outcome::Accepted);
 //! assert_eq!((gateway.ike[0].pair, gateway.ipsec[0].pair), (new, new));
 //! ```
@@ -108,7 +111,7 @@ pub use gateway::Gateway;
 pub use initiator::{assess, write, Draft};
 pub use layout::{
     Address, Agreed, Ask, Assessment, CloneReply, Flag, IkeRecord, IpsecRecord, Offsets, Opening,
-    Pair, PendingCheck, Policy, Reading, Reply, Rule, Seen, Tally, Written,
+    Operator, Pair, PendingCheck, Policy, Reading, Reply, Rule, Seen, Tally, Written,
 };
 pub use numbers::{Effect, Number, Outcome};
 pub use policy::{acceptable, set_policy};

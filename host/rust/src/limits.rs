@@ -6,11 +6,17 @@ pub const BODY_MOST: usize = 4096;
 pub const IKE_PLACES: usize = 32;
 /// The places of the list of IPsec records; a list of any other length is a bad argument.
 pub const IPSEC_PLACES: usize = 128;
-/// IKE records of one peer; none of them is cloned once there are as many.
+/// IKE records of one peer of an operator; none of them is cloned once there are as many.
 pub const PEER_RECORDS_MOST: usize = 4;
+/// The operators that share a gateway, and its policies.
+pub const OPERATORS: usize = 2;
+/// IKE records of one operator; it opens and clones none once there are as many.
+pub const IKE_SHARE: usize = 20;
+/// IPsec records of one operator; it opens none once there are as many.
+pub const IPSEC_SHARE: usize = 80;
 /// The additional addresses that are kept, or written.
 pub const ADDRESSES_MOST: usize = 16;
-/// The rules of the policy.
+/// The rules of a policy.
 pub const RULES_MOST: usize = 16;
 /// An address as it travels, of either family.
 pub const ADDRESS_OCTETS: usize = 16;
@@ -59,18 +65,18 @@ pub const REDIRECTS_MOST: usize = 5;
 /// The period, in seconds.
 pub const PERIOD_SECONDS: u64 = 300;
 /// The slots of an entry of a trace: as many as the widest kind has, a policy.
-pub const ENTRY_SLOTS: usize = 1 + RULES_MOST * 5;
+pub const ENTRY_SLOTS: usize = 1 + RULES_MOST * 5 + 1;
 /// The longest string of an entry.
 pub const STRING_MOST: usize = 4096;
 /// The octets of the longest entry, a request with four such strings. A number takes an octet for every
-/// seven bits: 10 for 64, 5 for 32, 3 for 16, 2 for 8 and for a string's length.
+/// seven bits: 10 for 64, 5 for 32, 3 for 16, 2 for 8 and for a string's length, 1 for 1.
 pub const ENTRY_MOST: usize =
-    1 + 10 + 5 + (2 + 2 * ADDRESS_OCTETS + 2 * 3) + 4 * (2 + STRING_MOST) + 2 + 5;
+    1 + 10 + 5 + (2 + 2 * ADDRESS_OCTETS + 2 * 3) + 4 * (2 + STRING_MOST) + 2 + 5 + 1;
 /// Where a record's tally of what is unknown stays.
 pub const TALLY_MOST: u32 = u32::MAX;
 
 const _: () = assert!(REDIRECT_ROOM == 513);
 const _: () = assert!(RESPONSE_ROOM == 128);
 const _: () = assert!(REQUEST_ROOM == 564);
-const _: () = assert!(ENTRY_SLOTS == 81);
-const _: () = assert!(ENTRY_MOST == 16455);
+const _: () = assert!(ENTRY_SLOTS == 82);
+const _: () = assert!(ENTRY_MOST == 16456);

@@ -8,14 +8,15 @@ pub enum Number {
     Done,
     /// 1: a family other than 4 or 6, an IPv4 tail that isn't zero, an SPI of 0, an IPsec list not of
     /// 128 records, a NAT value not of 20 octets, a cookie to send not of 0 or 8 to 64 octets, or one for a
-    /// check not of 8 to 64; a notification of cloning asked for with anything else.
+    /// check not of 8 to 64; an operator that is neither; a notification of cloning asked for with anything
+    /// else.
     BadArgument,
     /// 2: the output is under 128 octets, 564 for the writer, 513 for the data of a redirect, or shorter than
     /// the entry of a trace.
     OutputTooShort,
     /// 3: the body is over 4,096 octets.
     BodyTooLong,
-    /// 4: no such record.
+    /// 4: no such record of the operator that the call names.
     NoSuchRecord,
     /// 5: MOBIKE was not agreed.
     MobikeNotAgreed,
@@ -33,7 +34,7 @@ pub enum Number {
     UnknownCritical,
     /// 8: the addresses were altered on the way.
     AddressesAltered,
-    /// 9: the pair is not acceptable.
+    /// 9: the pair is not acceptable by the operator's policy.
     NotAcceptable,
     /// 10: all places are in use.
     Full,
@@ -66,6 +67,8 @@ pub enum Number {
     CannotCloneNow,
     /// 42: the peer of the IKE SA to clone has four IKE records or more.
     PeerAtLimit,
+    /// 43: the operator has 20 IKE records or more, or 80 IPsec records or more.
+    OperatorAtShare,
     /// 44: the request has no CLONE_IKE_SA.
     NoCloneRequest,
     /// A number that no call gives.
@@ -124,6 +127,7 @@ impl From<u8> for Number {
             40 => Number::CloningNotAgreed,
             41 => Number::CannotCloneNow,
             42 => Number::PeerAtLimit,
+            43 => Number::OperatorAtShare,
             44 => Number::NoCloneRequest,
             other => Number::Other(other),
         }
@@ -162,6 +166,7 @@ impl From<Number> for u8 {
             Number::CloningNotAgreed => 40,
             Number::CannotCloneNow => 41,
             Number::PeerAtLimit => 42,
+            Number::OperatorAtShare => 43,
             Number::NoCloneRequest => 44,
             Number::Other(other) => other,
         }

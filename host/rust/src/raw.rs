@@ -2,10 +2,10 @@
 //! the call; nothing lent for writing may overlap anything else that is lent.
 use crate::layout::{
     AddressList, Ask, Assessment, CloneReply, DataWritten, EntryRead, EntryWritten, GatewayRead,
-    IkeRecord, IpsecRecord, Offsets, Opening, Pair, Part, Policy, Reading, RedirectDecision, Reply,
-    Rule, Written,
+    IkeRecord, IpsecRecord, Offsets, Opening, Operator, Pair, Part, Policy, Reading,
+    RedirectDecision, Reply, Rule, Written,
 };
-use crate::limits::{ENTRY_SLOTS, IKE_PLACES, REDIRECTS_MOST, RULES_MOST};
+use crate::limits::{ENTRY_SLOTS, IKE_PLACES, OPERATORS, REDIRECTS_MOST, RULES_MOST};
 
 /// The number of the interface that this crate was written for, and the library's symbol that ends in it:
 /// every program that has this crate refers to the symbol, so that it does not link with a library of
@@ -23,7 +23,7 @@ macro_rules! interface {
         static LINKED: unsafe extern "C" fn() -> u32 = $named;
     };
 }
-interface!(4, unmavreth_interface_4);
+interface!(5, unmavreth_interface_5);
 
 extern "C" {
     pub(crate) fn unmavreth_interface() -> u32;
@@ -95,6 +95,7 @@ extern "C" {
         records: usize,
         spi: u32,
         owner: u64,
+        operator: Operator,
     ) -> u8;
 
     pub(crate) fn unmavreth_close_ike(
@@ -102,16 +103,28 @@ extern "C" {
         ipsec: *mut IpsecRecord,
         records: usize,
         spi: u64,
+        operator: Operator,
     ) -> u8;
 
-    pub(crate) fn unmavreth_close_ipsec(ipsec: *mut IpsecRecord, records: usize, spi: u32) -> u8;
+    pub(crate) fn unmavreth_close_ipsec(
+        ike: *const [IkeRecord; IKE_PLACES],
+        ipsec: *mut IpsecRecord,
+        records: usize,
+        spi: u32,
+        operator: Operator,
+    ) -> u8;
 
-    pub(crate) fn unmavreth_mark_deletion(ike: *mut [IkeRecord; IKE_PLACES], spi: u64) -> u8;
+    pub(crate) fn unmavreth_mark_deletion(
+        ike: *mut [IkeRecord; IKE_PLACES],
+        spi: u64,
+        operator: Operator,
+    ) -> u8;
 
     pub(crate) fn unmavreth_set_policy(
-        policy: *mut Policy,
+        policies: *mut [Policy; OPERATORS],
         count: u16,
         rules: *const [Rule; RULES_MOST],
+        operator: Operator,
     ) -> u8;
 
     /// A `bool` in C, taken as the octet that it is.
@@ -121,7 +134,7 @@ extern "C" {
         ike: *mut [IkeRecord; IKE_PLACES],
         ipsec: *const IpsecRecord,
         records: usize,
-        policy: *const Policy,
+        policies: *const [Policy; OPERATORS],
         spi: u64,
         id: u32,
         pair: Pair,
@@ -137,6 +150,7 @@ extern "C" {
         body_size: usize,
         out: *mut u8,
         out_size: usize,
+        operator: Operator,
     ) -> Reply;
 
     pub(crate) fn unmavreth_check(
@@ -148,6 +162,7 @@ extern "C" {
         first: u8,
         body: *const u8,
         body_size: usize,
+        operator: Operator,
     ) -> Assessment;
 
     pub(crate) fn unmavreth_clone(
@@ -159,6 +174,7 @@ extern "C" {
         body_size: usize,
         out: *mut u8,
         out_size: usize,
+        operator: Operator,
     ) -> CloneReply;
 
     pub(crate) fn unmavreth_read_entry(trace: *const u8, trace_size: usize, at: usize)

@@ -1,6 +1,6 @@
 //! The responder's end: one INFORMATIONAL request is checked, decided, applied and answered.
-use crate::layout::{IkeRecord, IpsecRecord, Pair, Policy, Reply};
-use crate::limits::IKE_PLACES;
+use crate::layout::{IkeRecord, IpsecRecord, Operator, Pair, Policy, Reply};
+use crate::limits::{IKE_PLACES, OPERATORS};
 use crate::{cookie, raw, Effect, Number};
 
 /// A request as it came: authenticated, decrypted, and within the message window.
@@ -26,6 +26,8 @@ pub struct Request<'a> {
     pub cookie: &'a [u8],
     /// The message ID of that check, which is that of the gateway's next request of this IKE SA.
     pub check_id: u32,
+    /// Whose the IKE SA is; an update is held to this operator's policy.
+    pub operator: Operator,
 }
 
 /// Handles one request of a peer that is the original initiator, on lent tables that are changed in
@@ -47,7 +49,7 @@ pub struct Request<'a> {
 pub fn handle(
     ike: &mut [IkeRecord; IKE_PLACES],
     ipsec: &[IpsecRecord],
-    policy: &Policy,
+    policies: &[Policy; OPERATORS],
     request: &Request<'_>,
     out: &mut [u8],
 ) -> Reply {
@@ -58,7 +60,7 @@ pub fn handle(
             ike,
             ipsec.as_ptr(),
             ipsec.len(),
-            policy,
+            policies,
             request.spi,
             request.id,
             request.pair,
@@ -74,6 +76,7 @@ pub fn handle(
             request.body.len(),
             out.as_mut_ptr(),
             out.len(),
+            request.operator,
         )
     }
 }

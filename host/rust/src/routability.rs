@@ -1,5 +1,5 @@
 //! The return routability check (RFC 4555, 3.7): the gateway's own request, and the response to it.
-use crate::layout::{Assessment, IkeRecord, IpsecRecord, Reply, Written};
+use crate::layout::{Assessment, IkeRecord, IpsecRecord, Operator, Reply, Written};
 use crate::limits::IKE_PLACES;
 use crate::{raw, write, Draft, Effect, Request};
 
@@ -14,6 +14,8 @@ pub struct CheckResponse<'a> {
     pub first: u8,
     /// The payloads.
     pub body: &'a [u8],
+    /// Whose the IKE SA is.
+    pub operator: Operator,
 }
 
 /// Writes the check that the reply to this request asks for, COOKIE2 with the request's
@@ -30,7 +32,7 @@ pub fn write_check(reply: &Reply, request: &Request<'_>, out: &mut [u8]) -> Writ
 /// [`assess`](crate::assess), with the cookie that the IKE record keeps.
 ///
 /// Numbers, in the order of the checks: [`BadArgument`](crate::Number::BadArgument) for a list not of 128
-/// records or an SPI of 0, [`BodyTooLong`](crate::Number::BodyTooLong),
+/// records, an SPI of 0 or an operator that is neither, [`BodyTooLong`](crate::Number::BodyTooLong),
 /// [`NoSuchRecord`](crate::Number::NoSuchRecord), [`MobikeNotAgreed`](crate::Number::MobikeNotAgreed),
 /// [`CheckNotPending`](crate::Number::CheckNotPending), one that [is
 /// malformed](crate::Number::is_malformed) or [`UnknownCritical`](crate::Number::UnknownCritical),
@@ -59,6 +61,7 @@ pub fn check(
             response.first,
             response.body.as_ptr(),
             response.body.len(),
+            response.operator,
         )
     }
 }

@@ -9,14 +9,14 @@ use crate::raw;
 /// ```
 /// #![deny(unused_must_use)]
 /// let mut gateway = unmavreth::Gateway::new();
-/// assert!(!gateway.close_ike(7).is_done());
+/// assert!(!gateway.close_ike(7, unmavreth::Operator::A).is_done());
 /// assert!(gateway.handle(&unmavreth::Request::default(), &mut []).number().ok().is_err());
 /// ```
 ///
 /// ```compile_fail
 /// #![deny(unused_must_use)]
 /// let mut gateway = unmavreth::Gateway::new();
-/// gateway.close_ike(7);
+/// gateway.close_ike(7, unmavreth::Operator::A);
 /// ```
 ///
 /// ```compile_fail
@@ -28,7 +28,7 @@ use crate::raw;
 /// ```compile_fail
 /// #![deny(unused_must_use)]
 /// let mut gateway = unmavreth::Gateway::new();
-/// gateway.close_ike(7).ok();
+/// gateway.close_ike(7, unmavreth::Operator::A).ok();
 /// ```
 #[must_use]
 pub fn interface() -> u32 {

@@ -36,6 +36,7 @@ impl Number {
             Number::CloningNotAgreed => "cloning not agreed",
             Number::CannotCloneNow => "the IKE SA to clone is being deleted, or all places in use",
             Number::PeerAtLimit => "the peer has four IKE records or more",
+            Number::OperatorAtShare => "the operator has its share of the records or more",
             Number::NoCloneRequest => "no CLONE_IKE_SA in the request",
             Number::BadChainLength => "a payload cut short or of a length that cannot be",
             Number::BadNotify => "a Notify of a length or with an SPI that cannot be",

@@ -8,7 +8,7 @@ use unmavreth::{
     Request,
 };
 
-const CLONING: Agreed = Agreed { mobike: Flag::YES, cloning: Flag::YES, peer: 5 };
+const CLONING: Agreed = Agreed { cloning: Flag::YES, peer: 5, ..AGREED };
 
 /// As the shared gateway, with cloning agreed for the first record, whose peer is 5. The other one's is 0.
 fn cloning() -> Gateway {
@@ -41,20 +41,20 @@ fn a_clone_has_the_pair_and_the_agreements() {
     // The marks, the tally and the check of the original are not the clone's, nor are its IPsec records.
     expected.ike[2] = IkeRecord { spi: 9, agreed: CLONING, pair: NEW, ..IkeRecord::FREE };
     assert_eq!(gateway, expected);
-    assert_eq!((gateway.of_peer(5).count(), gateway.owned(9).count()), (2, 0));
+    assert_eq!((gateway.of_peer(5, A).count(), gateway.owned(9).count()), (2, 0));
 }
 
 #[test]
 fn each_moves_by_itself() {
     let mut gateway = cloning();
     assert_eq!(gateway.clone_ike(&clone_request(&came()), &mut [0; 128]).number(), Number::Done);
-    assert_eq!(gateway.open_ipsec(90, 9), Number::Done);
+    assert_eq!(gateway.open_ipsec(90, 9, A), Number::Done);
     let update = chain(&[notify(UPDATE, &[])]);
     let reply = gateway.handle(&Request { spi: 9, ..request(&update) }, &mut [0; 128]);
     assert_eq!(reply.update(), Effect::Applied);
     assert_eq!((gateway.ike[0].pair, gateway.ike[2].pair), (OLD, NEW));
     assert_eq!((gateway.ike[0].update_mark, gateway.ike[2].update_mark), (0, 1));
-    assert_eq!(gateway.close_ike(7), Number::Done);
+    assert_eq!(gateway.close_ike(7, A), Number::Done);
     assert_eq!(gateway.ike[2].spi, 9);
     assert_eq!(gateway.ipsec_record(90).map(|record| record.owner), Some(9));
 }
@@ -76,7 +76,8 @@ fn refusals_in_their_order() {
     gateway.ike[0].deleting = Flag::YES;
     let (rekey, cut, critical) =
         (chain(&[bare(33)]), (41, vec![0, 0, 0]), (200, vec![0, 0x80, 0, 4]));
-    // Each has everything wrong that is checked after it: all places in use, the peer's limit and the SPI too.
+    // Each has everything wrong that is checked after it: all places in use, the peer's limit, the SPI and the
+    // operator's share too.
     for at in 2..32 {
         gateway.ike[at] = IkeRecord { spi: 100 + at as u64, agreed: CLONING, ..gateway.ike[0] };
     }
@@ -97,12 +98,14 @@ fn refusals_in_their_order() {
     refused(&gateway, of(&came), 128, (Number::CannotCloneNow, error(43)));
     gateway.ike[0].deleting = Flag::NO;
     refused(&gateway, of(&came), 128, (Number::CannotCloneNow, error(43)));
-    assert_eq!(gateway.close_ike(131), Number::Done);
+    assert_eq!(gateway.close_ike(131, A), Number::Done);
     refused(&gateway, of(&came), 128, (Number::PeerAtLimit, error(35)));
-    for spi in 102..131 {
-        assert_eq!(gateway.close_ike(spi), Number::Done);
-    }
+    gateway.ike[2..31].iter_mut().for_each(|record| record.agreed.peer = 6);
     refused(&gateway, of(&came), 128, none(Number::SpiInUse));
+    refused(&gateway, clone_request(&came), 128, (Number::OperatorAtShare, error(35)));
+    for spi in 102..131 {
+        assert_eq!(gateway.close_ike(spi, A), Number::Done);
+    }
     assert_eq!(gateway.clone_ike(&clone_request(&came), &mut [0; 128]).number(), Number::Done);
 }
 
@@ -116,7 +119,7 @@ fn payloads_are_counted_once_the_chain_is_read() {
     assert_eq!(counted(&mut gateway, &CloneRequest { spi: 8, ..clone_request(&came) }), 0);
     assert_eq!(counted(&mut gateway, &clone_request(&rekey)), 2);
     assert_eq!(counted(&mut gateway, &CloneRequest { new_spi: 8, ..clone_request(&came) }), 4);
-    assert_eq!(gateway.mark_deletion(7), Number::Done);
+    assert_eq!(gateway.mark_deletion(7, A), Number::Done);
     assert_eq!(counted(&mut gateway, &clone_request(&came)), 4);
 }
 
@@ -134,13 +137,13 @@ fn four_records_of_a_peer() {
         refused(&gateway, fifth, 128, (Number::PeerAtLimit, error(35)));
     }
     // One that is being deleted counts, one that is closed does not; openings have no such limit.
-    assert_eq!(gateway.mark_deletion(11), Number::Done);
+    assert_eq!(gateway.mark_deletion(11, A), Number::Done);
     let fifth = CloneRequest { new_spi: 12, ..clone_request(&came) };
     refused(&gateway, fifth, 128, (Number::PeerAtLimit, error(35)));
     let opening = Opening { spi: 13, agreed: CLONING, child: 130, ..OPENING };
     assert_eq!(gateway.open(&opening), Number::Done);
-    assert_eq!(gateway.close_ike(13), Number::Done);
-    assert_eq!(gateway.close_ike(11), Number::Done);
+    assert_eq!(gateway.close_ike(13, A), Number::Done);
+    assert_eq!(gateway.close_ike(11, A), Number::Done);
     assert_eq!(gateway.clone_ike(&fifth, &mut [0; 128]).number(), Number::Done);
 }
 
@@ -166,11 +169,11 @@ fn peers_are_told_apart() {
 fn marking_the_deletion() {
     let mut gateway = cloning();
     let before = gateway.clone();
-    assert_eq!(gateway.mark_deletion(0), Number::BadArgument);
-    assert_eq!(gateway.mark_deletion(9), Number::NoSuchRecord);
+    assert_eq!(gateway.mark_deletion(0, A), Number::BadArgument);
+    assert_eq!(gateway.mark_deletion(9, A), Number::NoSuchRecord);
     assert_eq!(gateway, before);
     for _ in 0..2 {
-        assert_eq!(gateway.mark_deletion(7), Number::Done);
+        assert_eq!(gateway.mark_deletion(7, A), Number::Done);
         let mut expected = before.clone();
         expected.ike[0].deleting = Flag::YES;
         assert_eq!(gateway, expected);
@@ -180,9 +183,9 @@ fn marking_the_deletion() {
     assert_eq!(gateway.handle(&request(&update), &mut [0; 128]).update(), Effect::Applied);
     let mut mark = *gateway.ike;
     assert!(mark[0].deleting.is_set());
-    assert_eq!(mark_deletion(&mut mark, 8), Number::Done);
+    assert_eq!(mark_deletion(&mut mark, 8, A), Number::Done);
     assert!(mark[1].deleting.is_set());
-    assert_eq!(gateway.close_ike(7), Number::Done);
+    assert_eq!(gateway.close_ike(7, A), Number::Done);
     assert_eq!(gateway.ike[0], IkeRecord::FREE);
 }
 
@@ -216,7 +219,7 @@ fn any_octet_but_0_is_yes() {
         // SAFETY: a flag is an octet, and any is allowed.
         let flag = unsafe { std::mem::transmute::<u8, Flag>(octet) };
         let mut gateway = cloning();
-        gateway.ike[0].agreed = Agreed { mobike: flag, cloning: flag, peer: 5 };
+        gateway.ike[0].agreed = Agreed { mobike: flag, cloning: flag, peer: 5, ..Agreed::NONE };
         let number = if octet != 0 { Number::Done } else { Number::CloningNotAgreed };
         let came = came();
         let told = gateway.clone_ike(&clone_request(&came), &mut [0; 128]);
@@ -265,7 +268,8 @@ fn each_is_written_alone() {
     let written = write_clone(&mut out);
     assert_eq!((written.number(), written.first(), written.length()), (Number::Done, 41, 8));
     assert_eq!(written.body(&out), [0, 0, 0, 8, 0, 0, 0x40, 0x31]);
-    let request = CloneRequest { spi: 7, new_spi: 9, first: 41, body: written.body(&out) };
+    let body = written.body(&out);
+    let request = CloneRequest { spi: 7, new_spi: 9, first: 41, body, operator: A };
     assert_eq!(cloning().clone_ike(&request, &mut [0; 128]).number(), Number::Done);
     let written = write_clone_supported(&mut out);
     assert_eq!((written.number(), written.first(), written.length()), (Number::Done, 41, 8));

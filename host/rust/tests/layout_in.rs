@@ -4,7 +4,8 @@ mod common;
 use common::*;
 use unmavreth::{
     acceptable, addresses, no_nats, write, Address, Agreed, Ask, Draft, Effect, Flag, Gateway,
-    IkeRecord, IpsecRecord, Number, Opening, Outcome, Pair, PendingCheck, Policy, Rule, Seen,
+    IkeRecord, IpsecRecord, Number, Opening, Outcome, Pair, PendingCheck, Policy, Request, Rule,
+    Seen,
 };
 
 /// Octets that are all different.
@@ -111,12 +112,36 @@ fn a_policy_is_kept_as_it_is_set() {
     let rules: [Rule; 16] = std::array::from_fn(|at| {
         Rule::ipv6((octets(at as u8), at as u8), (octets(100 + at as u8), 128 - at as u8))
     });
-    let mut policy = Policy::EMPTY;
-    assert_eq!(unmavreth::set_policy(&mut policy, 16, &rules), Number::Done);
-    assert_eq!(policy, Policy { count: 16, rules });
-    assert_eq!(unmavreth::set_policy(&mut policy, 3, &rules), Number::Done);
-    assert_eq!((policy.count, &policy.rules[..3]), (3, &rules[..3]));
-    assert_eq!(policy.rules[3..], [Rule::NONE; 13]);
+    for (at, operator) in [A, B].into_iter().enumerate() {
+        let mut policies = [Policy { count: 5, rules: [RULE; 16] }; 2];
+        let other = policies[1 - at];
+        assert_eq!(unmavreth::set_policy(&mut policies, 16, &rules, operator), Number::Done);
+        assert_eq!(policies[at], Policy { count: 16, rules });
+        assert_eq!(unmavreth::set_policy(&mut policies, 3, &rules, operator), Number::Done);
+        assert_eq!((policies[at].count, &policies[at].rules[..3]), (3, &rules[..3]));
+        assert_eq!(policies[at].rules[3..], [Rule::NONE; 13]);
+        assert_eq!(policies[1 - at], other);
+    }
+}
+
+#[test]
+fn each_of_two_policies_is_asked() {
+    let came = chain(&[notify(UPDATE, &[])]);
+    for (at, operator) in [A, B].into_iter().enumerate() {
+        let mut gateway = gateway();
+        gateway.ike[0].agreed.operator = operator;
+        gateway.policies = [Policy::EMPTY; 2];
+        for set in [0, 1] {
+            gateway.policies[set].count = 1;
+            gateway.policies[set].rules[0] = RULE;
+            let number = if set == at { Number::Done } else { Number::NotAcceptable };
+            let told = gateway.handle(&Request { operator, ..request(&came) }, &mut [0; 128]);
+            assert_eq!(told.number(), number);
+            assert_eq!(gateway.acceptable(&NEW, operator), set == at);
+            gateway.policies[set].count = 0;
+            gateway.ike[0].update_mark = 0;
+        }
+    }
 }
 
 #[test]
@@ -145,7 +170,7 @@ fn each_field_of_a_record_matters() {
     let told = |change: fn(&mut IkeRecord)| {
         let mut gateway = gateway();
         change(&mut gateway.ike[0]);
-        let reply = gateway.handle(&unmavreth::Request { id: 5, ..request(&both) }, &mut [0; 128]);
+        let reply = gateway.handle(&Request { id: 5, ..request(&both) }, &mut [0; 128]);
         (reply.number(), reply.update(), reply.list(), gateway.ike[0].unknown)
     };
     let (done, applied, stale) = (Number::Done, Effect::Applied, Effect::Stale);
@@ -156,6 +181,8 @@ fn each_field_of_a_record_matters() {
     assert_eq!(told(|record| record.unknown = 0x0102_0304).3, 0x0102_0305);
     assert_eq!(told(|record| record.unknown = u32::MAX).3, u32::MAX);
     assert_eq!(told(|record| record.agreed.mobike = Flag::NO).0, Number::MobikeNotAgreed);
+    assert_eq!(told(|record| record.agreed.operator = B).0, Number::NoSuchRecord);
+    assert_eq!(told(|record| record.agreed.operator = 0x80.into()).0, Number::NoSuchRecord);
     assert_eq!(told(|record| record.spi = 1 << 40).0, Number::NoSuchRecord);
 }
 
@@ -176,6 +203,7 @@ fn each_field_of_an_original_matters() {
     assert_eq!(told(|record| record.agreed.peer ^= 1), (Number::Done, 0x0102_0305));
     assert_eq!(told(|record| record.agreed.peer ^= 1 << 31), (Number::Done, 0x8102_0304));
     assert_eq!(told(|record| record.agreed.cloning = Flag::NO).0, Number::CloningNotAgreed);
+    assert_eq!(told(|record| record.agreed.operator = B).0, Number::NoSuchRecord);
     assert_eq!(told(|record| record.deleting = Flag::YES).0, Number::CannotCloneNow);
     assert_eq!(told(|record| record.spi = 1 << 40).0, Number::NoSuchRecord);
 }
@@ -224,6 +252,7 @@ fn each_field_of_an_opening_is_kept() {
     for agreed in [
         Agreed { mobike: Flag::YES, ..Agreed::NONE },
         Agreed { cloning: Flag::YES, ..Agreed::NONE },
+        Agreed { operator: B, ..Agreed::NONE },
         Agreed { peer: 0x1122_3344, ..Agreed::NONE },
     ] {
         assert_eq!(opened(Opening { agreed, ..opening }), (IkeRecord { agreed, ..ike }, ipsec));

@@ -190,15 +190,21 @@ fn every_field_of_opened_records() {
     let mut expected = gateway.clone();
     let pair = Pair::ipv6(([1; 16], 2), ([3; 16], 4));
     let owner = 0x0102_0304_0506_0708;
-    let agreed = Agreed { mobike: Flag::YES, cloning: Flag::YES, peer: 0x0a0b_0c0d };
-    let opening = Opening { spi: owner, agreed, pair, child: 0x1122_3344 };
-    assert_eq!(gateway.open(&opening), Number::Done);
-    expected.ike[2] = IkeRecord { spi: owner, agreed, pair, ..IkeRecord::FREE };
-    expected.ipsec[2] = IpsecRecord { spi: 0x1122_3344, owner, pair };
-    assert_eq!(gateway, expected);
-    assert_eq!(gateway.open_ipsec(0x5566_7788, owner), Number::Done);
-    expected.ipsec[3] = IpsecRecord { spi: 0x5566_7788, owner, pair };
-    assert_eq!(gateway, expected);
+    for operator in [A, B] {
+        let mobike = Flag::YES;
+        let agreed = Agreed { mobike, cloning: Flag::YES, operator, peer: 0x0a0b_0c0d };
+        let opening = Opening { spi: owner, agreed, pair, child: 0x1122_3344 };
+        assert_eq!(gateway.open(&opening), Number::Done);
+        expected.ike[2] = IkeRecord { spi: owner, agreed, pair, ..IkeRecord::FREE };
+        expected.ipsec[2] = IpsecRecord { spi: 0x1122_3344, owner, pair };
+        assert_eq!(gateway, expected);
+        assert_eq!(gateway.open_ipsec(0x5566_7788, owner, operator), Number::Done);
+        expected.ipsec[3] = IpsecRecord { spi: 0x5566_7788, owner, pair };
+        assert_eq!(gateway, expected);
+        assert_eq!(gateway.close_ike(owner, operator), Number::Done);
+        expected = common::gateway();
+        assert_eq!(gateway, expected);
+    }
 }
 
 /// Each table has its own, and nothing of what stood there stays: an SPI of 0 is all that makes it free.
@@ -208,7 +214,7 @@ fn the_lowest_free_places_are_opened() {
     let mut expected = gateway.clone();
     gateway.ike[0] = IkeRecord {
         spi: 0,
-        agreed: Agreed { mobike: Flag::YES, cloning: Flag::YES, peer: 4 },
+        agreed: Agreed { mobike: Flag::YES, cloning: Flag::YES, operator: B, peer: 4 },
         pair: OLD,
         update_mark: 5,
         list_mark: 6,
@@ -249,20 +255,23 @@ fn every_field_of_an_assessment() {
 #[test]
 fn every_field_of_a_clone_and_its_reply() {
     let mut gateway = gateway();
-    gateway.ike[0].agreed = Agreed { mobike: Flag::YES, cloning: Flag::YES, peer: 0x0a0b_0c0d };
+    let agreed = Agreed { mobike: Flag::YES, cloning: Flag::YES, operator: B, peer: 0x0a0b_0c0d };
+    gateway.ike[0].agreed = agreed;
     let mut expected = gateway.clone();
     let came = chain(&[bare(33), bare(40), notify(CLONE, &[])]);
     let spi = 0x0102_0304_0506_0708;
     let mut out = [9; 128];
-    let reply = gateway.clone_ike(&CloneRequest { new_spi: spi, ..clone_request(&came) }, &mut out);
+    let of_b = CloneRequest { operator: B, ..clone_request(&came) };
+    let reply = gateway.clone_ike(&CloneRequest { new_spi: spi, ..of_b }, &mut out);
     assert_eq!((reply.number(), reply.first(), reply.length()), (Number::Done, 41, 8));
     assert_eq!((reply.payloads(), reply.offset(), reply.ordinal()), (3, 0, 0));
     assert_eq!(reply.response(&out), chain(&[notify(CLONE, &[])]).1);
-    let (agreed, pair) = (expected.ike[0].agreed, expected.ike[0].pair);
+    let pair = expected.ike[0].pair;
     expected.ike[2] = IkeRecord { spi, agreed, pair, ..IkeRecord::FREE };
     assert_eq!(gateway, expected);
     let came = chain(&[bare(33), bare(40), notify(CLONE, &[1])]);
-    let reply = gateway.clone_ike(&clone_request(&came), &mut out);
+    let of_b = CloneRequest { operator: B, ..clone_request(&came) };
+    let reply = gateway.clone_ike(&of_b, &mut out);
     assert_eq!((reply.number(), reply.first(), reply.length()), (Number::BadDataSize, 41, 8));
     assert_eq!((reply.payloads(), reply.offset(), reply.ordinal()), (0, 8, 2));
     assert_eq!(gateway, expected);

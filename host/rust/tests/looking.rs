@@ -1,7 +1,9 @@
-//! Looking at a gateway's records: by their SPI, by their owner, and which of them moved.
+//! Looking at a gateway's records: by their SPI, by their owner, by their operator, and which of them moved.
 mod common;
-use common::{chain, gateway, notify, request, response, CHECK, COOKIE2, NEW, OLD, UPDATE};
-use unmavreth::{interface, Effect, Number, Outcome, INTERFACE};
+use common::*;
+use unmavreth::{
+    interface, Agreed, Effect, IkeRecord, IpsecRecord, Number, Opening, Outcome, INTERFACE,
+};
 
 #[test]
 fn records_by_their_spi() {
@@ -13,9 +15,34 @@ fn records_by_their_spi() {
 }
 
 #[test]
+fn records_by_their_operator() {
+    let mut gateway = gateway();
+    let agreed = Agreed { operator: B, ..AGREED };
+    assert_eq!(gateway.open(&Opening { agreed, ..OPENING }), Number::Done);
+    assert_eq!(gateway.open_ipsec(91, 9, B), Number::Done);
+    let (ike, ipsec): (Vec<_>, Vec<_>) = [A, B, 2.into()]
+        .map(|operator| {
+            let ike: Vec<u64> = gateway.ike_of(operator).map(|record| record.spi).collect();
+            let ipsec: Vec<u32> = gateway.ipsec_of(operator).map(|record| record.spi).collect();
+            (ike, ipsec)
+        })
+        .into_iter()
+        .unzip();
+    assert_eq!(ike, [vec![7, 8], vec![9], vec![]]);
+    assert_eq!(ipsec, [vec![70, 80], vec![90, 91], vec![]]);
+    assert_eq!((gateway.of_peer(0, A).count(), gateway.of_peer(0, B).count()), (2, 1));
+    // Whose an IPsec record is goes by the lowest place with its owner's SPI, and a free place has no operator.
+    gateway.ike[3] = IkeRecord { spi: 7, agreed, ..IkeRecord::FREE };
+    gateway.ike[4] = IkeRecord { agreed, ..IkeRecord::FREE };
+    gateway.ipsec[4] = IpsecRecord { spi: 5, ..IpsecRecord::FREE };
+    assert_eq!((gateway.ike_of(B).count(), gateway.ipsec_of(B).count()), (2, 2));
+    assert_eq!((gateway.ike_of(A).count(), gateway.ipsec_of(A).count()), (2, 2));
+}
+
+#[test]
 fn the_records_that_a_check_moves() {
     let mut gateway = gateway();
-    assert_eq!(gateway.open_ipsec(71, 7), Number::Done);
+    assert_eq!(gateway.open_ipsec(71, 7, A), Number::Done);
     let before = gateway.ipsec.clone();
     assert_eq!(gateway.moved(&before).count(), 0);
     let came = chain(&[notify(UPDATE, &[])]);
@@ -35,7 +62,7 @@ fn the_records_that_a_check_moves() {
 fn a_closed_record_did_not_move() {
     let mut gateway = gateway();
     let before = gateway.ipsec.clone();
-    assert_eq!(gateway.close_ike(7), Number::Done);
+    assert_eq!(gateway.close_ike(7, A), Number::Done);
     assert_eq!(gateway.moved(&before).count(), 0);
 }
 

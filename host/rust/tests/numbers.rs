@@ -1,10 +1,11 @@
 //! Every number of every call, at least once; and a refusal leaves what was lent.
 mod common;
 use common::*;
+use unmavreth::limits::{IPSEC_PLACES, IPSEC_SHARE};
 use unmavreth::{
     assess, check, close_ike, close_ipsec, handle, open, open_ipsec, read, set_policy, write,
-    Address, Agreed, Ask, Draft, Effect, Flag, Gateway, IpsecRecord, Number, Opening, Outcome,
-    Pair, Policy, Request, Rule,
+    Address, Agreed, Ask, Draft, Effect, Flag, Gateway, IpsecRecord, Number, Opening, Operator,
+    Outcome, Pair, Policy, Request, Rule,
 };
 
 /// A pair with a tail after its IPv4 address, one of a family that isn't known, and none.
@@ -19,8 +20,7 @@ fn any_octet_has_a_meaning() {
     for octet in 0..=255 {
         let number = Number::from(octet);
         assert_eq!(u8::from(number), octet);
-        let given =
-            matches!(octet, 0..=5 | 7..=12 | 14 | 20..=22 | 30..=34 | 40..=42 | 44 | 61..=65);
+        let given = matches!(octet, 0..=5 | 7..=12 | 14 | 20..=22 | 30..=34 | 40..=44 | 61..=65);
         assert_eq!(number == Number::Other(octet), !given);
         assert_eq!(number.is_malformed(), (61..=65).contains(&octet));
         assert_eq!(number.is_done(), octet == 0);
@@ -71,21 +71,32 @@ fn each_fault_has_its_number_and_its_ordinal() {
     assert_eq!(faulty(&after), (Number::OctetsAfterEnd, 24, 3));
 }
 
-/// As `gateway`, with every place of the IKE table in use, and of the IPsec list not.
+/// What B opens, at SPI 9 as A would.
+const OF_B: Opening = Opening { agreed: Agreed { operator: B, ..AGREED }, ..OPENING };
+
+/// As `gateway`, with every place of the IKE table in use, and of the IPsec list not: B has its share, and A
+/// the rest.
 fn with_full_table() -> Gateway {
     let mut gateway = gateway();
     for spi in 101..131 {
-        let opening = Opening { spi, child: spi as u32, ..OPENING };
+        let sound = if spi < 111 { OPENING } else { OF_B };
+        let opening = Opening { spi, child: spi as u32, ..sound };
         assert_eq!(gateway.open(&opening), Number::Done);
     }
     gateway
 }
 
-/// With every place of the IPsec list in use, and the IKE table as it was.
+/// With every place of the IPsec list in use: B has its share, of one IKE record more if it had none, and A the
+/// rest.
 fn with_full_list(mut gateway: Gateway) -> Gateway {
-    let free = gateway.ipsec.iter().filter(|record| record.spi == 0).count();
-    for spi in (201..).take(free) {
-        assert_eq!(gateway.open_ipsec(spi, 8), Number::Done);
+    if gateway.ike_of(B).next().is_none() {
+        assert_eq!(gateway.open(&Opening { spi: 130, child: 130, ..OF_B }), Number::Done);
+    }
+    for spi in (301..).take(IPSEC_SHARE - gateway.ipsec_of(B).count()) {
+        assert_eq!(gateway.open_ipsec(spi, 130, B), Number::Done);
+    }
+    for spi in (201..).take(IPSEC_PLACES - IPSEC_SHARE - gateway.ipsec_of(A).count()) {
+        assert_eq!(gateway.open_ipsec(spi, 8, A), Number::Done);
     }
     gateway
 }
@@ -115,12 +126,16 @@ fn opening_both() {
 fn opening_both_without_a_free_place() {
     let mut gateway = with_full_table();
     opens_neither(&gateway, OPENING, Number::Full);
+    opens_neither(&gateway, OF_B, Number::OperatorAtShare);
     opens_neither(&with_full_list(gateway.clone()), OPENING, Number::Full);
-    assert_eq!(gateway.close_ike(101), Number::Done);
+    assert_eq!(gateway.close_ike(101, A), Number::Done);
+    opens_neither(&gateway, OF_B, Number::OperatorAtShare);
     assert_eq!(gateway.open(&OPENING), Number::Done);
     let mut gateway = with_full_list(common::gateway());
     opens_neither(&gateway, OPENING, Number::Full);
-    assert_eq!(gateway.close_ipsec(201), Number::Done);
+    opens_neither(&gateway, OF_B, Number::OperatorAtShare);
+    assert_eq!(gateway.close_ipsec(201, A), Number::Done);
+    opens_neither(&gateway, OF_B, Number::OperatorAtShare);
     assert_eq!(gateway.open(&OPENING), Number::Done);
 }
 
@@ -133,9 +148,13 @@ fn opening_both_checks_in_order() {
         opens_neither(&gateway, Opening { spi: 0, ..in_use }, Number::BadArgument);
         opens_neither(&gateway, Opening { child: 0, ..in_use }, Number::BadArgument);
         opens_neither(&gateway, Opening { pair: Pair::NONE, ..in_use }, Number::BadArgument);
-        opens_neither(&gateway, Opening { spi: 8, ..OPENING }, Number::SpiInUse);
-        opens_neither(&gateway, Opening { child: 80, ..OPENING }, Number::SpiInUse);
-        opens_neither(&gateway, in_use, Number::SpiInUse);
+        let neither = Agreed { operator: Operator::from(2), ..AGREED };
+        opens_neither(&gateway, Opening { agreed: neither, ..in_use }, Number::BadArgument);
+        for sound in [OPENING, OF_B] {
+            opens_neither(&gateway, Opening { spi: 8, ..sound }, Number::SpiInUse);
+            opens_neither(&gateway, Opening { child: 80, ..sound }, Number::SpiInUse);
+            opens_neither(&gateway, Opening { spi: 8, child: 80, ..sound }, Number::SpiInUse);
+        }
     }
 }
 
@@ -164,15 +183,16 @@ fn any_octet_but_0_is_yes() {
 fn a_record_keeps_what_is_agreed() {
     let came = chain(&[notify(UPDATE, &[]), notify(NO_ADDITIONAL, &[])]);
     for octet in [1, 2, 255] {
-        let agreed = Agreed { mobike: flag(octet), cloning: flag(octet), peer: u32::MAX };
+        let (mobike, cloning) = (flag(octet), flag(octet));
+        let agreed = Agreed { mobike, cloning, operator: A, peer: u32::MAX };
         let mut gateway = gateway();
         gateway.ike[0].agreed = agreed;
         let reply = gateway.handle(&request(&came), &mut [0; 128]);
         assert_eq!((reply.number(), reply.update()), (Number::Done, Effect::Applied));
         assert_eq!(gateway.open(&OPENING), Number::Done);
-        assert_eq!(gateway.close_ike(8), Number::Done);
+        assert_eq!(gateway.close_ike(8, A), Number::Done);
         assert_eq!((gateway.ike[0].pair, gateway.ike[0].agreed), (NEW, agreed));
-        assert_eq!(gateway.close_ike(7), Number::Done);
+        assert_eq!(gateway.close_ike(7, A), Number::Done);
         assert_eq!(gateway.ike[0].agreed, Agreed::NONE);
     }
 }
@@ -188,14 +208,15 @@ fn an_spi_is_in_use_in_its_own_table_only() {
 fn opening_a_further_ipsec_record() {
     let mut gateway = gateway();
     let before = gateway.clone();
-    assert_eq!(gateway.open_ipsec(0, 7), Number::BadArgument);
-    assert_eq!(gateway.open_ipsec(1, 0), Number::BadArgument);
-    assert_eq!(gateway.open_ipsec(1, 9), Number::NoSuchRecord);
-    assert_eq!(gateway.open_ipsec(80, 7), Number::SpiInUse);
+    assert_eq!(gateway.open_ipsec(0, 7, A), Number::BadArgument);
+    assert_eq!(gateway.open_ipsec(1, 0, A), Number::BadArgument);
+    assert_eq!(gateway.open_ipsec(1, 9, A), Number::NoSuchRecord);
+    assert_eq!(gateway.open_ipsec(80, 7, A), Number::SpiInUse);
     assert_eq!(gateway, before);
     let mut gateway = with_full_list(common::gateway());
     let before = gateway.clone();
-    assert_eq!(gateway.open_ipsec(1, 7), Number::Full);
+    assert_eq!(gateway.open_ipsec(1, 7, A), Number::Full);
+    assert_eq!(gateway.open_ipsec(1, 130, B), Number::OperatorAtShare);
     assert_eq!(gateway, before);
 }
 
@@ -203,21 +224,21 @@ fn opening_a_further_ipsec_record() {
 fn closing() {
     let mut gateway = gateway();
     let before = gateway.clone();
-    assert_eq!(gateway.close_ike(0), Number::BadArgument);
-    assert_eq!(gateway.close_ike(9), Number::NoSuchRecord);
-    assert_eq!(gateway.close_ipsec(0), Number::BadArgument);
-    assert_eq!(gateway.close_ipsec(9), Number::NoSuchRecord);
+    assert_eq!(gateway.close_ike(0, A), Number::BadArgument);
+    assert_eq!(gateway.close_ike(9, A), Number::NoSuchRecord);
+    assert_eq!(gateway.close_ipsec(0, A), Number::BadArgument);
+    assert_eq!(gateway.close_ipsec(9, A), Number::NoSuchRecord);
     assert_eq!(gateway, before);
-    assert_eq!(gateway.close_ike(7), Number::Done);
+    assert_eq!(gateway.close_ike(7, A), Number::Done);
     assert_eq!((gateway.ike[0], gateway.ike[1]), (Default::default(), before.ike[1]));
     assert_eq!((gateway.ipsec[0], gateway.ipsec[1]), (Default::default(), before.ipsec[1]));
-    assert_eq!(gateway.close_ipsec(80), Number::Done);
+    assert_eq!(gateway.close_ipsec(80, A), Number::Done);
     assert_eq!(gateway.ipsec[..], [IpsecRecord::FREE; 128]);
 }
 
 #[test]
 fn a_list_of_another_length_than_128() {
-    let Gateway { mut ike, ipsec, policy } = gateway();
+    let Gateway { mut ike, ipsec, policies } = gateway();
     let before = ike.clone();
     for length in [0, 127, 129] {
         let mut list: Vec<IpsecRecord> = ipsec.iter().copied().cycle().take(length).collect();
@@ -226,12 +247,12 @@ fn a_list_of_another_length_than_128() {
         for opening in [OPENING, in_use] {
             assert_eq!(open(&mut ike, &mut list, &opening), Number::BadArgument);
         }
-        assert_eq!(open_ipsec(&ike, &mut list, 1, 7), Number::BadArgument);
-        assert_eq!(close_ike(&mut ike, &mut list, 7), Number::BadArgument);
-        assert_eq!(close_ipsec(&mut list, 70), Number::BadArgument);
+        assert_eq!(open_ipsec(&ike, &mut list, 1, 7, A), Number::BadArgument);
+        assert_eq!(close_ike(&mut ike, &mut list, 7, A), Number::BadArgument);
+        assert_eq!(close_ipsec(&ike, &mut list, 70, A), Number::BadArgument);
         let came = chain(&[notify(UPDATE, &[])]);
         let mut out = [9; 128];
-        let reply = handle(&mut ike, &list, &policy, &request(&came), &mut out);
+        let reply = handle(&mut ike, &list, &policies, &request(&came), &mut out);
         assert_eq!((reply.number(), reply.length()), (Number::BadArgument, 0));
         let told = check(&mut ike, &mut list, &response(&came));
         assert_eq!((told.number(), told.outcome()), (Number::BadArgument, Outcome::None));
@@ -241,30 +262,38 @@ fn a_list_of_another_length_than_128() {
 
 #[test]
 fn setting_a_policy() {
-    let mut policy = gateway().policy;
-    let before = policy;
+    let mut policies = gateway().policies;
+    let before = policies;
     let mut rules = [RULE; 16];
-    assert_eq!(set_policy(&mut policy, 17, &rules), Number::BadPolicy);
-    assert_eq!(set_policy(&mut policy, u16::MAX, &rules), Number::BadPolicy);
+    for operator in [A, B, Operator::from(2)] {
+        assert_eq!(set_policy(&mut policies, 17, &rules, operator), Number::BadPolicy);
+        assert_eq!(set_policy(&mut policies, u16::MAX, &rules, operator), Number::BadPolicy);
+    }
     rules[2].source_len = 33;
-    assert_eq!(set_policy(&mut policy, 16, &rules), Number::BadPolicy);
+    for operator in [A, B] {
+        assert_eq!(set_policy(&mut policies, 16, &rules, operator), Number::BadPolicy);
+    }
+    for octet in [2, 255] {
+        let number = set_policy(&mut policies, 16, &rules, Operator::from(octet));
+        assert_eq!(number, Number::BadArgument, "before a prefix that is too long");
+    }
     rules[3].family = 5;
-    assert_eq!(set_policy(&mut policy, 16, &rules), Number::BadArgument);
-    assert_eq!(policy, before);
-    assert_eq!(set_policy(&mut policy, 2, &rules), Number::Done);
-    assert_eq!(set_policy(&mut policy, 0, &rules), Number::Done);
-    assert_eq!(policy, Policy::EMPTY);
+    assert_eq!(set_policy(&mut policies, 16, &rules, A), Number::BadArgument);
+    assert_eq!(policies, before);
+    assert_eq!(set_policy(&mut policies, 2, &rules, A), Number::Done);
+    assert_eq!(set_policy(&mut policies, 0, &rules, A), Number::Done);
+    assert_eq!(policies, [Policy::EMPTY; 2]);
 }
 
 #[test]
 fn setting_a_policy_from_a_list() {
     let mut gateway = gateway();
-    assert_eq!(gateway.set_policy(&[Rule::NONE; 17]), Number::BadPolicy);
-    assert_eq!(gateway.set_policy(&vec![RULE; 65552]), Number::BadPolicy);
-    assert_eq!(gateway.set_policy(&[Rule::NONE]), Number::BadArgument);
-    assert!(gateway.acceptable(&NEW) && !gateway.acceptable(&OLD));
-    assert_eq!(gateway.set_policy(&[]), Number::Done);
-    assert!(!gateway.acceptable(&NEW));
+    assert_eq!(gateway.set_policy(&[Rule::NONE; 17], A), Number::BadPolicy);
+    assert_eq!(gateway.set_policy(&vec![RULE; 65552], A), Number::BadPolicy);
+    assert_eq!(gateway.set_policy(&[Rule::NONE], A), Number::BadArgument);
+    assert!(gateway.acceptable(&NEW, A) && !gateway.acceptable(&OLD, A));
+    assert_eq!(gateway.set_policy(&[], A), Number::Done);
+    assert!(!gateway.acceptable(&NEW, A));
 }
 
 /// What the request comes to, its output of this length, and whether the tables stayed as they were.
@@ -292,6 +321,9 @@ fn requests_refused_1_to_5() {
         bad(Request { cookie: &octets[..length], ..request(&nothing) }); // without an update too
     }
     bad_pairs().into_iter().for_each(|pair| bad(Request { pair, ..sound }));
+    for octet in [2, 3, 128, 255] {
+        bad(Request { operator: octet.into(), ..sound });
+    }
     assert_eq!(refused(sound, 127), (Number::OutputTooShort, true, vec![]));
     assert_eq!(refused(sound, 0), (Number::OutputTooShort, true, vec![]));
     let long = Request { body: &[0; 4097], ..sound };

@@ -2,7 +2,7 @@
 //! through the handler, each response through the judge, and chains of other exchanges read whole.
 //! The file says how it was recorded and what its lines hold.
 mod common;
-use common::{AGREED, CHECK, CHECK_ID, COOKIE2, VALUES};
+use common::{A, AGREED, CHECK, CHECK_ID, COOKIE2, VALUES};
 use unmavreth::{assess, read, Effect, Gateway, Number, Opening, Outcome, Pair, Request, Rule};
 
 const RECORDED: &str = include_str!("recorded/strongswan-5.9.8.txt");
@@ -134,7 +134,7 @@ fn opened(run: &Run) -> Gateway {
     let opening = Opening { spi: SPI, agreed: AGREED, pair, child: 70 };
     assert_eq!(gateway.open(&opening), Number::Done);
     let source = if run.name == "s2" { ([203, 0, 113, 0], 24) } else { ([0; 4], 0) };
-    assert_eq!(gateway.set_policy(&[Rule::ipv4(source, ([0; 4], 0))]), Number::Done);
+    assert_eq!(gateway.set_policy(&[Rule::ipv4(source, ([0; 4], 0))], A), Number::Done);
     gateway
 }
 
@@ -152,6 +152,7 @@ fn replay(run: &Run, gateway: &mut Gateway, exchange: &Exchange) {
         body,
         cookie: &CHECK,
         check_id: CHECK_ID,
+        operator: A,
     };
     let before = gateway.ike[0].pair;
     let mut out = [0; 128];

@@ -20,13 +20,15 @@ fn word(effect: Effect, applied: &'static str) -> &'static str {
 fn made(gateway: &mut Gateway, entry: &Entry) -> String {
     let number = match entry {
         Entry::OpenBoth(opening) => gateway.open(opening),
-        Entry::AddIpsec { spi, owner } => gateway.open_ipsec(*spi, *owner),
-        Entry::CloseIke { spi } => gateway.close_ike(*spi),
-        Entry::CloseIpsec { spi } => gateway.close_ipsec(*spi),
+        Entry::AddIpsec { spi, owner, operator } => gateway.open_ipsec(*spi, *owner, *operator),
+        Entry::CloseIke { spi, operator } => gateway.close_ike(*spi, *operator),
+        Entry::CloseIpsec { spi, operator } => gateway.close_ipsec(*spi, *operator),
         Entry::CheckResponse(response) => gateway.check(response).number(),
         Entry::Clone(request) => gateway.clone_ike(request, &mut [0; RESPONSE_ROOM]).number(),
-        Entry::MarkDeletion { spi } => gateway.mark_deletion(*spi),
-        Entry::Policy(policy) => gateway.set_policy(&policy.rules[..usize::from(policy.count)]),
+        Entry::MarkDeletion { spi, operator } => gateway.mark_deletion(*spi, *operator),
+        Entry::Policy { policy, operator } => {
+            gateway.set_policy(&policy.rules[..usize::from(policy.count)], *operator)
+        }
         Entry::Request(request) => {
             let reply = gateway.handle(request, &mut [0; RESPONSE_ROOM]);
             let (update, list) = (word(reply.update(), "applied"), word(reply.list(), "replaced"));

@@ -13,7 +13,7 @@ const OTHER: Pair = Pair::ipv4(([198, 51, 100, 8], 4500), ([192, 0, 2, 1], 4501)
 /// 71, still have the old one.
 fn moving() -> Gateway {
     let mut gateway = gateway();
-    assert_eq!(gateway.open_ipsec(71, 7), Number::Done);
+    assert_eq!(gateway.open_ipsec(71, 7, A), Number::Done);
     let came = chain(&[notify(UPDATE, &[])]);
     let reply = gateway.handle(&Request { id: 5, ..request(&came) }, &mut [0; 128]);
     assert_eq!((reply.number(), reply.update()), (Number::Done, Effect::Applied));
@@ -86,8 +86,10 @@ fn refusals_in_their_order() {
     let (copied, cut, critical) = (copied(), (41, vec![0, 0, 0]), (200, vec![0, 0x80, 0, 4]));
     let long = CheckResponse { body: &[0; 4097], ..response(&cut) };
     refused(CheckResponse { spi: 0, ..long }, Number::BadArgument);
+    refused(CheckResponse { operator: 2.into(), ..long }, Number::BadArgument);
     refused(CheckResponse { spi: 9, ..long }, Number::BodyTooLong);
     refused(CheckResponse { spi: 9, ..response(&cut) }, Number::NoSuchRecord);
+    refused(CheckResponse { operator: B, ..response(&cut) }, Number::NoSuchRecord);
     refused(CheckResponse { spi: 8, id: 1, ..response(&cut) }, Number::MobikeNotAgreed);
     refused(CheckResponse { id: CHECK_ID + 1, ..response(&cut) }, Number::CheckNotPending);
     refused(CheckResponse { id: CHECK_ID - 1, ..response(&copied) }, Number::CheckNotPending);
@@ -151,7 +153,7 @@ fn what_is_not_applied_leaves_the_check() {
 #[test]
 fn an_ipsec_record_opened_meanwhile_has_the_new_pair() {
     let mut gateway = moving();
-    assert_eq!(gateway.open_ipsec(72, 7), Number::Done);
+    assert_eq!(gateway.open_ipsec(72, 7, A), Number::Done);
     assert_eq!(gateway.ipsec_record(72).map(|record| record.pair), Some(NEW));
 }
 
@@ -195,9 +197,10 @@ fn only_the_record_that_is_meant() {
     let mut gateway = moving();
     gateway.ike[1].agreed = AGREED;
     gateway.ike[1].check = gateway.ike[0].check;
-    assert_eq!(gateway.set_policy(&[Rule::ipv4(([0; 4], 0), ([0; 4], 0))]), Number::Done);
+    assert_eq!(gateway.set_policy(&[Rule::ipv4(([0; 4], 0), ([0; 4], 0))], A), Number::Done);
     let (first, body) = copied();
-    let told = gateway.check(&CheckResponse { spi: 8, id: CHECK_ID, first, body: &body });
+    let (id, body) = (CHECK_ID, &body);
+    let told = gateway.check(&CheckResponse { spi: 8, id, first, body, operator: A });
     assert_eq!(told.outcome(), Outcome::Accepted);
     assert_eq!((gateway.ipsec[0].pair, gateway.ipsec[1].pair), (OLD, OLD));
     assert!(gateway.ike[0].check.is_pending() && !gateway.ike[1].check.is_pending());

@@ -2,7 +2,7 @@
 use unmavreth::limits::*;
 use unmavreth::redirect::{self, Exchange};
 use unmavreth::trace::Kind;
-use unmavreth::{Number, CLONE_IKE_SA, CLONE_IKE_SA_SUPPORTED};
+use unmavreth::{Number, Operator, CLONE_IKE_SA, CLONE_IKE_SA_SUPPORTED};
 
 const HEADER: &str = include_str!("../../include/unmavreth.h");
 const LIMITS: &str = include_str!("../../../crates/octets/src/limits.rt");
@@ -30,6 +30,9 @@ fn limits() {
         ("IKE_PLACES", IKE_PLACES),
         ("IPSEC_PLACES", IPSEC_PLACES),
         ("PEER_RECORDS_MOST", PEER_RECORDS_MOST),
+        ("OPERATORS", OPERATORS),
+        ("IKE_SHARE", IKE_SHARE),
+        ("IPSEC_SHARE", IPSEC_SHARE),
         ("ADDRESSES_MOST", ADDRESSES_MOST),
         ("RULES_MOST", RULES_MOST),
         ("ADDRESS_OCTETS", ADDRESS_OCTETS),
@@ -77,7 +80,7 @@ fn in_capitals(name: &str) -> String {
 
 #[test]
 fn numbers() {
-    let refusals = [14, 20, 21, 22, 30, 31, 32, 33, 34, 40, 41, 42, 44, 61, 62, 63, 64, 65];
+    let refusals = [14, 20, 21, 22, 30, 31, 32, 33, 34, 40, 41, 42, 43, 44, 61, 62, 63, 64, 65];
     for octet in (0..=5).chain(7..=12).chain(refusals) {
         let name = format!("{:?}", Number::from(octet));
         let (words, whose) =
@@ -85,6 +88,18 @@ fn numbers() {
         assert!(says(words, &format!("{whose}::{name} => {octet}")), "{name} in the library");
         let word = in_capitals(&name);
         assert!(says(HEADER, &format!("UNMAVRETH{word} = {octet}")), "{name} in the header");
+    }
+}
+
+#[test]
+fn operators() {
+    for (name, operator) in [("A", Operator::A), ("B", Operator::B)] {
+        let octet = u8::from(operator);
+        assert!(says(HEADER, &format!("UNMAVRETH_OPERATOR_{name} = {octet}")), "{name}");
+        assert_eq!(
+            (Operator::from(octet), Operator::ALL[usize::from(octet)]),
+            (operator, operator)
+        );
     }
 }
 

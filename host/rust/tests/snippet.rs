@@ -1,6 +1,6 @@
 //! README's snippet runs: a record is opened, an update is handled and answered, and its check decided.
 mod common;
-use common::{chain, notify, COOKIE, COOKIE2, RULE, UPDATE};
+use common::{chain, notify, B, COOKIE, COOKIE2, RULE, UPDATE};
 use std::net::SocketAddr;
 
 include!("../../snippets/update.rs");
@@ -11,6 +11,7 @@ struct IkeSa {
     child_spi: u32,
     mobike: bool,
     cloning: bool,
+    operator: Operator,
     client: u32,
     next_id: u32,
     peer: SocketAddr,
@@ -61,12 +62,13 @@ fn an_update_is_handled_and_answered() {
     let (peer, own) = (socket("203.0.113.5:4500"), socket("192.0.2.1:4500"));
     let (sent, asked) = (vec![], vec![]);
     let (own_spi, child_spi, mobike, next_id, closed) = (7, 70, true, 30, false);
-    let (cloning, client) = (true, 5);
+    let (cloning, operator, client) = (true, B, 5);
     let mut sa = IkeSa {
         own_spi,
         child_spi,
         mobike,
         cloning,
+        operator,
         client,
         next_id,
         peer,
@@ -89,7 +91,7 @@ fn an_update_is_handled_and_answered() {
     assert_eq!(sa.sent.pop(), Some((4, refused.0, refused.1)));
     assert!(sa.asked.is_empty());
 
-    assert_eq!(gateway.set_policy(&[RULE]).ok(), Ok(()));
+    assert_eq!(gateway.set_policy(&[RULE], operator).ok(), Ok(()));
     came.id = 5;
     assert_eq!(mobike_request(&mut gateway, &mut sa, &came), Ok(()));
     let done = chain(&[notify(COOKIE2, &COOKIE)]);
@@ -110,7 +112,7 @@ fn an_update_is_handled_and_answered() {
     let mut other = sa.asked.pop().expect("another check");
     other.payloads[8] ^= 1;
     assert_eq!(mobike_checked(&mut gateway, &mut sa, &other), Ok(()));
-    assert!(sa.closed && gateway == Gateway { policy: gateway.policy, ..Gateway::new() });
+    assert!(sa.closed && gateway == Gateway { policies: gateway.policies, ..Gateway::new() });
 
     sa.own_spi = 8;
     assert_eq!(mobike_request(&mut gateway, &mut sa, &came), Err(Number::NoSuchRecord));

@@ -70,7 +70,7 @@ mod tests {
         }
         let counts = [
             ("reader", listed::<reader::Case>(), 5_000),
-            ("tables", listed::<tables::Case>(), 9_000),
+            ("tables", listed::<tables::Case>(), 13_000),
             ("requests", listed::<requests::Case>(), 20_000),
             ("clones", listed::<clones::Case>(), 14_000),
             ("writer", listed::<Arguments>(), 7_000),

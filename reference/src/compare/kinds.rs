@@ -3,12 +3,14 @@ use crate::assess;
 use crate::checks;
 use crate::clones;
 use crate::entries;
+use crate::isolation;
 use crate::orders;
 use crate::reader;
 use crate::redirects;
 use crate::report::Detail;
 use crate::requests;
 use crate::round_trips;
+use crate::shares;
 use crate::tables;
 use crate::traces;
 use crate::writer;
@@ -16,11 +18,13 @@ use reference::cases::assess::AssessCases;
 use reference::cases::checks::ChecksCases;
 use reference::cases::clones::ClonesCases;
 use reference::cases::entries::EntriesCases;
+use reference::cases::isolation::IsolationCases;
 use reference::cases::orders::OrdersCases;
 use reference::cases::reader::ReaderCases;
 use reference::cases::redirects::RedirectsCases;
 use reference::cases::requests::RequestsCases;
 use reference::cases::round_trips::RoundTripsCases;
+use reference::cases::shares::SharesCases;
 use reference::cases::tables::TablesCases;
 use reference::cases::traces::TracesCases;
 use reference::cases::writer::WriterCases;
@@ -55,10 +59,12 @@ const OF_CALLS: [Kind; 23] = [
     Kind::Redirects,
 ];
 
-/// The turns of all kinds. A trace has one, since a program is started for each, which is enough for a run of the gate
-/// to come to the end of those that are listed.
+/// The turns of all kinds, in two halves. A trace has one in each, since a program is started for each, which is enough
+/// for a run of the gate to come to the end of those that are listed. Whole runs of two operators have one in either,
+/// since they are long.
 pub fn turns() -> Vec<Kind> {
-    [&OF_CALLS[..], &[Kind::Traces]].concat()
+    let half = |of_runs: Kind| [&OF_CALLS[..], &[Kind::Traces, of_runs]].concat();
+    [half(Kind::Isolation), half(Kind::Shares)].concat()
 }
 
 pub fn named(name: &str) -> Option<Kind> {
@@ -88,6 +94,8 @@ pub struct Cases {
     checks: ChecksCases,
     clones: ClonesCases,
     orders: OrdersCases,
+    isolation: IsolationCases,
+    shares: SharesCases,
     assess: AssessCases,
     writer: WriterCases,
     round_trips: RoundTripsCases,
@@ -105,6 +113,8 @@ impl Cases {
             checks: ChecksCases::new(seed),
             clones: ClonesCases::new(seed),
             orders: OrdersCases::new(seed),
+            isolation: IsolationCases::new(seed),
+            shares: SharesCases::new(seed),
             assess: AssessCases::new(seed),
             writer: WriterCases::new(seed),
             round_trips: RoundTripsCases::new(seed),
@@ -138,6 +148,8 @@ impl Cases {
             Kind::Checks => checks::run(self.checks.case(number), rules, detail),
             Kind::Clones => clones::run(self.clones.case(number), rules, detail),
             Kind::Orders => orders::run(self.orders.case(number), rules, detail),
+            Kind::Isolation => isolation::run(self.isolation.case(number), rules, detail),
+            Kind::Shares => shares::run(self.shares.case(number), rules, detail),
             Kind::Assess => assess::run(self.assess.case(number), rules, detail),
             Kind::Writer => writer::run(self.writer.case(number), rules, detail),
             Kind::RoundTrips => round_trips::run(self.round_trips.case(number), rules, detail),

@@ -66,7 +66,7 @@ impl<'a> Step<'a> {
 }
 
 /// What the library makes of a call; also whether what is around that lent to it is kept.
-fn made<'a>(asked: &'a Asked, tables: &mut Tables) -> (Given<'a>, bool) {
+pub fn made<'a>(asked: &'a Asked, tables: &mut Tables) -> (Given<'a>, bool) {
     match asked {
         Asked::Request(request) => {
             let (handled, kept_around) = ours::requests::handle(request, tables);

@@ -4,7 +4,7 @@ use super::Row;
 use crate::address::AddressPair;
 use crate::assess::{Assessed, Verdict};
 use crate::calls::Refusal;
-use crate::check::Check::{self, Agreed, Body, Chain, List, Pending, Record, Spi};
+use crate::check::Check::{self, Agreed, Body, Chain, List, Operator, Pending, Record, Spi};
 use crate::check::{CheckResponse, Step};
 use crate::kind::Kind;
 use crate::outcome::Place;
@@ -18,25 +18,25 @@ pub const FAULTS: &[Row<dyn CheckRules>] = &[
         Kind::Checks,
         "response-body-last",
         "A response checks 3 after 4, 5 and 14.",
-        &Order(&[Spi, List, Record, Agreed, Pending, Body, Chain]),
+        &Order(&[Spi, List, Operator, Record, Agreed, Pending, Body, Chain]),
     ),
     (
         Kind::Checks,
         "response-agreement-last",
         "A response checks 5 after 14.",
-        &Order(&[Spi, List, Body, Record, Pending, Agreed, Chain]),
+        &Order(&[Spi, List, Operator, Body, Record, Pending, Agreed, Chain]),
     ),
     (
         Kind::Checks,
         "response-chain-first",
         "A response checks 61 to 65 and 7 before 14.",
-        &Order(&[Spi, List, Body, Record, Agreed, Chain, Pending]),
+        &Order(&[Spi, List, Operator, Body, Record, Agreed, Chain, Pending]),
     ),
     (
         Kind::Checks,
         "response-list-last",
         "A response checks the IPsec list's length after all else.",
-        &Order(&[Spi, Body, Record, Agreed, Pending, Chain, List]),
+        &Order(&[Spi, Operator, Body, Record, Agreed, Pending, Chain, List]),
     ),
     (
         Kind::Checks,

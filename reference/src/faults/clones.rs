@@ -3,7 +3,8 @@ use super::chain::notifies_in;
 use super::Row;
 use crate::calls::Refusal;
 use crate::cloning::Check::{
-    self, Agreed, Asked, Body, Chain, Deleting, Full, InUse, NewSpi, Output, Peer, Record, Spi,
+    self, Agreed, Asked, Body, Chain, Deleting, Full, InUse, NewSpi, Operator, Output, Peer,
+    Record, Share, Spi,
 };
 use crate::cloning::{Answer, CloneReply, CloneRequest};
 use crate::flaws::Flaw;
@@ -20,7 +21,8 @@ pub const FAULTS: &[Row<dyn CloneRules>] = &[
         "clone-in-use-first",
         "A clone checks 11 before 41 and 42.",
         &Order(&[
-            Spi, NewSpi, Output, Body, Record, Agreed, Chain, Asked, InUse, Deleting, Full, Peer,
+            Spi, NewSpi, Operator, Output, Body, Record, Agreed, Chain, Asked, InUse, Deleting,
+            Full, Peer, Share,
         ]),
     ),
     (
@@ -28,7 +30,8 @@ pub const FAULTS: &[Row<dyn CloneRules>] = &[
         "clone-peer-first",
         "A clone checks 42 before 41.",
         &Order(&[
-            Spi, NewSpi, Output, Body, Record, Agreed, Chain, Asked, Peer, Deleting, Full, InUse,
+            Spi, NewSpi, Operator, Output, Body, Record, Agreed, Chain, Asked, Peer, Deleting,
+            Full, InUse, Share,
         ]),
     ),
     (
@@ -36,7 +39,8 @@ pub const FAULTS: &[Row<dyn CloneRules>] = &[
         "clone-full-after-peer",
         "A clone checks 41 of a full table after 42.",
         &Order(&[
-            Spi, NewSpi, Output, Body, Record, Agreed, Chain, Asked, Deleting, Peer, Full, InUse,
+            Spi, NewSpi, Operator, Output, Body, Record, Agreed, Chain, Asked, Deleting, Peer,
+            Full, InUse, Share,
         ]),
     ),
     (
@@ -44,7 +48,53 @@ pub const FAULTS: &[Row<dyn CloneRules>] = &[
         "clone-agreement-after-chain",
         "A clone checks 40 after the chain was read.",
         &Order(&[
-            Spi, NewSpi, Output, Body, Record, Chain, Agreed, Asked, Deleting, Full, Peer, InUse,
+            Spi, NewSpi, Operator, Output, Body, Record, Chain, Agreed, Asked, Deleting, Full,
+            Peer, InUse, Share,
+        ]),
+    ),
+    (
+        Kind::Clones,
+        "clone-without-share",
+        "A clone doesn't ask for the share.",
+        &Order(&[
+            Spi, NewSpi, Operator, Output, Body, Record, Agreed, Chain, Asked, Deleting, Full,
+            Peer, InUse,
+        ]),
+    ),
+    (
+        Kind::Clones,
+        "clone-share-before-in-use",
+        "A clone checks 43 before 11.",
+        &Order(&[
+            Spi, NewSpi, Operator, Output, Body, Record, Agreed, Chain, Asked, Deleting, Full,
+            Peer, Share, InUse,
+        ]),
+    ),
+    (
+        Kind::Clones,
+        "clone-share-before-peer",
+        "A clone checks 43 before 42.",
+        &Order(&[
+            Spi, NewSpi, Operator, Output, Body, Record, Agreed, Chain, Asked, Deleting, Full,
+            Share, Peer, InUse,
+        ]),
+    ),
+    (
+        Kind::Clones,
+        "clone-share-before-full",
+        "A clone checks 43 before 41 of a full table.",
+        &Order(&[
+            Spi, NewSpi, Operator, Output, Body, Record, Agreed, Chain, Asked, Deleting, Share,
+            Full, Peer, InUse,
+        ]),
+    ),
+    (
+        Kind::Clones,
+        "clone-operator-with-4",
+        "A clone for an operator that there isn't is checked after 2 and 3.",
+        &Order(&[
+            Spi, NewSpi, Output, Body, Operator, Record, Agreed, Chain, Asked, Deleting, Full,
+            Peer, InUse, Share,
         ]),
     ),
     (Kind::Clones, "clone-room-8", "An output of 8 octets is enough for a clone.", &LeastOutput(8)),
@@ -99,14 +149,26 @@ pub const FAULTS: &[Row<dyn CloneRules>] = &[
         Kind::Clones,
         "clone-free-counted",
         "Free places that still have the peer's number are counted.",
-        &OfPeer(|records, meant, place| records[place].agreed.peer == records[meant].agreed.peer),
+        &OfPeer(|records, meant, place| {
+            let of = |place: usize| (records[place].agreed.peer, records[place].agreed.operator);
+            of(place) == of(meant)
+        }),
+    ),
+    (
+        Kind::Clones,
+        "clone-peer-of-both",
+        "A peer's records of both operators count to its limit.",
+        &OfPeer(|records, meant, place| {
+            records[place].is_in_use() && records[place].agreed.peer == records[meant].agreed.peer
+        }),
     ),
     (
         Kind::Clones,
         "clone-peer-16-bits",
         "Peers are compared by their low 16 bits.",
         &OfPeer(|records, meant, place| {
-            let low = |place: usize| records[place].agreed.peer as u16;
+            let low =
+                |place: usize| (records[place].agreed.peer as u16, records[place].agreed.operator);
             records[place].is_in_use() && low(place) == low(meant)
         }),
     ),
@@ -114,7 +176,18 @@ pub const FAULTS: &[Row<dyn CloneRules>] = &[
         Kind::Clones,
         "clone-own-spi",
         "The new SPI may be the original's.",
-        &Used(|meant, new_spi, spi| meant != Some(new_spi) && new_spi == spi),
+        &Used(|meant, new_spi, in_use| {
+            meant.map(|it| it.spi) != Some(new_spi) && new_spi == in_use.spi
+        }),
+    ),
+    (
+        Kind::Clones,
+        "clone-in-use-own-only",
+        "11 looks at the operator's own records only.",
+        &Used(|meant, new_spi, in_use| {
+            let operator = meant.map(|it| it.agreed.operator);
+            operator == Some(in_use.agreed.operator) && new_spi == in_use.spi
+        }),
     ),
     (
         Kind::Clones,
@@ -171,6 +244,18 @@ pub const FAULTS: &[Row<dyn CloneRules>] = &[
         "clone-mobike-lost",
         "A clone has no MOBIKE agreed.",
         &NewRecord(|new, _, _| new.agreed.mobike = 0),
+    ),
+    (
+        Kind::Clones,
+        "clone-operator-lost",
+        "A clone is A's, whosever the original is.",
+        &NewRecord(|new, _, _| new.agreed.operator = 0),
+    ),
+    (
+        Kind::Clones,
+        "clone-operator-left",
+        "A clone is the operator's that was left in its place.",
+        &NewRecord(|new, left, _| new.agreed.operator = left.agreed.operator),
     ),
     (
         Kind::Clones,
@@ -247,6 +332,26 @@ pub const FAULTS: &[Row<dyn CloneRules>] = &[
     ),
     (
         Kind::Clones,
+        "clone-43-temporary",
+        "With 43 TEMPORARY_FAILURE is written.",
+        &Response(|response, answer| {
+            if answer == &Answer::Refused(Refusal::OperatorAtShare) {
+                *response = Some((NotifyType::TEMPORARY_FAILURE, vec![]));
+            }
+        }),
+    ),
+    (
+        Kind::Clones,
+        "clone-43-silent",
+        "With 43 nothing is written.",
+        &Response(|response, answer| {
+            if answer == &Answer::Refused(Refusal::OperatorAtShare) {
+                *response = None;
+            }
+        }),
+    ),
+    (
+        Kind::Clones,
         "clone-11-written",
         "With 11 NO_ADDITIONAL_SAS is written.",
         &Response(|response, answer| {
@@ -270,6 +375,12 @@ pub const FAULTS: &[Row<dyn CloneRules>] = &[
         "clone-44-uncounted",
         "With 44 no payloads are counted.",
         &Uncounted(&[Refusal::NoCloneRequest]),
+    ),
+    (
+        Kind::Clones,
+        "clone-43-uncounted",
+        "With 43 no payloads are counted.",
+        &Uncounted(&[Refusal::OperatorAtShare]),
     ),
     (Kind::Clones, "clone-no-ordinal", "With 61 to 65 and 7 the ordinal is 0.", &NoOrdinal),
     (Kind::Clones, "clone-rest-cleared", "The octets past the response are cleared.", &RestCleared),
@@ -336,10 +447,10 @@ impl CloneRules for OfPeer {
     }
 }
 
-struct Used(fn(Option<u64>, u64, u64) -> bool);
+struct Used(fn(Option<&IkeRecord>, u64, &IkeRecord) -> bool);
 impl CloneRules for Used {
-    fn is_in_use(&self, meant: Option<u64>, new_spi: u64, spi_in_use: u64) -> bool {
-        self.0(meant, new_spi, spi_in_use)
+    fn is_in_use(&self, meant: Option<&IkeRecord>, new_spi: u64, in_use: &IkeRecord) -> bool {
+        self.0(meant, new_spi, in_use)
     }
 }
 

@@ -10,6 +10,7 @@
 mod chain;
 mod checks;
 mod clones;
+mod operators;
 mod orders;
 mod parts;
 mod policy;
@@ -24,9 +25,9 @@ mod writer;
 
 use crate::kind::Kind;
 use crate::rules::{
-    ChainRules, CheckRules, CloneRules, OrderRules, PartRules, Plain, PolicyRules, RedirectRules,
-    ReplayRules, RequestRules, ResponseRules, RoundTripRules, Rules, TableRules, TraceRules,
-    WriterRules,
+    ChainRules, CheckRules, CloneRules, OperatorRules, OrderRules, PartRules, Plain, PolicyRules,
+    RedirectRules, ReplayRules, RequestRules, ResponseRules, RoundTripRules, Rules, TableRules,
+    TraceRules, WriterRules,
 };
 
 /// A row of a part's table: the kind of cases that must find the fault, its name, what is wrong, and the wrong rules.
@@ -70,6 +71,7 @@ fn of_every_part() -> Vec<Fault> {
     faults.extend(of_part(checks::FAULTS, |checks| Faulty { checks, ..sound }));
     faults.extend(of_part(clones::FAULTS, |clones| Faulty { clones, ..sound }));
     faults.extend(of_part(orders::FAULTS, |orders| Faulty { orders, ..sound }));
+    faults.extend(of_part(operators::FAULTS, |operators| Faulty { operators, ..sound }));
     faults.extend(of_part(responses::FAULTS, |responses| Faulty { responses, ..sound }));
     faults.extend(of_part(writer::FAULTS, |writer| Faulty { writer, ..sound }));
     faults.extend(of_part(round_trips::FAULTS, |round_trips| Faulty { round_trips, ..sound }));
@@ -101,6 +103,7 @@ pub struct Faulty {
     checks: &'static dyn CheckRules,
     clones: &'static dyn CloneRules,
     orders: &'static dyn OrderRules,
+    operators: &'static dyn OperatorRules,
     responses: &'static dyn ResponseRules,
     writer: &'static dyn WriterRules,
     round_trips: &'static dyn RoundTripRules,
@@ -120,6 +123,7 @@ impl Faulty {
         checks: &Plain,
         clones: &Plain,
         orders: &Plain,
+        operators: &Plain,
         responses: &Plain,
         writer: &Plain,
         round_trips: &Plain,
@@ -138,6 +142,7 @@ impl Rules for Faulty {
     type Checks = dyn CheckRules;
     type Clones = dyn CloneRules;
     type Orders = dyn OrderRules;
+    type Operators = dyn OperatorRules;
     type Responses = dyn ResponseRules;
     type Writer = dyn WriterRules;
     type RoundTrips = dyn RoundTripRules;
@@ -175,6 +180,10 @@ impl Rules for Faulty {
 
     fn orders(&self) -> &Self::Orders {
         self.orders
+    }
+
+    fn operators(&self) -> &Self::Operators {
+        self.operators
     }
 
     fn responses(&self) -> &Self::Responses {

@@ -5,6 +5,7 @@ use crate::asked::Asked;
 use crate::kind::Kind;
 use crate::request::Request;
 use crate::rules::OrderRules;
+use crate::tables::IkeRecord;
 
 pub const FAULTS: &[Row<dyn OrderRules>] = &[
     (
@@ -36,6 +37,18 @@ pub const FAULTS: &[Row<dyn OrderRules>] = &[
         "responses-anywhere",
         "Check responses may stand anywhere among the requests that give their SPI.",
         &ResponsesAnywhere,
+    ),
+    (
+        Kind::Orders,
+        "sequence-by-operator",
+        "Only the calls that name its record's operator are an IKE SA's.",
+        &SequenceByOperator,
+    ),
+    (
+        Kind::Orders,
+        "other-operator-sound",
+        "A request may be sound though it names another operator than its record.",
+        &OtherOperatorSound,
     ),
     (
         Kind::Orders,
@@ -75,6 +88,20 @@ struct ResponsesAnywhere;
 impl OrderRules for ResponsesAnywhere {
     fn counts(&self, asked: &Asked) -> bool {
         asked.request().is_some()
+    }
+}
+
+struct SequenceByOperator;
+impl OrderRules for SequenceByOperator {
+    fn gives(&self, asked: &Asked, record: &IkeRecord) -> bool {
+        asked.spi() == record.spi && asked.operator() == record.agreed.operator
+    }
+}
+
+struct OtherOperatorSound;
+impl OrderRules for OtherOperatorSound {
+    fn judged_for(&self, _request: &Request, record: &IkeRecord) -> u8 {
+        record.agreed.operator
     }
 }
 

@@ -3,6 +3,7 @@ use super::Row;
 use crate::address::{octet_count, AddressOctets, AddressPair};
 use crate::calls::Refusal;
 use crate::kind::Kind;
+use crate::operator::{other, Named, OPERATORS};
 use crate::policy::{Policy, Rule, RuleList, RULE_PLACES};
 use crate::rules::{Plain, PolicyRules};
 
@@ -50,6 +51,48 @@ pub const FAULTS: &[Row<dyn PolicyRules>] = &[
         "asked-count-cut",
         "Asking whether a pair is acceptable sets a policy count over 16 to 16.",
         &AskedCountCut,
+    ),
+    (
+        Kind::Requests,
+        "policy-of-other",
+        "An update is judged by the other operator's policy.",
+        &Judging(|policies, operator| policies.get(usize::from(other(operator)))),
+    ),
+    (
+        Kind::Requests,
+        "policy-of-a",
+        "Every update is judged by A's policy.",
+        &Judging(|policies, _| policies.first()),
+    ),
+    (
+        Kind::Tables,
+        "policy-set-for-both",
+        "Setting a policy sets that of both operators.",
+        &Replaced(|_, _| true),
+    ),
+    (
+        Kind::Tables,
+        "policy-set-for-other",
+        "Setting a policy sets the other operator's.",
+        &Replaced(|whose, named| whose != named),
+    ),
+    (
+        Kind::Tables,
+        "policy-operator-first",
+        "Setting a policy checks the operator before the count.",
+        &OperatorFirst,
+    ),
+    (
+        Kind::Tables,
+        "policy-operator-last",
+        "Setting a policy checks the operator after the lengths.",
+        &OperatorLast,
+    ),
+    (
+        Kind::Tables,
+        "policy-operator-unchecked",
+        "Setting a policy for an operator that there isn't gives 0 and sets none.",
+        &OperatorUnchecked,
     ),
     (Kind::Tables, "junk-checked", "Rules past the count are checked.", &JunkChecked),
     (Kind::Tables, "count-last", "Setting a policy checks the count after the rules.", &CountLast),
@@ -148,6 +191,43 @@ impl PolicyRules for AskedCountCut {
     }
 }
 
+struct Judging(fn(&[Policy; OPERATORS], u8) -> Option<&Policy>);
+impl PolicyRules for Judging {
+    fn judging<'a>(&self, policies: &'a [Policy; OPERATORS], operator: u8) -> Option<&'a Policy> {
+        self.0(policies, operator)
+    }
+}
+
+struct Replaced(fn(u8, u8) -> bool);
+impl PolicyRules for Replaced {
+    fn is_replaced(&self, whose: u8, named: u8) -> bool {
+        self.0(whose, named)
+    }
+}
+
+struct OperatorFirst;
+impl PolicyRules for OperatorFirst {
+    fn check(&self, count: usize, list: &RuleList, operator: Named) -> Result<(), Refusal> {
+        self.check_operator(operator)?;
+        Plain.check(count, list, operator)
+    }
+}
+
+struct OperatorLast;
+impl PolicyRules for OperatorLast {
+    fn check(&self, count: usize, list: &RuleList, operator: Named) -> Result<(), Refusal> {
+        Plain.check(count, list, Some(0))?;
+        self.check_operator(operator)
+    }
+}
+
+struct OperatorUnchecked;
+impl PolicyRules for OperatorUnchecked {
+    fn check_operator(&self, _operator: Named) -> Result<(), Refusal> {
+        Ok(())
+    }
+}
+
 struct JunkChecked;
 impl PolicyRules for JunkChecked {
     fn looked_at<'a>(&self, _count: usize, list: &'a RuleList) -> &'a [Rule] {
@@ -157,7 +237,8 @@ impl PolicyRules for JunkChecked {
 
 struct CountLast;
 impl PolicyRules for CountLast {
-    fn check(&self, count: usize, list: &RuleList) -> Result<(), Refusal> {
+    fn check(&self, count: usize, list: &RuleList, operator: Named) -> Result<(), Refusal> {
+        self.check_operator(operator)?;
         self.check_arguments(self.looked_at(count, list))?;
         self.check_lengths(self.looked_at(count, list))?;
         self.check_count(count)
@@ -166,8 +247,9 @@ impl PolicyRules for CountLast {
 
 struct RuleByRule;
 impl PolicyRules for RuleByRule {
-    fn check(&self, count: usize, list: &RuleList) -> Result<(), Refusal> {
+    fn check(&self, count: usize, list: &RuleList, operator: Named) -> Result<(), Refusal> {
         self.check_count(count)?;
+        self.check_operator(operator)?;
         self.looked_at(count, list).chunks(1).try_for_each(|rule| {
             self.check_arguments(rule)?;
             self.check_lengths(rule)

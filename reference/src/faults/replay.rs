@@ -17,7 +17,7 @@ pub const FAULTS: &[Row<dyn ReplayRules>] = &[
     (
         Kind::Traces,
         "window-ends",
-        "The octets from one multiple of 16,455 to the next are taken for all that there are.",
+        "The octets from one multiple of 16,456 to the next are taken for all that there are.",
         &WindowEnds,
     ),
     (
@@ -39,6 +39,12 @@ pub const FAULTS: &[Row<dyn ReplayRules>] = &[
         "mark-left-out",
         "The call that marks a record as being deleted isn't made.",
         &LeftOut(8),
+    ),
+    (
+        Kind::Traces,
+        "replayed-for-a",
+        "Every call is made for A, whichever operator its entry names.",
+        &ReplayedForA,
     ),
     (Kind::Traces, "lent-127", "Requests are lent 127 octets of output.", &Lent127),
     (
@@ -144,6 +150,13 @@ impl ReplayRules for WindowEnds {
     fn window<'a>(&self, trace: &'a [u8], _pieces: &Pieces, offset: usize) -> &'a [u8] {
         let end = (offset / LONGEST + 1) * LONGEST;
         &trace[..end.min(trace.len())]
+    }
+}
+
+struct ReplayedForA;
+impl ReplayRules for ReplayedForA {
+    fn operator(&self, _named: u64) -> u8 {
+        0
     }
 }
 

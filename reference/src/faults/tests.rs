@@ -5,22 +5,26 @@ use crate::cases::assess::{self, AssessCases};
 use crate::cases::checks::{self, ChecksCases};
 use crate::cases::clones::{self, ClonesCases};
 use crate::cases::entries::EntriesCases;
+use crate::cases::isolation::IsolationCases;
 use crate::cases::orders::{self, OrdersCases};
 use crate::cases::reader::ReaderCases;
 use crate::cases::redirects::RedirectsCases;
 use crate::cases::requests::{self, RequestsCases};
 use crate::cases::round_trips::RoundTripsCases;
+use crate::cases::shares::SharesCases;
 use crate::cases::tables::TablesCases;
 use crate::cases::traces::TracesCases;
 use crate::cases::writer::WriterCases;
 use crate::check::decide;
 use crate::cloning::clone;
 use crate::handler::handle;
+use crate::isolation;
 use crate::orders::broken;
 use crate::outcome::Outcome;
 use crate::reader::read;
 use crate::redirect::program;
 use crate::round_trips::Model;
+use crate::shares;
 use crate::trace::codec;
 use crate::writer::write;
 use std::collections::BTreeSet;
@@ -33,6 +37,8 @@ struct Cases {
     checks: ChecksCases,
     clones: ClonesCases,
     orders: OrdersCases,
+    isolation: IsolationCases,
+    shares: SharesCases,
     assess: AssessCases,
     writer: WriterCases,
     round_trips: RoundTripsCases,
@@ -50,6 +56,8 @@ impl Cases {
             checks: ChecksCases::new(1),
             clones: ClonesCases::new(1),
             orders: OrdersCases::new(1),
+            isolation: IsolationCases::new(1),
+            shares: SharesCases::new(1),
             assess: AssessCases::new(1),
             writer: WriterCases::new(1),
             round_trips: RoundTripsCases::new(1),
@@ -73,6 +81,8 @@ impl Cases {
             Kind::Checks => self.checks_differ(number, one, other),
             Kind::Clones => self.clones_differ(number, one, other),
             Kind::Orders => self.broken(number, one) != self.broken(number, other),
+            Kind::Isolation => self.noticed(number, one) != self.noticed(number, other),
+            Kind::Shares => self.overstepped(number, one) != self.overstepped(number, other),
             Kind::Assess => {
                 let assess::Case { sent, first, body } = self.assess.case(number);
                 assess(&sent, first, &body, one) != assess(&sent, first, &body, other)
@@ -137,6 +147,18 @@ impl Cases {
         let orders::Case { tables, list, chance } = self.orders.case(number);
         broken(&tables, &list, &chance, rules, |asked, tables| asked.make(tables, &Plain))
     }
+
+    /// The same of what one operator may notice of the other.
+    fn noticed(&self, number: u64, rules: &Faulty) -> Vec<String> {
+        let case = self.isolation.case(number);
+        isolation::broken(case.runs(), case.operator, rules, |call, on| call.make(on, &Plain))
+    }
+
+    /// The same of what each operator may have.
+    fn overstepped(&self, number: u64, rules: &Faulty) -> Vec<String> {
+        let calls = self.shares.case(number).calls;
+        shares::broken(&calls, rules, |call, tables| call.make(tables, &Plain))
+    }
 }
 
 /// So many cases of a kind are looked through.
@@ -145,6 +167,7 @@ const CASES: u64 = 20_000;
 /// A run of the gate has at least so many cases of the kind.
 fn cases_of_gate(kind: Kind) -> u64 {
     match kind {
+        Kind::Isolation | Kind::Shares => 4_000,
         Kind::Orders | Kind::Redirects | Kind::Traces => 8_000,
         Kind::Requests | Kind::Assess | Kind::RoundTrips => 24_000,
         _ => 16_000,
@@ -185,6 +208,9 @@ fn no_two_faults_of_a_kind_are_the_same() {
     for kind in Kind::ALL {
         let mut groups = vec![Fault::of_kind(kind).collect::<Vec<_>>()];
         for number in 0..CASES {
+            if groups.is_empty() {
+                break;
+            }
             groups = groups.into_iter().flat_map(|group| split(&cases, number, group)).collect();
         }
         let names = |group: &Vec<Fault>| group.iter().map(|fault| fault.name).collect::<Vec<_>>();
@@ -204,7 +230,7 @@ fn names_are_there_once_and_lines_too() {
 }
 
 /// The rules and the faults of each part, as they are written.
-const PARTS: [[&str; 2]; 14] = [
+const PARTS: [[&str; 2]; 15] = [
     [include_str!("../rules/chain.rs"), include_str!("chain.rs")],
     [include_str!("../rules/parts.rs"), include_str!("parts.rs")],
     [include_str!("../rules/tables.rs"), include_str!("tables.rs")],
@@ -213,6 +239,7 @@ const PARTS: [[&str; 2]; 14] = [
     [include_str!("../rules/checks.rs"), include_str!("checks.rs")],
     [include_str!("../rules/clones.rs"), include_str!("clones.rs")],
     [include_str!("../rules/orders.rs"), include_str!("orders.rs")],
+    [include_str!("../rules/operators.rs"), include_str!("operators.rs")],
     [include_str!("../rules/responses.rs"), include_str!("responses.rs")],
     [include_str!("../rules/writer.rs"), include_str!("writer.rs")],
     [include_str!("../rules/round_trips.rs"), include_str!("round_trips.rs")],

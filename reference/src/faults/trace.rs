@@ -4,7 +4,7 @@ use crate::kind::Kind;
 use crate::rules::{Plain, TraceRules};
 use crate::trace::entry::Entry;
 use crate::trace::fields::{Field, Part, MOST_RULES};
-use crate::trace::slots::{count, Slots};
+use crate::trace::slots::{unused, Slots};
 use crate::trace::Refusal;
 
 pub const FAULTS: &[Row<dyn TraceRules>] = &[
@@ -153,6 +153,37 @@ pub const FAULTS: &[Row<dyn TraceRules>] = &[
         "An opening doesn't say whether cloning is agreed.",
         &LeftOut(Part::Cloning),
     ),
+    (
+        Kind::Traces,
+        "operator-left-out",
+        "No entry names an operator, as before there were two.",
+        &LeftOut(Part::Operator),
+    ),
+    (
+        Kind::Entries,
+        "written-without-operator",
+        "An entry is written without its operator.",
+        &LeftOut(Part::Operator),
+    ),
+    (
+        Kind::Traces,
+        "operator-before-cloning",
+        "An opening names its operator before whether cloning is agreed.",
+        &Exchanged(0, &[Part::Operator, Part::Cloning]),
+    ),
+    (
+        Kind::Traces,
+        "operator-before-rules",
+        "A policy names its operator before its rules.",
+        &Exchanged(5, &[Part::Operator, Part::Rules]),
+    ),
+    (
+        Kind::Traces,
+        "operator-octet",
+        "An operator has eight bits, so that the call refuses what has no room.",
+        &Most(Field::Operator, 255),
+    ),
+    (Kind::Traces, "operator-cut", "Of an operator the lowest bit is read.", &Cut(Field::Operator)),
     (Kind::Traces, "peer-cut", "A peer past 32 bits is cut to them.", &Cut(Field::Peer)),
     (
         Kind::Traces,
@@ -542,8 +573,8 @@ impl TraceRules for ReadSlotBehind {
     fn slots(&self, entry: &Entry, start: usize) -> Slots {
         let mut slots = Plain.slots(entry, start);
         let items = if let Entry::Policy { count, .. } = entry { *count as usize } else { 0 };
-        if let Some(behind) = slots.get_mut(count(entry.kind() as u8, items)) {
-            *behind = 1;
+        if let Some(behind) = unused(entry.kind() as u8, items).next() {
+            slots[behind] = 1;
         }
         slots
     }

@@ -9,8 +9,8 @@ use crate::tables::IkeRecord;
 pub trait CheckRules {
     /// "a response checks 1, 3, 4, 5, 14 .., 6, 7".
     fn order(&self) -> &'static [Check] {
-        use Check::{Agreed, Body, Chain, List, Pending, Record, Spi};
-        &[Spi, List, Body, Record, Agreed, Pending, Chain]
+        use Check::{Agreed, Body, Chain, List, Operator, Pending, Record, Spi};
+        &[Spi, List, Operator, Body, Record, Agreed, Pending, Chain]
     }
 
     /// "a cookie of 8 to 64 octets .. a kept cookie of another length reads as no check": the cookie that a check has.

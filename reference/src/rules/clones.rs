@@ -1,4 +1,4 @@
-// The rules of a request to clone an IKE SA: request E8 of document 02, with RFC 7791.
+// The rules of a request to clone an IKE SA: requests E8 and E9 of document 02, with RFC 7791.
 use crate::calls::Refusal;
 use crate::cloning::{Answer, Check, CloneReply, CloneRequest};
 use crate::flaws::{Cause, Flaw};
@@ -10,12 +10,16 @@ use crate::tables::{IkeRecord, Record, IKE_PLACES};
 
 pub trait CloneRules {
     /// "Refusals, in order: 1, 2, 3, 4, 40 support not agreed, 6, 7, 44 no CLONE_IKE_SA there, 41 being deleted or
-    /// table full .., 42 .., 11". There is no 5.
+    /// table full .., 42 .., 11". There is no 5. E9: "clones count", and 43 comes "after every 11".
     fn order(&self) -> &'static [Check] {
         use Check::{
-            Agreed, Asked, Body, Chain, Deleting, Full, InUse, NewSpi, Output, Peer, Record, Spi,
+            Agreed, Asked, Body, Chain, Deleting, Full, InUse, NewSpi, Operator, Output, Peer,
+            Record, Share, Spi,
         };
-        &[Spi, NewSpi, Output, Body, Record, Agreed, Chain, Asked, Deleting, Full, Peer, InUse]
+        &[
+            Spi, NewSpi, Operator, Output, Body, Record, Agreed, Chain, Asked, Deleting, Full,
+            Peer, InUse, Share,
+        ]
     }
 
     /// Document 01: 2 is "output under 128 octets", whatever is written.
@@ -49,19 +53,23 @@ pub trait CloneRules {
     }
 
     /// The same: whether the record at this place is one that the peer of the one at `meant` has. The original is one,
-    /// and so is one that is being deleted; "A place is free when its SPI is 0", and then no record.
+    /// and so is one that is being deleted; "A place is free when its SPI is 0", and then no record. E9: "peer limits
+    /// are per operator".
     fn is_of_peer(&self, records: &[IkeRecord; IKE_PLACES], meant: usize, place: usize) -> bool {
-        let record = &records[place];
-        record.is_in_use() && record.agreed.peer == records[meant].agreed.peer
+        let (record, meant) = (&records[place].agreed, &records[meant].agreed);
+        let is_in_use = records[place].is_in_use();
+        is_in_use && record.peer == meant.peer && record.operator == meant.operator
     }
 
-    /// Document 01: 11 is "SPI in use in that table", here of "a new SPI": of the original's too.
-    fn is_in_use(&self, _meant: Option<u64>, new_spi: u64, spi_in_use: u64) -> bool {
-        new_spi == spi_in_use
+    /// Document 01: 11 is "SPI in use in that table", here of "a new SPI": of the original's too, and of the other
+    /// operator's records.
+    fn is_in_use(&self, _meant: Option<&IkeRecord>, new_spi: u64, in_use: &IkeRecord) -> bool {
+        new_spi == in_use.spi
     }
 
     /// "The clone has a new SPI, the same pair, peer and agreements, no marks, an empty list, tally 0, no pending
-    /// check", whatever was left in its place. Its agreements are the original's as they stand, octet for octet.
+    /// check", whatever was left in its place. Its agreements are the original's as they stand, octet for octet, and so
+    /// is its operator.
     fn new_record(&self, _left: &IkeRecord, original: &IkeRecord, new_spi: u64) -> IkeRecord {
         let IkeRecord { agreed, pair, .. } = *original;
         IkeRecord { spi: new_spi, agreed, pair, ..IkeRecord::FREE }
@@ -78,8 +86,8 @@ pub trait CloneRules {
     }
 
     /// "Done writes CLONE_IKE_SA"; "41 .. (TEMPORARY_FAILURE, 43), 42 .. (NO_ADDITIONAL_SAS, 35)", "40 and 44 write
-    /// nothing"; document 01: 6 is INVALID_SYNTAX (7), 7 is UNSUPPORTED_CRITICAL_PAYLOAD (1), "data: its type", and of
-    /// other numbers the response is "none".
+    /// nothing"; E9: with 43 "cloning then writes NO_ADDITIONAL_SAS"; document 01: 6 is INVALID_SYNTAX (7), 7 is
+    /// UNSUPPORTED_CRITICAL_PAYLOAD (1), "data: its type", and of other numbers the response is "none".
     fn response(&self, answer: &Answer) -> Option<Notification> {
         match answer {
             Answer::Done => Some((NotifyType::CLONE_IKE_SA, vec![])),
@@ -90,7 +98,9 @@ pub trait CloneRules {
             Answer::Refused(Refusal::CannotCloneNow) => {
                 Some((NotifyType::TEMPORARY_FAILURE, vec![]))
             }
-            Answer::Refused(Refusal::PeerAtLimit) => Some((NotifyType::NO_ADDITIONAL_SAS, vec![])),
+            Answer::Refused(Refusal::PeerAtLimit | Refusal::OperatorAtShare) => {
+                Some((NotifyType::NO_ADDITIONAL_SAS, vec![]))
+            }
             Answer::Refused(_) => None,
         }
     }
@@ -98,10 +108,11 @@ pub trait CloneRules {
     /// Document 01: the count of payloads "is 0 with answers 1 to 7". No paper decides it of the others; with 40, for
     /// which nothing is read, 0, and with those that come behind the reading the chain's, by decision.
     fn payloads(&self, answer: &Answer, read: usize) -> usize {
-        use Refusal::{CannotCloneNow, NoCloneRequest, PeerAtLimit, SpiInUse};
+        use Refusal::{CannotCloneNow, NoCloneRequest, OperatorAtShare, PeerAtLimit, SpiInUse};
         match answer {
             Answer::Done => read,
-            Answer::Refused(NoCloneRequest | CannotCloneNow | PeerAtLimit | SpiInUse) => read,
+            Answer::Refused(NoCloneRequest | CannotCloneNow | PeerAtLimit) => read,
+            Answer::Refused(SpiInUse | OperatorAtShare) => read,
             Answer::Refused(_) | Answer::Flawed(_) => 0,
         }
     }

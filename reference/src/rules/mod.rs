@@ -3,6 +3,7 @@
 mod chain;
 mod checks;
 mod clones;
+mod operators;
 mod orders;
 mod parts;
 mod policy;
@@ -18,6 +19,7 @@ mod writer;
 pub use chain::ChainRules;
 pub use checks::CheckRules;
 pub use clones::CloneRules;
+pub use operators::OperatorRules;
 pub use orders::OrderRules;
 pub use parts::PartRules;
 pub use policy::PolicyRules;
@@ -40,6 +42,7 @@ pub trait Rules {
     type Checks: CheckRules + ?Sized;
     type Clones: CloneRules + ?Sized;
     type Orders: OrderRules + ?Sized;
+    type Operators: OperatorRules + ?Sized;
     type Responses: ResponseRules + ?Sized;
     type Writer: WriterRules + ?Sized;
     type RoundTrips: RoundTripRules + ?Sized;
@@ -55,6 +58,7 @@ pub trait Rules {
     fn checks(&self) -> &Self::Checks;
     fn clones(&self) -> &Self::Clones;
     fn orders(&self) -> &Self::Orders;
+    fn operators(&self) -> &Self::Operators;
     fn responses(&self) -> &Self::Responses;
     fn writer(&self) -> &Self::Writer;
     fn round_trips(&self) -> &Self::RoundTrips;
@@ -75,6 +79,7 @@ impl RequestRules for Plain {}
 impl CheckRules for Plain {}
 impl CloneRules for Plain {}
 impl OrderRules for Plain {}
+impl OperatorRules for Plain {}
 impl ResponseRules for Plain {}
 impl WriterRules for Plain {}
 impl RoundTripRules for Plain {}
@@ -91,6 +96,7 @@ impl Rules for Plain {
     type Checks = Plain;
     type Clones = Plain;
     type Orders = Plain;
+    type Operators = Plain;
     type Responses = Plain;
     type Writer = Plain;
     type RoundTrips = Plain;
@@ -127,6 +133,10 @@ impl Rules for Plain {
     }
 
     fn orders(&self) -> &Plain {
+        self
+    }
+
+    fn operators(&self) -> &Plain {
         self
     }
 

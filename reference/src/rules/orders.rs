@@ -1,12 +1,26 @@
-// The rules of demand 3: document 00, with document 01, "One request, step by step", and request E6 of document 02.
+// The rules of demand 3: document 00, with document 01, "One request, step by step", and requests E6 and E9 of document
+// 02.
 use crate::asked::Asked;
 use crate::request::Request;
 use crate::steps::mark;
+use crate::tables::IkeRecord;
 
 pub trait OrderRules {
     /// "which keeps each IKE SA's own requests in sequence".
     fn keeps_sequence(&self, _spi: u64) -> bool {
         true
+    }
+
+    /// Document 01: "an IKE SA's requests are all those that give its SPI", whichever operator they name: of the one
+    /// whose record is this.
+    fn gives(&self, asked: &Asked, record: &IkeRecord) -> bool {
+        asked.spi() == record.spi
+    }
+
+    /// Document 01: "A request is sound if checks 1 to 7 pass"; E9: another operator's record gives 4, so that such a
+    /// request is none. The operator for which it is judged.
+    fn judged_for(&self, request: &Request, _record: &IkeRecord) -> u8 {
+        request.operator
     }
 
     /// E6: "the list also holds check responses, refused ones included, each counted as one of the requests that give

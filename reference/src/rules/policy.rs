@@ -1,6 +1,8 @@
-// The rules of the address policy: document 01, "Tables", and "The numbers given back" for how it is set.
+// The rules of the address policies: document 01, "Tables", and "The numbers given back" for how one is set; request
+// E9 of document 02 for whose it is.
 use crate::address::{are_sound, octet_count, AddressOctets, AddressPair};
 use crate::calls::{refuse_if, Refusal};
+use crate::operator::{Named, OPERATORS};
 use crate::policy::{Policy, Rule, RuleList, RULE_PLACES};
 
 pub trait PolicyRules {
@@ -44,14 +46,25 @@ pub trait PolicyRules {
         self.accepts(policy, pair)
     }
 
+    /// E9: "Policies .. are per operator": the one that an update of this operator's records is judged by.
+    fn judging<'a>(&self, policies: &'a [Policy; OPERATORS], operator: u8) -> Option<&'a Policy> {
+        policies.get(usize::from(operator))
+    }
+
+    /// The same: whether a setting for this operator replaces that one's.
+    fn is_replaced(&self, whose: u8, named: u8) -> bool {
+        whose == named
+    }
+
     /// "Places past a list's count .. aren't looked at".
     fn looked_at<'a>(&self, count: usize, list: &'a RuleList) -> &'a [Rule] {
         &list.rules[..count.min(RULE_PLACES)]
     }
 
-    /// "Setting a policy checks the count (12), then 1, then the lengths (12)."
-    fn check(&self, count: usize, list: &RuleList) -> Result<(), Refusal> {
+    /// "Setting a policy checks the count (12), then 1, then the lengths (12)." An operator that there isn't is 1.
+    fn check(&self, count: usize, list: &RuleList, operator: Named) -> Result<(), Refusal> {
         self.check_count(count)?;
+        self.check_operator(operator)?;
         self.check_arguments(self.looked_at(count, list))?;
         self.check_lengths(self.looked_at(count, list))
     }
@@ -59,6 +72,11 @@ pub trait PolicyRules {
     /// 12 is "policy over 16 rules or a prefix too long".
     fn check_count(&self, count: usize) -> Result<(), Refusal> {
         refuse_if(count > RULE_PLACES, Refusal::Policy)
+    }
+
+    /// E9: "operator A (0) or B (1)"; another octet is 1 by decision.
+    fn check_operator(&self, operator: Named) -> Result<(), Refusal> {
+        refuse_if(operator.is_none(), Refusal::Argument)
     }
 
     /// 1 is "family not 4 or 6, IPv4 tail not zero", of every rule before any length.

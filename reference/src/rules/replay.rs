@@ -1,4 +1,4 @@
-// The rules of a replay: requests E3, E6 and E8 of document 02, with docs/TRACE.md for the form of what is printed.
+// The rules of a replay: requests E3, E6, E8 and E9 of document 02, with docs/TRACE.md for the form of what is printed.
 use crate::address::AddressPair;
 use crate::assess::Assessed;
 use crate::cloning::Cloned;
@@ -18,6 +18,11 @@ pub trait ReplayRules {
     /// "The end tables are .. those of the calls made one by one": the call of every kind is made.
     fn makes(&self, _kind: u64) -> bool {
         true
+    }
+
+    /// E9: "Each .. table call names operator A (0) or B (1)": the call is made for the one that its entry names.
+    fn operator(&self, named: u64) -> u8 {
+        named as u8
     }
 
     /// 2 is "output under 128 octets", so that so many are lent by decision.

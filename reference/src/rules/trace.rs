@@ -1,4 +1,4 @@
-// The rules of a trace's entries, read and written: requests E3, E6 and E8 of document 02, and the header for the
+// The rules of a trace's entries, read and written: requests E3, E6, E8 and E9 of document 02, and the header for the
 // calls.
 use crate::trace::entry::Entry;
 use crate::trace::fields::{Field, Part, MOST_OCTETS, MOST_RULES};
@@ -37,14 +37,15 @@ pub trait TraceRules {
     }
 
     /// "lists led by their count (at most 16), octet strings by their length (at most 4,096)"; "family and prefix
-    /// length 8 bits, yes or no 1"; E8: "a 32-bit peer number"; other fields as document 01 has them.
+    /// length 8 bits, yes or no 1"; E8: "a 32-bit peer number"; E9: "operator A (0) or B (1), one bit"; other fields as
+    /// document 01 has them.
     fn most(&self, field: Field) -> u64 {
         match field {
             Field::IkeSpi => u64::MAX,
             Field::IpsecSpi | Field::Id | Field::Peer => u64::from(u32::MAX),
             Field::Port => u64::from(u16::MAX),
             Field::Family | Field::FirstType | Field::PrefixLength => u64::from(u8::MAX),
-            Field::Agreed => 1,
+            Field::Agreed | Field::Operator => 1,
             Field::Count => MOST_RULES as u64,
             Field::Length => MOST_OCTETS as u64,
         }
@@ -85,26 +86,28 @@ pub trait TraceRules {
     /// IPsec records "SPI .., owning IKE SPI", a request "SPI, ID, packet's pair, the two NAT values, first type,
     /// body". The IPsec SPI of an opening comes last by decision. "later table calls and fields join at the end as
     /// named": E6's "a cookie of 8 to 64 octets and the ID of our request", and "a response (SPI, ID, first type,
-    /// body)"; E8's "a 32-bit peer number and whether cloning is agreed", and "(SPI, new SPI, first type, body)".
+    /// body)"; E8's "a 32-bit peer number and whether cloning is agreed", and "(SPI, new SPI, first type, body)"; E9's
+    /// operator, of "table call", so that its example `02 07 00` ends with it, and so does every kind.
     fn layout(&self, kind: u64) -> Vec<Part> {
         use Part::{
             Agreed, Body, CheckId, Cloning, Cookie, FirstType, Id, IkeSpi, IpsecSpi,
-            NatDestination, NatSource, NewSpi, Peer, Rules,
+            NatDestination, NatSource, NewSpi, Operator, Peer, Rules,
         };
         let pair = &Part::PAIR[..];
         match kind {
-            0 => [&[IkeSpi, Agreed], pair, &[IpsecSpi, Peer, Cloning]].concat(),
-            1 => vec![IpsecSpi, IkeSpi],
-            2 => vec![IkeSpi],
-            3 => vec![IpsecSpi],
+            0 => [&[IkeSpi, Agreed], pair, &[IpsecSpi, Peer, Cloning, Operator]].concat(),
+            1 => vec![IpsecSpi, IkeSpi, Operator],
+            2 => vec![IkeSpi, Operator],
+            3 => vec![IpsecSpi, Operator],
             4 => {
-                let behind = [NatSource, NatDestination, FirstType, Body, Cookie, CheckId];
+                let behind =
+                    [NatSource, NatDestination, FirstType, Body, Cookie, CheckId, Operator];
                 [&[IkeSpi, Id], pair, &behind].concat()
             }
-            5 => vec![Rules],
-            6 => vec![IkeSpi, Id, FirstType, Body],
-            7 => vec![IkeSpi, NewSpi, FirstType, Body],
-            _ => vec![IkeSpi],
+            5 => vec![Rules, Operator],
+            6 => vec![IkeSpi, Id, FirstType, Body, Operator],
+            7 => vec![IkeSpi, NewSpi, FirstType, Body, Operator],
+            _ => vec![IkeSpi, Operator],
         }
     }
 

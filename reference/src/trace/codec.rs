@@ -53,7 +53,7 @@ impl Told {
 
 /// With nothing in the places past the count, as an entry is read.
 pub fn counted(mut entry: Entry) -> Entry {
-    if let Entry::Policy { count, rules } = &mut entry {
+    if let Entry::Policy { count, rules, .. } = &mut entry {
         let past = usize::try_from(*count).unwrap_or(usize::MAX);
         rules.iter_mut().skip(past).for_each(|rule| *rule = Rule::default());
     }

@@ -7,14 +7,14 @@ use crate::policy;
 #[derive(Debug, Clone, PartialEq, Eq)]
 pub enum Entry {
     OpenBoth(Opening),
-    AddIpsec { spi: u64, owner: u64 },
-    CloseIke { spi: u64 },
-    CloseIpsec { spi: u64 },
+    AddIpsec { spi: u64, owner: u64, operator: u64 },
+    CloseIke { spi: u64, operator: u64 },
+    CloseIpsec { spi: u64, operator: u64 },
     Request(Request),
-    Policy { count: u64, rules: Box<Rules> },
-    CheckResponse { spi: u64, id: u64, first: u64, body: Vec<u8> },
-    Clone { spi: u64, new_spi: u64, first: u64, body: Vec<u8> },
-    MarkDeletion { spi: u64 },
+    Policy { count: u64, rules: Box<Rules>, operator: u64 },
+    CheckResponse { spi: u64, id: u64, first: u64, body: Vec<u8>, operator: u64 },
+    Clone { spi: u64, new_spi: u64, first: u64, body: Vec<u8>, operator: u64 },
+    MarkDeletion { spi: u64, operator: u64 },
 }
 
 /// Those past the count aren't looked at.
@@ -39,6 +39,7 @@ pub struct Opening {
     pub child: u64,
     pub peer: u64,
     pub cloning: u64,
+    pub operator: u64,
 }
 
 #[derive(Debug, Clone, Default, PartialEq, Eq)]
@@ -53,6 +54,7 @@ pub struct Request {
     pub cookie: Vec<u8>,
     /// The ID of our request.
     pub check_id: u64,
+    pub operator: u64,
 }
 
 #[derive(Debug, Clone, Copy, Default, PartialEq, Eq)]
@@ -79,11 +81,11 @@ impl Entry {
         }
     }
 
-    /// The setting of these rules, of which there are at most sixteen.
-    pub fn policy(rules: &[Rule]) -> Self {
+    /// The setting of these rules, of which there are at most sixteen, for this operator.
+    pub fn policy(rules: &[Rule], operator: u64) -> Self {
         let mut places = Rules::default();
         places[..rules.len()].copy_from_slice(rules);
-        Entry::Policy { count: rules.len() as u64, rules: Box::new(places) }
+        Entry::Policy { count: rules.len() as u64, rules: Box::new(places), operator }
     }
 }
 

@@ -9,6 +9,8 @@ pub enum Field {
     Agreed,
     /// A peer's number.
     Peer,
+    /// A or B.
+    Operator,
     Id,
     Family,
     Port,
@@ -45,6 +47,7 @@ pub enum Part {
     Body,
     Cookie,
     CheckId,
+    Operator,
     SourceLength,
     DestinationLength,
     /// A list: its count, then its rules.
@@ -73,6 +76,7 @@ impl Part {
             Part::IpsecSpi => Form::Number(Field::IpsecSpi),
             Part::Agreed | Part::Cloning => Form::Number(Field::Agreed),
             Part::Peer => Form::Number(Field::Peer),
+            Part::Operator => Form::Number(Field::Operator),
             Part::Id | Part::CheckId => Form::Number(Field::Id),
             Part::Family => Form::Number(Field::Family),
             Part::SourcePort | Part::DestinationPort => Form::Number(Field::Port),

@@ -6,6 +6,7 @@ use crate::calls::Call;
 use crate::check::{decide, CheckResponse};
 use crate::cloning::{clone, CloneRequest};
 use crate::handler::handle;
+use crate::opening::Adding;
 use crate::opening_both::Opening;
 use crate::policy::{self, RuleList};
 use crate::request;
@@ -27,30 +28,52 @@ impl Entry {
     pub fn make(&self, tables: &mut Tables, of: &impl Rules) -> Answer {
         let call = match self {
             Entry::Request(request) => return request.make(tables, of),
-            Entry::CheckResponse { spi, id, first, body } => {
+            Entry::CheckResponse { spi, id, first, body, operator } => {
                 let (id, first, body) = (*id as u32, *first as u8, body.clone());
-                let response = CheckResponse { spi: *spi, id, first, body };
+                let operator = of.replay().operator(*operator);
+                let response = CheckResponse { spi: *spi, id, first, body, operator };
                 return of.replay().answer_to_check(&decide(&response, tables, of));
             }
-            Entry::Clone { spi, new_spi, first, body } => {
+            Entry::Clone { spi, new_spi, first, body, operator } => {
                 let (spi, new_spi, first) = (*spi, *new_spi, *first as u8);
                 let (body, output) = (body.clone(), vec![0; of.replay().output_lent()]);
-                let request = CloneRequest { spi, new_spi, first, body, output };
+                let operator = of.replay().operator(*operator);
+                let request = CloneRequest { spi, new_spi, first, body, operator, output };
                 return of.replay().answer_to_clone(&clone(&request, tables, of));
             }
-            Entry::OpenBoth(entry::Opening { spi, agreed, pair, child, peer, cloning }) => {
+            Entry::OpenBoth(entry::Opening {
+                spi,
+                agreed,
+                pair,
+                child,
+                peer,
+                cloning,
+                operator,
+            }) => {
                 let (mobike, cloning, peer) = (*agreed as u8, *cloning as u8, *peer as u32);
-                let agreed = Agreed { mobike, cloning, peer };
+                let operator = of.replay().operator(*operator);
+                let agreed = Agreed { mobike, cloning, operator, peer };
                 let (pair, child) = (pair.narrow(), *child as u32);
                 Call::OpenBoth(Opening { spi: *spi, agreed, pair, child })
             }
-            Entry::MarkDeletion { spi } => Call::MarkDeletion { spi: *spi },
-            Entry::AddIpsec { spi, owner } => Call::OpenIpsec { spi: *spi as u32, owner: *owner },
-            Entry::CloseIke { spi } => Call::CloseIke { spi: *spi },
-            Entry::CloseIpsec { spi } => Call::CloseIpsec { spi: *spi as u32 },
-            Entry::Policy { count, rules } => {
-                Call::SetPolicy { count: *count as u16, rules: Box::new(rule_list(rules)) }
+            Entry::MarkDeletion { spi, operator } => {
+                Call::MarkDeletion { spi: *spi, operator: of.replay().operator(*operator) }
             }
+            Entry::AddIpsec { spi, owner, operator } => {
+                let operator = of.replay().operator(*operator);
+                Call::OpenIpsec(Adding { spi: *spi as u32, owner: *owner, operator })
+            }
+            Entry::CloseIke { spi, operator } => {
+                Call::CloseIke { spi: *spi, operator: of.replay().operator(*operator) }
+            }
+            Entry::CloseIpsec { spi, operator } => {
+                Call::CloseIpsec { spi: *spi as u32, operator: of.replay().operator(*operator) }
+            }
+            Entry::Policy { count, rules, operator } => Call::SetPolicy {
+                count: *count as u16,
+                rules: Box::new(rule_list(rules)),
+                operator: of.replay().operator(*operator),
+            },
         };
         Answer { number: call.make(tables, of), ..Answer::default() }
     }
@@ -67,6 +90,7 @@ impl Request {
             first: self.first as u8,
             cookie: self.cookie.clone(),
             check_id: self.check_id as u32,
+            operator: of.replay().operator(self.operator),
             body: self.body.clone(),
             output: vec![0; of.replay().output_lent()],
         };

@@ -94,16 +94,25 @@ impl Parts {
                 child: self.number(Part::IpsecSpi),
                 peer: self.number(Part::Peer),
                 cloning: self.number(Part::Cloning),
+                operator: self.number(Part::Operator),
             }),
             1 => Entry::AddIpsec {
                 spi: self.number(Part::IpsecSpi),
                 owner: self.number(Part::IkeSpi),
+                operator: self.number(Part::Operator),
             },
-            2 => Entry::CloseIke { spi: self.number(Part::IkeSpi) },
-            3 => Entry::CloseIpsec { spi: self.number(Part::IpsecSpi) },
+            2 => Entry::CloseIke {
+                spi: self.number(Part::IkeSpi),
+                operator: self.number(Part::Operator),
+            },
+            3 => Entry::CloseIpsec {
+                spi: self.number(Part::IpsecSpi),
+                operator: self.number(Part::Operator),
+            },
             4 => Entry::Request(self.request()),
             5 => Entry::Policy {
                 count: self.number(Part::Rules),
+                operator: self.number(Part::Operator),
                 rules: self.rules.unwrap_or_default(),
             },
             6 => Entry::CheckResponse {
@@ -111,14 +120,19 @@ impl Parts {
                 id: self.number(Part::Id),
                 first: self.number(Part::FirstType),
                 body: self.string(Part::Body),
+                operator: self.number(Part::Operator),
             },
             7 => Entry::Clone {
                 spi: self.number(Part::IkeSpi),
                 new_spi: self.number(Part::NewSpi),
                 first: self.number(Part::FirstType),
                 body: self.string(Part::Body),
+                operator: self.number(Part::Operator),
             },
-            _ => Entry::MarkDeletion { spi: self.number(Part::IkeSpi) },
+            _ => Entry::MarkDeletion {
+                spi: self.number(Part::IkeSpi),
+                operator: self.number(Part::Operator),
+            },
         }
     }
 
@@ -133,6 +147,7 @@ impl Parts {
             body: self.string(Part::Body),
             cookie: self.string(Part::Cookie),
             check_id: self.number(Part::CheckId),
+            operator: self.number(Part::Operator),
         }
     }
 
@@ -179,14 +194,14 @@ mod tests {
             let Some(Meant { entry, within: true }) = cases.case(number).lent.meant(&Plain) else {
                 continue;
             };
-            let before = [2, 7];
+            let before = [2, 7, 0];
             let room = vec![0x81; 20_000];
             let written = write(&entry, &room, &Plain);
             let octets = [&before, &written.output[..]].concat();
             if written.number == 0 {
                 fitting += 1;
-                let expected = Read { entry: counted(entry), next: 2 + written.length };
-                assert_eq!(read(&octets, 2, &Plain), Ok(expected));
+                let expected = Read { entry: counted(entry), next: 3 + written.length };
+                assert_eq!(read(&octets, 3, &Plain), Ok(expected));
             } else {
                 others += 1;
                 assert_eq!(written.number, 22);
@@ -239,8 +254,9 @@ mod tests {
         assert_eq!(refusal(&long_body(&[0x81, 0x20], 0)), Refusal::TooLarge);
         assert_eq!(refusal(&long_body(&[0x81, 0x20], 4097)), Refusal::TooLarge);
         assert_eq!(refusal(&long_body(&[0x80, 0x20], 4095)), Refusal::Cut);
-        // Behind the body, a cookie and an ID.
-        assert!(read(&long_body(&[0x80, 0x20], 4096 + 2), 0, &Plain).is_ok());
+        // Behind the body, a cookie, an ID and an operator.
+        assert!(read(&long_body(&[0x80, 0x20], 4096 + 3), 0, &Plain).is_ok());
+        assert_eq!(refusal(&long_body(&[0x80, 0x20], 4096 + 2)), Refusal::Cut);
         // A length that is cut or not shortest, though large.
         assert_eq!(refusal(&long_body(&[0x81, 0xa0], 0)), Refusal::Cut);
         assert_eq!(refusal(&long_body(&[0x81, 0xa0, 0x00], 9)), Refusal::Cut);
@@ -254,14 +270,24 @@ mod tests {
         assert_eq!(refusal(&opening(&[5])), Refusal::Cut);
         assert_eq!(refusal(&opening(&[0x80, 0x80, 0x80, 0x80, 0x10])), Refusal::TooLarge);
         assert_eq!(refusal(&opening(&[5, 2])), Refusal::TooLarge);
-        assert!(read(&opening(&[0xff, 0xff, 0xff, 0xff, 0x0f, 1]), 0, &Plain).is_ok());
+        assert_eq!(refusal(&opening(&[5, 1])), Refusal::Cut);
+        assert_eq!(refusal(&opening(&[5, 1, 2])), Refusal::TooLarge);
+        assert!(read(&opening(&[0xff, 0xff, 0xff, 0xff, 0x0f, 1, 1]), 0, &Plain).is_ok());
         // A clone without a first type or a body, and one whose body is cut or too long.
         assert_eq!(refusal(&[7, 7, 8]), Refusal::Cut);
         assert_eq!(refusal(&[7, 7, 8, 0x80, 2]), Refusal::TooLarge);
         assert_eq!(refusal(&[7, 7, 8, 41, 8, 0]), Refusal::Cut);
         assert_eq!(refusal(&[7, 7, 8, 41, 0x81, 0x20]), Refusal::TooLarge);
         assert_eq!(refusal(&[8]), Refusal::Cut);
-        assert!(read(&[8, 7], 0, &Plain).is_ok());
+        assert_eq!(refusal(&[8, 7]), Refusal::Cut);
+        assert!(read(&[8, 7, 1], 0, &Plain).is_ok());
+        // The operator of every kind has one bit.
+        assert_eq!(refusal(&[2, 7]), Refusal::Cut);
+        assert_eq!(refusal(&[2, 7, 2]), Refusal::TooLarge);
+        assert_eq!(refusal(&[2, 7, 0x80, 0]), Refusal::Cut);
+        assert_eq!(refusal(&[1, 7, 8, 2]), Refusal::TooLarge);
+        assert_eq!(refusal(&[5, 0]), Refusal::Cut);
+        assert_eq!(refusal(&[5, 0, 2]), Refusal::TooLarge);
         // A count over 16 with no rule behind it, and 16 with none.
         assert_eq!(refusal(&[5, 17]), Refusal::TooLarge);
         assert_eq!(refusal(&[5, 16]), Refusal::Cut);

@@ -74,7 +74,7 @@ mod tests {
         let trace = examples::all_kinds();
         let whole = printed(&trace);
         let starts = starts(&trace);
-        assert_eq!(starts[..5], [0, 43, 80, 84, 88]);
+        assert_eq!(starts[..5], [0, 44, 82, 87, 92]);
         for length in 0..=trace.len() {
             let before = starts.iter().filter(|&&start| start <= length).count() - 1;
             let lines: Vec<&str> = whole.lines().take(before).collect();
@@ -117,9 +117,9 @@ ipsec 9 4 c0000201000000000000000000000000 c6336401000000000000000000000000 4500
     fn pairs_come_by_place_and_with_all_their_octets() {
         let open = |spi: u8, family: u8, child: u8| {
             let pair = [vec![family], vec![0xab; 4], vec![0; 28], vec![1, 2]].concat();
-            [vec![0, spi, 1], pair, vec![child, 0, 0]].concat()
+            [vec![0, spi, 1], pair, vec![child, 0, 0, 1]].concat()
         };
-        let trace = [open(9, 4, 8), open(3, 6, 5), vec![2, 9], open(7, 4, 6)].concat();
+        let trace = [open(9, 4, 8), open(3, 6, 5), vec![2, 9, 1], open(7, 4, 6)].concat();
         let (ab, zeros) = ("ab".repeat(4), "0".repeat(24));
         let pair = |family| format!("{family} {ab}{zeros} {} 1 2", "0".repeat(32));
         let expected = format!(

@@ -1,14 +1,18 @@
 // An entry as the library's two calls take and tell it: its kind, and slots in the order of its fields. A
 // number has one; an address one, its offset in octets that are lent; a string two, its offset there and its
-// length; a list one for its count, and those of its items.
+// length; a list one for its count, and those of sixteen items.
 use super::entry::{Entry, Opening, Pair, Request, Rule, Rules};
 use super::fields::Field;
 use super::writing::{pieces, Piece};
 use crate::address::AddressOctets;
 use crate::rules::{Plain, TraceRules};
+use std::ops::Range;
 
-/// As many as a policy of sixteen rules has.
-pub const SLOTS: usize = 81;
+/// As many as a policy has: its count, those of sixteen rules, and its operator.
+pub const SLOTS: usize = 82;
+
+/// That of a policy's operator, behind all sixteen rules whatever the count.
+pub const POLICY_OPERATOR: usize = SLOTS - 1;
 
 pub type Slots = [u64; SLOTS];
 
@@ -19,6 +23,10 @@ pub fn of_entry(entry: &Entry, start: usize) -> Slots {
     for piece in pieces(entry, &Plain) {
         let behind = offset + piece.octets(&Plain).len();
         match piece {
+            Piece::Number(Field::Operator, operator) if matches!(entry, Entry::Policy { .. }) => {
+                told.resize(POLICY_OPERATOR, 0);
+                told.push(operator);
+            }
             Piece::Number(Field::Length, length) => told.extend([behind as u64, length]),
             Piece::Number(_, number) => told.push(number),
             Piece::Address(_) => told.push(offset as u64),
@@ -31,15 +39,15 @@ pub fn of_entry(entry: &Entry, start: usize) -> Slots {
     slots
 }
 
-/// How many slots a kind has, with this many items in its list if it has one.
-pub fn count(kind: u8, items: usize) -> usize {
+/// The slots that a kind doesn't have, with this many items in its list if it has one.
+pub fn unused(kind: u8, items: usize) -> Range<usize> {
     match kind {
-        0 => 10,
-        1 => 2,
-        2 | 3 | 8 => 1,
-        4 => 17,
-        6 | 7 => 5,
-        _ => 1 + 5 * items,
+        0 => 11..SLOTS,
+        1 => 3..SLOTS,
+        2 | 3 | 8 => 2..SLOTS,
+        4 => 18..SLOTS,
+        6 | 7 => 6..SLOTS,
+        _ => 1 + 5 * items..POLICY_OPERATOR,
     }
 }
 
@@ -67,10 +75,15 @@ pub fn meant(
             child: taking.number(),
             peer: taking.number(),
             cloning: taking.number(),
+            operator: taking.number(),
         }),
-        1 => Entry::AddIpsec { spi: taking.number(), owner: taking.number() },
-        2 => Entry::CloseIke { spi: taking.number() },
-        3 => Entry::CloseIpsec { spi: taking.number() },
+        1 => Entry::AddIpsec {
+            spi: taking.number(),
+            owner: taking.number(),
+            operator: taking.number(),
+        },
+        2 => Entry::CloseIke { spi: taking.number(), operator: taking.number() },
+        3 => Entry::CloseIpsec { spi: taking.number(), operator: taking.number() },
         4 => Entry::Request(taking.request()),
         5 => taking.policy(),
         6 => Entry::CheckResponse {
@@ -78,14 +91,16 @@ pub fn meant(
             id: taking.number(),
             first: taking.number(),
             body: taking.string(),
+            operator: taking.number(),
         },
         7 => Entry::Clone {
             spi: taking.number(),
             new_spi: taking.number(),
             first: taking.number(),
             body: taking.string(),
+            operator: taking.number(),
         },
-        8 => Entry::MarkDeletion { spi: taking.number() },
+        8 => Entry::MarkDeletion { spi: taking.number(), operator: taking.number() },
         _ => return None,
     };
     Some(Meant { entry, within: taking.within })
@@ -142,6 +157,7 @@ impl<R: TraceRules + ?Sized> Taking<'_, R> {
             body: self.string(),
             cookie: self.string(),
             check_id: self.number(),
+            operator: self.number(),
         }
     }
 
@@ -156,7 +172,7 @@ impl<R: TraceRules + ?Sized> Taking<'_, R> {
                 self.within = within;
             }
         }
-        Entry::Policy { count, rules: Box::new(rules) }
+        Entry::Policy { count, rules: Box::new(rules), operator: self.number() }
     }
 
     fn rule(&mut self) -> Rule {
@@ -183,8 +199,8 @@ mod tests {
             let octets = [&[9; 5], &entry_octets(&entry)[..]].concat();
             let slots = of_entry(&entry, 5);
             let items = if let Entry::Policy { count, .. } = &entry { *count as usize } else { 0 };
-            let used = count(entry.kind() as u8, items);
-            assert!(slots[used..].iter().all(|&slot| slot == 0));
+            let unused = unused(entry.kind() as u8, items);
+            assert!(slots[unused].iter().all(|&slot| slot == 0));
             let told = meant(entry.kind() as u8, &slots, &octets, &Plain);
             // Past a count, slots of 0 mean what stands at offset 0.
             let Meant { entry: told, within } = told.expect("a known kind");
@@ -197,10 +213,10 @@ mod tests {
         let slots = of_entry(&samples()[0], 100);
         // Kind, a number of six octets, yes; the family, both addresses.
         assert_eq!(slots[..8], [1 << 40, 1, 4, 109, 125, 4500, 500, 300]);
-        assert_eq!(slots[8..11], [70_000, 1, 0]);
+        assert_eq!(slots[8..12], [70_000, 1, 1, 0]);
         let slots = of_entry(&samples()[6], 0);
         assert_eq!(slots[..7], [7, 300, 4, 5, 21, 1024, 500]);
-        assert_eq!(slots[7..17], [42, 20, 63, 20, 41, 85, 12, 98, 8, 70_000]);
+        assert_eq!(slots[7..19], [42, 20, 63, 20, 41, 85, 12, 98, 8, 70_000, 0, 0]);
     }
 
     #[test]

@@ -49,7 +49,7 @@ pub fn write_meant(meant: &Meant, output: &[u8], rules: &(impl TraceRules + ?Siz
 }
 
 /// The longest entry: a request.
-pub const LONGEST: usize = 16_455;
+pub const LONGEST: usize = 16_456;
 
 /// The octets of an entry whose numbers all fit; of another one, what no reader takes.
 pub fn entry_octets(entry: &Entry) -> Vec<u8> {
@@ -88,7 +88,10 @@ pub fn pieces<'a>(entry: &'a Entry, rules: &(impl TraceRules + ?Sized)) -> Vec<P
     let mut pieces = vec![Piece::Kind(entry.kind())];
     for part in rules.layout(entry.kind()) {
         match entry {
-            Entry::Policy { count, rules: listed } => {
+            Entry::Policy { operator, .. } if part == Part::Operator => {
+                pieces.push(Piece::Number(Field::Operator, *operator));
+            }
+            Entry::Policy { count, rules: listed, .. } => {
                 pieces.push(Piece::Number(Field::Count, *count));
                 for rule in &listed[..rules.rules_in(*count)] {
                     let layout = rules.layout_of_rule().iter();
@@ -96,10 +99,15 @@ pub fn pieces<'a>(entry: &'a Entry, rules: &(impl TraceRules + ?Sized)) -> Vec<P
                 }
             }
             Entry::Request(request) => pieces.extend(of_request(request, part)),
-            Entry::CheckResponse { spi, id, first, body } => {
+            Entry::CheckResponse { operator, .. } | Entry::Clone { operator, .. }
+                if part == Part::Operator =>
+            {
+                pieces.push(Piece::Number(Field::Operator, *operator));
+            }
+            Entry::CheckResponse { spi, id, first, body, .. } => {
                 pieces.extend(of_check_response(*spi, *id, *first, body, part));
             }
-            Entry::Clone { spi, new_spi, first, body } => {
+            Entry::Clone { spi, new_spi, first, body, .. } => {
                 pieces.extend(of_clone(*spi, *new_spi, *first, body, part));
             }
             _ => pieces.push(of_table_call(entry, part)),
@@ -111,12 +119,19 @@ pub fn pieces<'a>(entry: &'a Entry, rules: &(impl TraceRules + ?Sized)) -> Vec<P
 fn of_table_call(entry: &Entry, part: Part) -> Piece<'_> {
     match (entry, part) {
         (Entry::OpenBoth(opening), _) => of_opening(opening, part),
+        (
+            Entry::AddIpsec { operator, .. }
+            | Entry::CloseIke { operator, .. }
+            | Entry::CloseIpsec { operator, .. }
+            | Entry::MarkDeletion { operator, .. },
+            Part::Operator,
+        ) => Piece::Number(Field::Operator, *operator),
         (Entry::AddIpsec { owner, .. }, Part::IkeSpi) => Piece::Number(Field::IkeSpi, *owner),
         (Entry::AddIpsec { spi, .. }, _) => Piece::Number(Field::IpsecSpi, *spi),
-        (Entry::CloseIke { spi } | Entry::MarkDeletion { spi }, _) => {
+        (Entry::CloseIke { spi, .. } | Entry::MarkDeletion { spi, .. }, _) => {
             Piece::Number(Field::IkeSpi, *spi)
         }
-        (Entry::CloseIpsec { spi }, _) => Piece::Number(Field::IpsecSpi, *spi),
+        (Entry::CloseIpsec { spi, .. }, _) => Piece::Number(Field::IpsecSpi, *spi),
         (
             Entry::Request(_)
             | Entry::Policy { .. }
@@ -134,6 +149,7 @@ fn of_opening(opening: &Opening, part: Part) -> Piece<'_> {
         Part::IpsecSpi => Piece::Number(Field::IpsecSpi, opening.child),
         Part::Peer => Piece::Number(Field::Peer, opening.peer),
         Part::Cloning => Piece::Number(Field::Agreed, opening.cloning),
+        Part::Operator => Piece::Number(Field::Operator, opening.operator),
         _ => of_pair(&opening.pair, part),
     }
 }
@@ -171,6 +187,7 @@ fn of_request(request: &Request, part: Part) -> Vec<Piece<'_>> {
         Part::Body => string(&request.body),
         Part::Cookie => string(&request.cookie),
         Part::CheckId => vec![Piece::Number(Field::Id, request.check_id)],
+        Part::Operator => vec![Piece::Number(Field::Operator, request.operator)],
         _ => vec![of_pair(&request.pair, part)],
     }
 }
@@ -206,24 +223,26 @@ mod tests {
     }
 
     #[test]
-    fn closing_ike_7_takes_two_octets() {
-        let closing = Entry::CloseIke { spi: 7 };
-        assert_eq!(written(&closing, &[0xaa, 0xbb, 0xcc]), (0, 2, vec![2, 7, 0xcc]));
-        assert_eq!(written(&closing, &[0xaa, 0xbb]), (0, 2, vec![2, 7]));
-        assert_eq!(written(&closing, &[0xaa]), (2, 0, vec![0xaa]));
+    fn closing_ike_7_takes_three_octets() {
+        let closing = |operator| Entry::CloseIke { spi: 7, operator };
+        assert_eq!(written(&closing(0), &[0xaa, 0xbb, 0xcc, 0xdd]), (0, 3, vec![2, 7, 0, 0xdd]));
+        assert_eq!(written(&closing(1), &[0xaa, 0xbb, 0xcc]), (0, 3, vec![2, 7, 1]));
+        assert_eq!(written(&closing(2), &[0xaa, 0xbb, 0xcc]), (22, 0, vec![0xaa, 0xbb, 0xcc]));
+        let closing = closing(1);
+        assert_eq!(written(&closing, &[0xaa, 0xbb]), (2, 0, vec![0xaa, 0xbb]));
         assert_eq!(written(&closing, &[]), (2, 0, vec![]));
     }
 
     #[test]
     fn too_large_comes_before_too_short_and_neither_writes() {
         for spi in [1 << 32, u64::MAX] {
-            let closing = Entry::CloseIpsec { spi };
+            let closing = Entry::CloseIpsec { spi, operator: 1 };
             assert_eq!(written(&closing, &[1; 20]), (22, 0, vec![1; 20]));
             assert_eq!(written(&closing, &[]), (22, 0, vec![]));
         }
-        let last = Entry::AddIpsec { spi: u64::from(u32::MAX), owner: u64::MAX };
+        let last = Entry::AddIpsec { spi: u64::from(u32::MAX), owner: u64::MAX, operator: 1 };
         assert_eq!(written(&last, &[]).0, 2);
-        assert_eq!(written(&last, &[0; 16]).1, 16);
+        assert_eq!(written(&last, &[0; 17]).1, 17);
     }
 
     #[test]
@@ -233,8 +252,9 @@ mod tests {
         assert_eq!(written(&request(4096), &[0; 5000]).0, 0);
         assert_eq!(written(&request(4097), &[0; 5000]).0, 22);
         assert_eq!(written(&request(4097), &[]).0, 22);
-        let policy = |count| Entry::Policy { count, rules: Box::new(Rules::default()) };
-        assert_eq!(written(&policy(16), &[0; 600]).1, 2 + 16 * 35);
+        let policy =
+            |count| Entry::Policy { count, rules: Box::new(Rules::default()), operator: 1 };
+        assert_eq!(written(&policy(16), &[0; 600]).1, 2 + 16 * 35 + 1);
         assert_eq!(written(&policy(17), &[0; 600]).0, 22);
         assert_eq!(written(&policy(16), &[0; 500]).0, 2);
     }
@@ -243,8 +263,8 @@ mod tests {
     fn rules_past_the_count_are_not_looked_at() {
         let mut rules = Rules::default();
         rules[1].family = 256;
-        let policy = |count| Entry::Policy { count, rules: Box::new(rules) };
-        assert_eq!(written(&policy(1), &[0; 600]).1, 37);
+        let policy = |count| Entry::Policy { count, rules: Box::new(rules), operator: 0 };
+        assert_eq!(written(&policy(1), &[0; 600]).1, 38);
         assert_eq!(written(&policy(2), &[0; 600]).0, 22);
     }
 
@@ -262,10 +282,11 @@ mod tests {
             body: vec![0; 4096],
             cookie: vec![0; 4096],
             check_id: u64::from(u32::MAX),
+            operator: 1,
         });
         assert_eq!(entry_octets(&request).len(), LONGEST);
         let rule =
             Rule { family: 255, source_length: 255, destination_length: 255, ..Rule::default() };
-        assert_eq!(entry_octets(&Entry::policy(&[rule; 16])).len(), 610);
+        assert_eq!(entry_octets(&Entry::policy(&[rule; 16], 1)).len(), 611);
     }
 }

@@ -1,4 +1,4 @@
--- `act_check::check_entry` meets its contract: a walk of its MIR, by hand. The policy and the output are given up as
+-- `act_check::check_entry` meets its contract: a walk of its MIR, by hand. The policies and the output are given up as
 -- they are. The covered `response_in` says what is given, the window is asked for the body, both tables go for good to
 -- `unmavreth_check`, and of what that tells the number is printed.
 -- Assumes nothing.
@@ -38,10 +38,10 @@ use Rattle.host.proofs.check.unmavreth_check.Met as check-thm
 use Rattle.walks.proofs.Locals.{allocates, passed, given-first, value, part, behind, behind-part, sets, lands-in, hands}
 use Rattle.walks.proofs.Locals.{ends}
 use Rattle.walks.proofs.Calls.{_&_, tokens, no-token, Told, plainly, calls-for, calls-both}
-use Rattle.lent_policy.proofs.PolicyTypes.{R as Rₚ}
+use Rattle.lent_policy.proofs.PolicyTable.{Q as Qₚ}
 use Rattle.acts.specs.Performed.{checkedBy, responseBy}
-use Rattle.acts.proofs.Signed.{Act, Params, Known, Post, signature, vals, slots-vals, exits, acts, ike, ipsec, policy}
-use Rattle.acts.proofs.Signed.{window, entry, out}
+use Rattle.acts.proofs.Signed.{Act, Params, Known, Post, signature, vals, slots-vals, exits, acts, ike, ipsec}
+use Rattle.acts.proofs.Signed.{policies, window, entry, out}
 use Rattle.acts.proofs.Shared.{opened, gives-up-ref, gives-up-list, parts, numbers}
 use Rattle.acts.proofs.Window.{takes-string}
 use Rattle.act_check.proofs.check_entry.Key as key
@@ -69,7 +69,7 @@ module _ (a : Params) where
   n = c .told .number
 
   comes : (x : List ℕ) → x ≡ stringIn (window a .now) (q .body .at) (q .body .size)
-      → checked (ike a .now) (ipsec a .now) (checkResponse (q .spi) (q .id) (q .first) x) ≡ c
+      → checked (ike a .now) (ipsec a .now) (checkResponse (q .spi) (q .id) (q .first) x (q .operator)) ≡ c
   comes x e = rw e refl
 
 module _ {M : Type 1} (𝓤 : URA M) (H : Heap 𝓤) (A : Atoms 𝓤) (W : Given 𝓤 H A) (at-mem : Memory → SProp 𝓤)
@@ -89,15 +89,15 @@ module _ {M : Type 1} (𝓤 : URA M) (H : Heap 𝓤) (A : Atoms 𝓤) (W : Given
       passed ! refl (tt, (tt, (record { fits = known .1 .1 .1 .0 .0 .1 .0 }, tt))) $
       passed ! refl (LL.lawful E.the-type E′.the-laws 𝓤 H A W .typed (entry a) _ (known .1 .1 .1 .1 .0) .0) $
       passed ! refl (tt, (tt, (record { fits = known .1 .1 .1 .1 .1 .0 .0 .1 .0 }, tt))) $ pass0 ! $ given-first ! $
-      opened ! a $ move ! (4 ∷ []) $ gives-up-ref ! Rₚ (policy a) $ move ! (8 ∷ []) $ gives-up-list ! u8 (out a) $
+      opened ! a $ move ! (4 ∷ []) $ gives-up-ref ! Qₚ (policies a) $ move ! (8 ∷ []) $ gives-up-list ! u8 (out a) $
       plainly ! (E.the-row ∷ []) (LL.makes E.the-type E′.the-plain 𝓤 H A, tt) (entry a, tt) (slots-vals (entry a), tt)
       (known .1 .1 .1 .1 .0, tt) $
       calls-for ! fm response.ended (response.clauses 𝓤 H A at-mem run) known-response
       ((tt, tt, tt, (entry a & tt), (slots-vals (entry a) & tt)), tt) (id⊢ 𝓤 _) (and-then ! (value ! refl) (no-more !))
       given-vals (LL.tells D.the-type D′.the-laws) (q a) (λ r ws. id⊢ 𝓤 _) (λ q-is. drop ! $
       lands-in ! refl (LL.lawful D.the-type D′.the-laws 𝓤 H A W .typed (q a) _ q-is .0) $ move ! (7 ∷ 8 ∷ []) $
-      -- [the window; its token; the last output and policy; the table and the list, with their tokens; the tokens of
-      -- the policy and the output; the locals]
+      -- [the window; its token; the last output and policies; the table and the list, with their tokens; the tokens of
+      -- the policies and the output; the locals]
       takes-string ! (window a) fm at-mem run known-string (q a .body)
       (LL.owed D.the-type D′.the-laws (q a) _ q-is .1 .1 .1 .0)
       (λ i j. and-then ! (value ! refl) (and-then ! (part ! refl (sub ! 3 refl (whole !))) (no-more !)))
@@ -108,7 +108,8 @@ module _ {M : Type 1} (𝓤 : URA M) (H : Heap 𝓤) (A : Atoms 𝓤) (W : Given
       (tt, (tt, (record { fits = known .1 .0 .0 .1 .0 }, tt))) $
       -- what the arguments own, and then their tokens
       let is = LL.owed D.the-type D′.the-laws (q a) _ q-is in
-      nothing ! $ move ! (1 ∷ 0 ∷ []) $ fjoin ! $
+      nothing ! $ owned ! u8 (Is u8) (uint-makes 𝓤 H A W w8) (q a .operator) _ (is .1 .1 .1 .1 .0) $ fjoin ! $
+      move ! (1 ∷ 0 ∷ []) $ fjoin ! $
       owned ! u8 (Is u8) (uint-makes 𝓤 H A W w8) (q a .first) _ (is .1 .1 .0) $ fjoin ! $
       owned ! u32 (Is u32) (uint-makes 𝓤 H A W w32) (q a .id) _ (is .1 .0) $ fjoin ! $
       owned ! u64 (Is u64) (uint-makes 𝓤 H A W w64) (q a .spi) _ (is .0) $ fjoin ! $
@@ -119,14 +120,15 @@ module _ {M : Type 1} (𝓤 : URA M) (H : Heap 𝓤) (A : Atoms 𝓤) (W : Given
           (κs .0 & κs .1 .0 & κs .1 .1 .1 .0 & tt),
           (qs .0 & qs .1 .0 & qs .1 .1 .1 .0 & tt),
           tt,
-          (ike a & ipsec a & q a .spi & q a .id & q a .first & x & tt),
+          (ike a & ipsec a & q a .spi & q a .id & q a .first & x & q a .operator & tt),
           (ptr-vals (ike a) & slice-vals (ipsec a) & uint-vals w64 (q a .spi) & uint-vals w32 (q a .id)
-              & uint-vals w8 (q a .first) & slice-vals x & tt),
+              & uint-vals w8 (q a .first) & slice-vals x & uint-vals w8 (q a .operator) & tt),
         ),
         tt,
       ) (id⊢ 𝓤 _) (and-then ! (value ! refl) (and-then ! (value ! refl)
       (and-then ! (part ! refl (sub ! 0 refl (whole !))) (and-then ! (part ! refl (sub ! 1 refl (whole !)))
-      (and-then ! (part ! refl (sub ! 2 refl (whole !))) (and-then ! (value ! refl) (no-more !)))))))
+      (and-then ! (part ! refl (sub ! 2 refl (whole !))) (and-then ! (value ! refl)
+      (and-then ! (part ! refl (sub ! 4 refl (whole !))) (no-more !))))))))
       told-vals (LL.tells Z.the-type Z′.the-laws) (c a .told)
       (λ ws. (ws .0 ≡ c a .ike) × (ws .1 .0 ≡ c a .ipsec))
       (λ r ws. parts 𝓤 (λ y. y .told ∙ ap (λ (x : Checked). x .told) (comes a (x .now) e₁))
@@ -136,7 +138,7 @@ module _ {M : Type 1} (𝓤 : URA M) (H : Heap 𝓤) (A : Atoms 𝓤) (W : Given
       )))
       (λ told-is ws e. fsplit ! $ move ! (1 ∷ []) $ fsplit ! $ fsplit ! $ move ! (1 ∷ []) $
       feqL ! (λ l₁. move ! (1 ∷ []) $ drop ! $
-      -- [what says the last list and table; the three tokens; the last output and policy; the other two tokens]
+      -- [what says the last list and table; the three tokens; the last output and policies; the other two tokens]
       move ! (2 ∷ []) $ split ! $ move ! (1 ∷ []) $ split ! $ move ! (1 ∷ []) $ no-token ! $
       move ! (4 ∷ 2 ∷ 3 ∷ 1 ∷ 6 ∷ 7 ∷ 0 ∷ 5 ∷ 8 ∷ []) $
       lands-in ! refl (LL.lawful Z.the-type Z′.the-laws 𝓤 H A W .typed (c a .told) _ told-is .0) $
@@ -144,7 +146,7 @@ module _ {M : Type 1} (𝓤 : URA M) (H : Heap 𝓤) (A : Atoms 𝓤) (W : Given
       (λ i. and-then ! (part ! refl (sub ! 0 refl (whole !))) (no-more !)) (λ out-is.
       lands-in ! refl (LL.lawful O.the-type O′.the-laws 𝓤 H A W .typed (numberedBy (n a)) _ out-is .0) $
       hands ! refl $ ends ! refl refl $
-      by ! (exits 𝓤 H A κs qs a W act (numberedBy (n a)) (ws .0) (ws .1 .0) (policy a .now) (out a .now) out-is l₁ refl
+      by ! (exits 𝓤 H A κs qs a W act (numberedBy (n a)) (ws .0) (ws .1 .0) (policies a .now) (out a .now) out-is l₁ refl
       (record { outcome = refl; records = e .0; owned = e .1; rules = refl }))))))))
 
 pub check-entry-spec : {M : Type 1} → stated.statement M

@@ -1,4 +1,4 @@
--- `act_clone::clone_entry` meets its contract: a walk of its MIR, by hand. The list and the policy are given up as they
+-- `act_clone::clone_entry` meets its contract: a walk of its MIR, by hand. The list and the policies are given up as they
 -- are. The covered `clone_in` says what is given, the window is asked for the body, the IKE table and the output go for
 -- good to `unmavreth_clone`, and of what that tells the number is printed.
 -- Assumes nothing.
@@ -39,10 +39,10 @@ use Rattle.walks.proofs.Locals.{allocates, passed, given-first, value, part, be
 use Rattle.walks.proofs.Locals.{ends}
 use Rattle.walks.proofs.Calls.{_&_, tokens, no-token, Told, plainly, calls-for, calls-both}
 use Rattle.lent_ipsec.proofs.IpsecTable.{R as Rᵢ}
-use Rattle.lent_policy.proofs.PolicyTypes.{R as Rₚ}
+use Rattle.lent_policy.proofs.PolicyTable.{Q as Qₚ}
 use Rattle.acts.specs.Performed.{clonedBy, cloneBy}
-use Rattle.acts.proofs.Signed.{Act, Params, Known, Post, signature, vals, slots-vals, exits, acts, ike, ipsec, policy}
-use Rattle.acts.proofs.Signed.{window, entry, out}
+use Rattle.acts.proofs.Signed.{Act, Params, Known, Post, signature, vals, slots-vals, exits, acts, ike, ipsec}
+use Rattle.acts.proofs.Signed.{policies, window, entry, out}
 use Rattle.acts.proofs.Shared.{opened, gives-up-ref, gives-up-list, parts, numbers}
 use Rattle.acts.proofs.Window.{takes-string}
 use Rattle.act_clone.proofs.clone_entry.Key as key
@@ -70,7 +70,7 @@ module _ (a : Params) where
   n = c .reply .number
 
   comes : (x : List ℕ) → x ≡ stringIn (window a .now) (q .body .at) (q .body .size)
-      → cloned (ike a .now) (cloneRequest (q .spi) (q .«new_spi») (q .first) x (length (out a .now))) ≡ c
+      → cloned (ike a .now) (cloneRequest (q .spi) (q .«new_spi») (q .first) x (length (out a .now)) (q .operator)) ≡ c
   comes x e = rw e refl
 
 module _ {M : Type 1} (𝓤 : URA M) (H : Heap 𝓤) (A : Atoms 𝓤) (W : Given 𝓤 H A) (at-mem : Memory → SProp 𝓤)
@@ -90,15 +90,15 @@ module _ {M : Type 1} (𝓤 : URA M) (H : Heap 𝓤) (A : Atoms 𝓤) (W : Given
       passed ! refl (tt, (tt, (record { fits = known .1 .1 .1 .0 .0 .1 .0 }, tt))) $
       passed ! refl (LL.lawful E.the-type E′.the-laws 𝓤 H A W .typed (entry a) _ (known .1 .1 .1 .1 .0) .0) $
       passed ! refl (tt, (tt, (record { fits = known .1 .1 .1 .1 .1 .0 .0 .1 .0 }, tt))) $ pass0 ! $ given-first ! $
-      opened ! a $ move ! (4 ∷ []) $ gives-up-ref ! Rₚ (policy a) $ move ! (3 ∷ []) $ gives-up-list ! Rᵢ (ipsec a) $
+      opened ! a $ move ! (4 ∷ []) $ gives-up-ref ! Qₚ (policies a) $ move ! (3 ∷ []) $ gives-up-list ! Rᵢ (ipsec a) $
       plainly ! (E.the-row ∷ []) (LL.makes E.the-type E′.the-plain 𝓤 H A, tt) (entry a, tt) (slots-vals (entry a), tt)
       (known .1 .1 .1 .1 .0, tt) $
       calls-for ! fm asked.ended (asked.clauses 𝓤 H A at-mem run) known-asked
       ((tt, tt, tt, (entry a & tt), (slots-vals (entry a) & tt)), tt) (id⊢ 𝓤 _) (and-then ! (value ! refl) (no-more !))
       given-vals (LL.tells D.the-type D′.the-laws) (q a) (λ r ws. id⊢ 𝓤 _) (λ q-is. drop ! $
       lands-in ! refl (LL.lawful D.the-type D′.the-laws 𝓤 H A W .typed (q a) _ q-is .0) $ move ! (6 ∷ 7 ∷ []) $
-      -- [the window; its token; the last list and policy; the table with its token; the tokens of the list and the
-      -- policy; the output with its token; the locals]
+      -- [the window; its token; the last list and policies; the table with its token; the tokens of the list and the
+      -- policies; the output with its token; the locals]
       takes-string ! (window a) fm at-mem run known-string (q a .body)
       (LL.owed D.the-type D′.the-laws (q a) _ q-is .1 .1 .1 .0)
       (λ i j. and-then ! (value ! refl) (and-then ! (part ! refl (sub ! 3 refl (whole !))) (no-more !)))
@@ -109,7 +109,8 @@ module _ {M : Type 1} (𝓤 : URA M) (H : Heap 𝓤) (A : Atoms 𝓤) (W : Given
       (tt, (tt, (record { fits = known .1 .1 .1 .1 .1 .0 .0 .1 .0 }, tt))) $
       -- what the arguments own, and then their tokens
       let is = LL.owed D.the-type D′.the-laws (q a) _ q-is in
-      nothing ! $ move ! (9 ∷ 0 ∷ []) $ fjoin ! $ move ! (1 ∷ 0 ∷ []) $ fjoin ! $
+      nothing ! $ owned ! u8 (Is u8) (uint-makes 𝓤 H A W w8) (q a .operator) _ (is .1 .1 .1 .1 .0) $ fjoin ! $
+      move ! (9 ∷ 0 ∷ []) $ fjoin ! $ move ! (1 ∷ 0 ∷ []) $ fjoin ! $
       owned ! u8 (Is u8) (uint-makes 𝓤 H A W w8) (q a .first) _ (is .1 .1 .0) $ fjoin ! $
       owned ! u64 (Is u64) (uint-makes 𝓤 H A W w64) (q a .«new_spi») _ (is .1 .0) $ fjoin ! $
       owned ! u64 (Is u64) (uint-makes 𝓤 H A W w64) (q a .spi) _ (is .0) $ fjoin ! $ move ! (4 ∷ 0 ∷ []) $ fjoin ! $
@@ -119,20 +120,21 @@ module _ {M : Type 1} (𝓤 : URA M) (H : Heap 𝓤) (A : Atoms 𝓤) (W : Given
           (κs .0 & κs .1 .1 .1 .0 & κs .1 .1 .1 .1 .0 & tt),
           (qs .0 & qs .1 .1 .1 .0 & qs .1 .1 .1 .1 .0 & tt),
           tt,
-          (ike a & q a .spi & q a .«new_spi» & q a .first & x & out a & tt),
+          (ike a & q a .spi & q a .«new_spi» & q a .first & x & out a & q a .operator & tt),
           (ptr-vals (ike a) & uint-vals w64 (q a .spi) & uint-vals w64 (q a .«new_spi») & uint-vals w8 (q a .first)
-              & slice-vals x & slice-vals (out a) & tt),
+              & slice-vals x & slice-vals (out a) & uint-vals w8 (q a .operator) & tt),
         ),
         tt,
       ) (id⊢ 𝓤 _) (and-then ! (value ! refl) (and-then ! (part ! refl (sub ! 0 refl (whole !)))
       (and-then ! (part ! refl (sub ! 1 refl (whole !))) (and-then ! (part ! refl (sub ! 2 refl (whole !)))
-      (and-then ! (value ! refl) (and-then ! (value ! refl) (no-more !)))))))
+      (and-then ! (value ! refl) (and-then ! (value ! refl)
+      (and-then ! (part ! refl (sub ! 4 refl (whole !))) (no-more !))))))))
       reply-vals (LL.tells Z.the-type Z′.the-laws) (c a .reply) (λ ws. ws .0 ≡ c a .ike)
       (λ r ws. parts 𝓤 (λ y. y .told ∙ ap (λ (x : Cloned). x .reply) (comes a (x .now) e₁))
       (λ y. y .records ∙ ap (λ (x : Cloned). x .ike) (comes a (x .now) e₁)))
       (λ told-is ws e. fsplit ! $ move ! (1 ∷ []) $ fsplit ! $ drop ! $ fsplit ! $ drop ! $ fsplit ! $ drop ! $
       fsplit ! $ drop ! $ fsplit ! $ fsplit ! $ move ! (1 ∷ []) $ feqL ! (λ lₒ. move ! (1 ∷ []) $ drop ! $
-      -- [what says the last output and table; the three tokens; the last list and policy; the other two tokens]
+      -- [what says the last output and table; the three tokens; the last list and policies; the other two tokens]
       move ! (2 ∷ []) $ split ! $ move ! (1 ∷ []) $ split ! $ move ! (1 ∷ []) $ no-token ! $
       move ! (4 ∷ 2 ∷ 5 ∷ 7 ∷ 6 ∷ 8 ∷ 1 ∷ 3 ∷ 0 ∷ []) $
       lands-in ! refl (LL.lawful Z.the-type Z′.the-laws 𝓤 H A W .typed (c a .reply) _ told-is .0) $
@@ -140,7 +142,7 @@ module _ {M : Type 1} (𝓤 : URA M) (H : Heap 𝓤) (A : Atoms 𝓤) (W : Given
       (λ i. and-then ! (part ! refl (sub ! 0 refl (whole !))) (no-more !)) (λ out-is.
       lands-in ! refl (LL.lawful O.the-type O′.the-laws 𝓤 H A W .typed (numberedBy (n a)) _ out-is .0) $
       hands ! refl $ ends ! refl refl $
-      by ! (exits 𝓤 H A κs qs a W act (numberedBy (n a)) (ws .0) (ipsec a .now) (policy a .now) (ws .1 .1 .1 .1 .1 .0)
+      by ! (exits 𝓤 H A κs qs a W act (numberedBy (n a)) (ws .0) (ipsec a .now) (policies a .now) (ws .1 .1 .1 .1 .1 .0)
       out-is refl lₒ (record { outcome = refl; records = e; owned = refl; rules = refl }))))))))
 
 pub clone-entry-spec : {M : Type 1} → stated.statement M

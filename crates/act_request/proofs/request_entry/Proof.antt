@@ -43,7 +43,7 @@ use Rattle.walks.proofs.Locals.{sets, lands-in, hands, ends}
 use Rattle.walks.proofs.Calls.{tokens, Told, plainly, calls-for}
 use Rattle.acts.specs.Performed.{handledBy, requestBy}
 use Rattle.acts.proofs.Signed.{Act, Params, Known, Post, signature, vals, slots-vals, outcome-vals, exits, acts}
-use Rattle.acts.proofs.Signed.{ike, ipsec, policy, window, entry, out}
+use Rattle.acts.proofs.Signed.{ike, ipsec, policies, window, entry, out}
 use Rattle.acts.proofs.Shared.{opened}
 use Rattle.acts.proofs.Window.{takes-string}
 use Rattle.act_request.proofs.Window.{asked-vals, reads-request}
@@ -62,7 +62,7 @@ module _ (a : Params) where
   q = requestIn (window a .now) (entry a .slots)
 
   abbrev h : Handled
-  h = handled (policy a .now) (ike a .now) (ipsec a .now)
+  h = handled (policies a .now) (ike a .now) (ipsec a .now)
       (requestBy (window a .now) (entry a .slots) (length (out a .now)))
 
   abbrev printed : Outcome
@@ -74,9 +74,9 @@ module _ (a : Params) where
 
   comes : (x y z w : List ℕ) → x ≡ said (q .«nat_source») → y ≡ said (q .«nat_destination») → z ≡ said (q .body)
       → w ≡ said (q .cookie)
-      → handled (policy a .now) (ike a .now) (ipsec a .now)
-      (requestOf (q .spi) (asked (q .id) (q .pair) x y (q .first) z (checkOf w (q .«check_id»))) (length (out a .now)))
-      ≡ h
+      → handled (policies a .now) (ike a .now) (ipsec a .now)
+      (requestOf (q .spi) (asked (q .id) (q .pair) x y (q .first) z (checkOf w (q .«check_id»))) (length (out a .now))
+      (q .operator)) ≡ h
   comes x y z w e₁ e₂ e₃ e₄ = rw e₁ (rw e₂ (rw e₃ (rw e₄ refl)))
 
 module _ {M : Type 1} (𝓤 : URA M) (H : Heap 𝓤) (A : Atoms 𝓤) (W : Given 𝓤 H A) (at-mem : Memory → SProp 𝓤)
@@ -93,7 +93,7 @@ module _ {M : Type 1} (𝓤 : URA M) (H : Heap 𝓤) (A : Atoms 𝓤) (W : Given
     -- what the locals hold: the parameters, the request, and its strings
     abbrev held : RefT (List ℕ) → RefT (List ℕ) → RefT (List ℕ) → RefT (List ℕ) → List (Option Val)
     held x y z w =
-        none ∷ some (only (ptr-vals (ike a))) ∷ some (only (slice-vals (ipsec a))) ∷ some (only (ptr-vals (policy a)))
+        none ∷ some (only (ptr-vals (ike a))) ∷ some (only (slice-vals (ipsec a))) ∷ some (only (ptr-vals (policies a)))
         ∷ some (only (slice-vals (window a))) ∷ some (only (slots-vals (entry a))) ∷ some (only (slice-vals (out a)))
         ∷ some (only (asked-vals (q a))) ∷ some (only (slice-vals x)) ∷ some (only (slice-vals y))
         ∷ some (only (slice-vals z)) ∷ some (only (slice-vals w)) ∷ []
@@ -119,7 +119,7 @@ module _ {M : Type 1} (𝓤 : URA M) (H : Heap 𝓤) (A : Atoms 𝓤) (W : Given
         (and-then ! (part ! refl (sub ! 2 refl (whole !))) (and-then ! (value ! refl) (and-then ! (value ! refl)
         (and-then ! (value ! refl) (and-then ! (part ! refl (sub ! 8 refl (whole !)))
         (and-then ! (part ! refl (sub ! 5 refl (whole !))) (and-then ! (value ! refl) (and-then ! (value ! refl)
-        (no-more !)))))))))))))) (λ reply-is zs ws e₅ lₒ.
+        (and-then ! (part ! refl (sub ! 9 refl (whole !))) (no-more !))))))))))))))) (λ reply-is zs ws e₅ lₒ.
         -- [each last value with its token, as `exits` takes them; the locals]
         lands-in ! refl (LL.lawful Z.the-type Z′.the-laws 𝓤 H A W .typed (h a .reply) _ reply-is .0) $
         plainly ! (Z.the-row ∷ []) (LL.makes Z.the-type Z′.the-plain 𝓤 H A, tt) (h a .reply, tt)
@@ -129,7 +129,7 @@ module _ {M : Type 1} (𝓤 : URA M) (H : Heap 𝓤) (A : Atoms 𝓤) (W : Given
         (and-then ! (value ! refl) (no-more !)) outcome-vals (LL.tells O.the-type O′.the-laws) (printed a)
         (λ r ws. id⊢ 𝓤 _) (λ is. drop ! $ lands-in ! refl
         (LL.lawful O.the-type O′.the-laws 𝓤 H A W .typed (printed a) _ is .0) $ hands ! refl $ ends ! refl refl $
-        by ! (exits 𝓤 H A κs qs a W act (printed a) zs (ipsec a .now) (policy a .now) ws is refl lₒ
+        by ! (exits 𝓤 H A κs qs a W act (printed a) zs (ipsec a .now) (policies a .now) ws is refl lₒ
         (record { outcome = refl; records = e₅; owned = refl; rules = refl }))))
 
   walk : ent 𝓤 (onEntry 𝓤 H A signature κs qs a (vals κs a))
@@ -143,7 +143,7 @@ module _ {M : Type 1} (𝓤 : URA M) (H : Heap 𝓤) (A : Atoms 𝓤) (W : Given
       passed ! refl (LL.lawful S.the-type S′.the-laws 𝓤 H A W .typed (entry a) _ (known .1 .1 .1 .1 .0) .0) $
       passed ! refl (tt, (tt, (record { fits = known .1 .1 .1 .1 .1 .0 .0 .1 .0 }, tt))) $ pass0 ! $ given-first ! $
       opened ! a $ move ! (6 ∷ 7 ∷ []) $
-      -- [the window; its token; the table, the list, the policy and the output, with their tokens; the locals]
+      -- [the window; its token; the table, the list, the policies and the output, with their tokens; the locals]
       reads-request ! (window a) fm at-mem run known-request (entry a) (known .1 .1 .1 .1 .0)
       (λ i j. and-then ! (value ! refl) (and-then ! (value ! refl) (no-more !)))
       (λ q-is. lands-in ! refl (LL.lawful D.the-type D′.the-laws 𝓤 H A W .typed (q a) _ q-is .0) $

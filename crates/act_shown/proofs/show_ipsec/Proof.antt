@@ -33,7 +33,7 @@ use Rattle.lent_ike.proofs.IkeTable.{Q}
 use Rattle.lent_ipsec.proofs.IpsecTable.{R as Rᵢ}
 use Rattle.acts.specs.Performed.{ipsecShownBy}
 use Rattle.acts.proofs.Signed.{Act, Params, Known, Post, signature, vals, slots-vals, outcome-vals, exits, acts, ike}
-use Rattle.acts.proofs.Signed.{ipsec, policy, entry, out}
+use Rattle.acts.proofs.Signed.{ipsec, policies, entry, out}
 use Rattle.acts.proofs.Shared.{tables-opened, gives-up-ref, gives-up-list}
 use Rattle.act_shown.proofs.show_ipsec.Key as key
 use Rattle.act_shown.proofs.show_ipsec.Statement as stated
@@ -90,7 +90,7 @@ module _ {M : Type 1} (𝓤 : URA M) (H : Heap 𝓤) (A : Atoms 𝓤) (W : Given
       (and-then ! (value ! refl) (no-more !)) outcome-vals (LL.tells O.the-type O′.the-laws) r (λ r ws. id⊢ 𝓤 _)
       (λ is. drop ! $ lands-in ! refl (LL.lawful O.the-type O′.the-laws 𝓤 H A W .typed r _ is .0) $
       hands ! refl $ ends ! refl refl $
-      by ! (exits 𝓤 H A κs qs a W act r (ike a .now) (ipsec a .now) (policy a .now) (out a .now) is refl refl
+      by ! (exits 𝓤 H A κs qs a W act r (ike a .now) (ipsec a .now) (policies a .now) (out a .now) is refl refl
       (record { outcome = refl; records = refl; owned = refl; rules = refl }))))))
 
 pub show-ipsec-spec : {M : Type 1} → stated.statement M

@@ -1,5 +1,5 @@
 -- `act_tables::open_entry` meets its contract: a walk of its MIR, by hand. The covered `opening_in` says what is
--- opened, and both tables go for good to `unmavreth_open`; the policy and the output are given up as they are.
+-- opened, and both tables go for good to `unmavreth_open`; the policies and the output are given up as they are.
 -- Assumes nothing.
 use Rattle.walks.proofs.Kit.{_≡_, refl, ℕ, [], _∷_, List, URA, w8, SProp, ent, id⊢, Memory, Routine, Heap, Calls, Loops}
 use Rattle.walks.proofs.Kit.{WpFn, Atoms, Lfts, Shares, Fun, givenOf, tables, tablesOf, Given, ‵, _$_, _∵_, !, qed, by}
@@ -29,10 +29,10 @@ use Rattle.host.proofs.calls.unmavreth_open.Met as opens-thm
 use Rattle.walks.proofs.Locals.{allocates, passed, given-first, value, part, behind, behind-part, sets, lands-in, hands}
 use Rattle.walks.proofs.Locals.{ends}
 use Rattle.walks.proofs.Calls.{_&_, tokens, Told, no-token, gives, calls-for, calls-both}
-use Rattle.lent_policy.proofs.PolicyTypes.{R as Rₚ}
+use Rattle.lent_policy.proofs.PolicyTable.{Q as Qₚ}
 use Rattle.acts.specs.Performed.{openedBy}
-use Rattle.acts.proofs.Signed.{Act, Params, Known, Post, signature, vals, slots-vals, exits, acts, ike, ipsec, policy}
-use Rattle.acts.proofs.Signed.{window, entry, out}
+use Rattle.acts.proofs.Signed.{Act, Params, Known, Post, signature, vals, slots-vals, exits, acts, ike, ipsec}
+use Rattle.acts.proofs.Signed.{policies, window, entry, out}
 use Rattle.acts.proofs.Shared.{opened, gives-up-ref, gives-up-list, gives-both, both-last, parts, numbers}
 use Rattle.act_tables.proofs.open_entry.Key as key
 use Rattle.act_tables.proofs.open_entry.Statement as stated
@@ -71,9 +71,9 @@ module _ {M : Type 1} (𝓤 : URA M) (H : Heap 𝓤) (A : Atoms 𝓤) (W : Given
       passed ! refl (LL.lawful E.the-type E′.the-laws 𝓤 H A W .typed (entry a) _ (known .1 .1 .1 .1 .0) .0) $
       passed ! refl (tt, (tt, (record { fits = known .1 .1 .1 .1 .1 .0 .0 .1 .0 }, tt))) $
       pass0 ! $ given-first ! $ opened ! a $
-      move ! (4 ∷ []) $ gives-up-ref ! Rₚ (policy a) $ move ! (8 ∷ []) $ gives-up-list ! u8 (out a) $
-      -- [the window; its token; what says the output and the policy; the table; its token; the list; its token; the
-      -- policy's and the output's token; the locals]
+      move ! (4 ∷ []) $ gives-up-ref ! Qₚ (policies a) $ move ! (8 ∷ []) $ gives-up-list ! u8 (out a) $
+      -- [the window; its token; what says the output and the policies; the table; its token; the list; its token; the
+      -- policies' and the output's token; the locals]
       move ! (7 ∷ 8 ∷ []) $
       gives ! (E.the-row ∷ []) (LL.makes E.the-type E′.the-plain 𝓤 H A, tt) (entry a, tt) (slots-vals (entry a), tt)
       (known .1 .1 .1 .1 .0, tt) $
@@ -113,7 +113,7 @@ module _ {M : Type 1} (𝓤 : URA M) (H : Heap 𝓤) (A : Atoms 𝓤) (W : Given
       numbers ! fm at-mem run known-number n (n-is .1) (λ i. and-then ! (value ! refl) (no-more !)) (λ is.
       lands-in ! refl (LL.lawful O.the-type O′.the-laws 𝓤 H A W .typed (numberedBy n) _ is .0) $
       hands ! refl $ ends ! refl refl $
-      by ! (exits 𝓤 H A κs qs a W act (numberedBy n) (ws .0) (ws .1 .0) (policy a .now) (out a .now) is l₁ refl
+      by ! (exits 𝓤 H A κs qs a W act (numberedBy n) (ws .0) (ws .1 .0) (policies a .now) (out a .now) is l₁ refl
       (record { outcome = refl; records = e .0; owned = e .1; rules = refl })))))))
 
 pub open-entry-spec : {M : Type 1} → stated.statement M

@@ -18,7 +18,7 @@ use Rattle.acts.specs.Performed.{Gateway, Performed, Performs, openedBy, addedB
 use Rattle.acts.specs.Performed.{policySetBy, checkedBy, clonedBy, markedBy, ikeShownBy, ipsecShownBy}
 use Rattle.given.specs.declared.outcome.Outcome.{Outcome}
 use Rattle.acts.proofs.Signed.{Act, Params, Known, Post, Says, signature, ended, clauses, vals, slots-vals}
-use Rattle.acts.proofs.Signed.{outcome-vals, outcome-val, exits, acts, ike, ipsec, policy, window, entry, out}
+use Rattle.acts.proofs.Signed.{outcome-vals, outcome-val, exits, acts, ike, ipsec, policies, window, entry, out}
 use Rattle.walks.proofs.Walk.{chosen, left}
 use Rattle.walks.proofs.Locals.{Lie, env, holding, allocates, passed, given-first, value, part, behind, behind-part}
 use Rattle.walks.proofs.Locals.{sets, resets, lands-in, hands, hands-within, ends}
@@ -140,7 +140,7 @@ module _ {M : Type 1} (𝓤 : URA M) (H : Heap 𝓤) (A : Atoms 𝓤) (W : Given
       fsplit ! $ move ! (1 ∷ []) $ feqL ! (λ l₂. move ! (2 ∷ []) $ fsplit ! $ move ! (1 ∷ []) $
       feqL ! (λ l₁. move ! (3 ∷ 8 ∷ 0 ∷ 7 ∷ 2 ∷ 6 ∷ 5 ∷ 1 ∷ 4 ∷ []) $
       by ! (exits 𝓤 H A κs qs a W from-0 r (ws .0) (ws .1 .0) (ws .1 .1 .0) (ws .1 .1 .1 .1 .1 .0) is l₁ l₂
-      (subst (λ (g : Gateway → Performed). Performs g (ike a .now) (ipsec a .now) (policy a .now) r (ws .0) (ws .1 .0)
+      (subst (λ (g : Gateway → Performed). Performs g (ike a .now) (ipsec a .now) (policies a .now) r (ws .0) (ws .1 .0)
       (ws .1 .1 .0)) same e))))
 
   module _ (known : Known 𝓤 H A κs a) (C : Calls 𝓤 H) (Λ : Loops 𝓤 H) (fm : FmC 𝓤 H (W .laws) C)
@@ -163,7 +163,7 @@ module _ {M : Type 1} (𝓤 : URA M) (H : Heap 𝓤) (A : Atoms 𝓤) (W : Given
       abbrev Given-all : Option Val → List (Item 𝓤)
       Given-all b = tokens 𝓤 5 κs qs ∷ ‵ (owns (typesAt (signature .params) κs) a (vals κs a))
           ∷ holding 𝓤 H (none ∷ just (only (ptr-vals (ike a))) ∷ just (only (slice-vals (ipsec a)))
-          ∷ just (only (ptr-vals (policy a))) ∷ just (only (slice-vals (window a))) ∷ just (only (slots-vals (entry a)))
+          ∷ just (only (ptr-vals (policies a))) ∷ just (only (slice-vals (window a))) ∷ just (only (slots-vals (entry a)))
           ∷ just (only (slice-vals (out a))) ∷ b ∷ []) En []
 
       kind-10 : (b : Val) → at-hand from-10 ≡ at-hand from-0 → Sq W (Given-all (just b))

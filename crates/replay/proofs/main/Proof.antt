@@ -1,5 +1,5 @@
--- `replay::main` is safe and ends: a walk of its MIR, by hand. The tables, the policy, the window and the room for a
--- response are locals, which each turn lends to its calls and has back with other values; the turns that are left get
+-- `replay::main` is safe and ends: a walk of its MIR, by hand. The tables, the policies, the window and the room for
+-- a response are locals, which each turn lends to its calls and has back with other values; the turns that are left get
 -- fewer.
 -- Assumes nothing.
 use Rattle.walks.proofs.Kit.{_≡_, refl, sym, subst, arith, _-_, ℕ, _<_, _≤_, _^_, zero-le, [], _∷_, List}
@@ -53,9 +53,9 @@ use Rattle.empty.proofs.no_ikes.Met as ikes-thm
 use Rattle.empty.proofs.no_ipsecs as ipsecs
 use Rattle.empty.proofs.no_ipsecs.Symbol as ipsecs-def
 use Rattle.empty.proofs.no_ipsecs.Met as ipsecs-thm
-use Rattle.empty.proofs.no_policy as rules
-use Rattle.empty.proofs.no_policy.Symbol as rules-def
-use Rattle.empty.proofs.no_policy.Met as rules-thm
+use Rattle.empty.proofs.no_policies as rules
+use Rattle.empty.proofs.no_policies.Symbol as rules-def
+use Rattle.empty.proofs.no_policies.Met as rules-thm
 use Rattle.empty.proofs.no_window as blank
 use Rattle.empty.proofs.no_window.Symbol as blank-def
 use Rattle.empty.proofs.no_window.Met as blank-thm
@@ -123,8 +123,8 @@ module _ {M : Type 1} (𝓤 : URA M) (H : Heap 𝓤) (A : Atoms 𝓤) (W : Given
     makes = LL.makes C.the-type C′.the-plain 𝓤 H A;
   }
 
-  abbrev policy-kept : Lendable 𝓤 H A
-  policy-kept = record {
+  abbrev policy : Lendable 𝓤 H A
+  policy = record {
     R = Y.the-row;
     one = tt;
     val = LL.val Y.the-type Y′.the-laws;
@@ -132,6 +132,9 @@ module _ {M : Type 1} (𝓤 : URA M) (H : Heap 𝓤) (A : Atoms 𝓤) (W : Given
         Y′.the-laws;
     makes = LL.makes Y.the-type Y′.the-plain 𝓤 H A;
   }
+
+  abbrev both-policies : Lendable 𝓤 H A
+  both-policies = array-of W policy 2
 
   abbrev ike-table : Lendable 𝓤 H A
   ike-table = array-of W ike-record 32
@@ -151,8 +154,8 @@ module _ {M : Type 1} (𝓤 : URA M) (H : Heap 𝓤) (A : Atoms 𝓤) (W : Given
   ipsec-lawful : Lawful 𝓤 H A (ipsec-list .R)
   ipsec-lawful = array-lawful 𝓤 H A W C.the-row (LL.lawful C.the-type C′.the-laws 𝓤 H A W) 128
 
-  policy-lawful : Lawful 𝓤 H A (policy-kept .R)
-  policy-lawful = LL.lawful Y.the-type Y′.the-laws 𝓤 H A W
+  policies-lawful : Lawful 𝓤 H A (both-policies .R)
+  policies-lawful = array-lawful 𝓤 H A W Y.the-row (LL.lawful Y.the-type Y′.the-laws 𝓤 H A W) 2
 
   sight-lawful : Lawful 𝓤 H A (sight .R)
   sight-lawful = array-lawful 𝓤 H A W u8 (uint-lawful 𝓤 H A W w8) 20480
@@ -187,8 +190,8 @@ module _ {M : Type 1} (𝓤 : URA M) (H : Heap 𝓤) (A : Atoms 𝓤) (W : Given
     ike-is : Told-as ike-table ike
     ipsec : List IpsecRecord
     ipsec-is : Told-as ipsec-list ipsec
-    policy : Policy
-    policy-is : Told-as policy-kept policy
+    policies : List Policy
+    policies-is : Told-as both-policies policies
     out : List ℕ
     out-is : Told-as response out
 
@@ -242,7 +245,7 @@ module _ {M : Type 1} (𝓤 : URA M) (H : Heap 𝓤) (A : Atoms 𝓤) (W : Given
       -- the locals, with what those behind the first eight hold
       abbrev held : Between → List (Option Val) → List (Item 𝓤)
       held x hs = holding 𝓤 H (none ∷ just (ike-table .val (x .lent .ike)) ∷ just (ipsec-list .val (x .lent .ipsec))
-          ∷ just (policy-kept .val (x .lent .policy)) ∷ just (sight .val (x .looked .window))
+          ∷ just (both-policies .val (x .lent .policies)) ∷ just (sight .val (x .looked .window))
           ∷ just (response .val (x .lent .out)) ∷ just (LL.val S.the-type S′.the-laws (x .looked .s))
           ∷ just (vint w64 (x .turns)) ∷ hs) En []
 
@@ -310,7 +313,7 @@ module _ {M : Type 1} (𝓤 : URA M) (H : Heap 𝓤) (A : Atoms 𝓤) (W : Given
               (e-vals (x .looked .s .entry)) (LL.owed S.the-type S′.the-laws (x .looked .s) _ (x .looked .s-is) .1 .1 .1
               .1 .1 .1 .1 .0) $
               lifts ! 4 $ adds-shared ! tt octet 20480 sight-room (x .looked .window) (x .looked .window-is) (λ ν₄ δ₄.
-              lifts ! 3 $ adds-ref ! tt policy-kept (x .lent .policy) (x .lent .policy-is) (λ ν₃ δ₃.
+              lifts ! 3 $ adds-ref ! tt both-policies (x .lent .policies) (x .lent .policies-is) (λ ν₃ δ₃.
               lifts ! 2 $ adds-list ! tt ipsec-record 128 list-room (x .lent .ipsec) (x .lent .ipsec-is) (λ ν₂ δ₂.
               lifts ! 1 $ adds-ref ! tt ike-table (x .lent .ike) (x .lent .ike-is) (λ ν₁ δ₁.
               calls-all ! fm perform.ended (perform.clauses 𝓤 H A at-mem run) known-perform (
@@ -319,7 +322,7 @@ module _ {M : Type 1} (𝓤 : URA M) (H : Heap 𝓤) (A : Atoms 𝓤) (W : Given
                   (fullShare & fullShare & fullShare & fullShare & fullShare & tt),
                   tt,
                   (lentAt (l .1 .0) δ₁ (x .lent .ike) & lentAt (l .1 .1 .0) δ₂ (x .lent .ipsec) & lentAt
-                      (l .1 .1 .1 .0) δ₃ (x .lent .policy) & lentAt (l .1 .1 .1 .1 .0) δ₄ (x .looked .window) & x
+                      (l .1 .1 .1 .0) δ₃ (x .lent .policies) & lentAt (l .1 .1 .1 .1 .0) δ₄ (x .looked .window) & x
                       .looked .s
                       .entry & lentAt (l .1 .1 .1 .1 .1 .0) δ₅ (x .lent .out) & tt),
                   ((vptr (l .1 .0) 0 ∷ []) & (sliceVal (l .1 .1 .0, 0) 128 ∷ []) & (vptr (l .1 .1 .1 .0) 0 ∷ []) &
@@ -334,7 +337,7 @@ module _ {M : Type 1} (𝓤 : URA M) (H : Heap 𝓤) (A : Atoms 𝓤) (W : Given
               o-vals (LL.tells O.the-type O′.the-laws) (λ r us. Unit {0}) (λ r us. factI 𝓤 (Unit {0}) _ tt)
               (λ o us _ o-is.
               ref-back ! tt ike-table (us .0) (λ ike-is. lowers ! 1 $ list-back ! tt ipsec-record 128 (us .1 .0)
-              (λ ipsec-is. lowers ! 2 $ ref-back ! tt policy-kept (us .1 .1 .0) (λ policy-is. lowers ! 3 $
+              (λ ipsec-is. lowers ! 2 $ ref-back ! tt both-policies (us .1 .1 .0) (λ policies-is. lowers ! 3 $
               shared-back ! tt octet 20480 (x .looked .window) (x .looked .window-is) $ lowers ! 4 $ plain-back ! $
               list-back ! tt octet 128 (us .1 .1 .1 .1 .1 .0) (λ out-is. lowers ! 5 $ all-back ! $
               lands-in ! refl (LL.lawful O.the-type O′.the-laws 𝓤 H A W .typed o _ o-is .0) $ rests ! En 9 refl $
@@ -344,8 +347,8 @@ module _ {M : Type 1} (𝓤 : URA M) (H : Heap 𝓤) (A : Atoms 𝓤) (W : Given
                   ike-is = ike-is;
                   ipsec = us .1 .0;
                   ipsec-is = ipsec-is;
-                  policy = us .1 .1 .0;
-                  policy-is = policy-is;
+                  policies = us .1 .1 .0;
+                  policies-is = policies-is;
                   out = us .1 .1 .1 .1 .1 .0;
                   out-is = out-is;
                 };
@@ -449,10 +452,10 @@ module _ {M : Type 1} (𝓤 : URA M) (H : Heap 𝓤) (A : Atoms 𝓤) (W : Given
         all-back ! $ lands-in ! refl (ipsec-lawful .typed ipsec _ ipsec-is .0) $ sets ! (of-opd ! (value ! refl)) refl
         (ipsec-lawful .typed ipsec _ ipsec-is .0) $
         no-arguments ! $ calls-all ! fm rules.ended (rules.clauses 𝓤 H A at-mem run) known-rules
-        ((tt, tt, tt, tt, tt), tt) (id⊢ 𝓤 _) (no-more !) (λ r. policy-kept .val r ∷ []) (policy-kept .tells)
-        (λ r ws. Unit {0}) (λ r ws. factI 𝓤 (Unit {0}) _ tt) (λ policy _ _ policy-is.
-        all-back ! $ lands-in ! refl (policy-lawful .typed policy _ policy-is .0) $
-        sets ! (of-opd ! (value ! refl)) refl (policy-lawful .typed policy _ policy-is .0) $
+        ((tt, tt, tt, tt, tt), tt) (id⊢ 𝓤 _) (no-more !) (λ r. both-policies .val r ∷ []) (both-policies .tells)
+        (λ r ws. Unit {0}) (λ r ws. factI 𝓤 (Unit {0}) _ tt) (λ policies _ _ policies-is.
+        all-back ! $ lands-in ! refl (policies-lawful .typed policies _ policies-is .0) $
+        sets ! (of-opd ! (value ! refl)) refl (policies-lawful .typed policies _ policies-is .0) $
         no-arguments ! $ calls-all ! fm blank.ended (blank.clauses 𝓤 H A at-mem run) known-blank
         ((tt, tt, tt, tt, tt), tt) (id⊢ 𝓤 _) (no-more !) (λ r. sight .val r ∷ []) (sight .tells) (λ r ws. Unit {0})
         (λ r ws. factI 𝓤 (Unit {0}) _ tt) (λ window _ _ window-is.
@@ -474,9 +477,9 @@ module _ {M : Type 1} (𝓤 : URA M) (H : Heap 𝓤) (A : Atoms 𝓤) (W : Given
             ike-is = ike-is;
             ipsec = ipsec;
             ipsec-is = ipsec-is;
-            policy =
-                policy;
-            policy-is = policy-is;
+            policies =
+                policies;
+            policies-is = policies-is;
             out = out;
             out-is = out-is;
           };
@@ -508,7 +511,7 @@ main-spec 𝓤 H 𝓜 𝓖 𝓡 =
     (cited 𝓤 H (Told 𝓤 H A ipsecs.ended (ipsecs.clauses 𝓤 H A (𝓜 .mem) (𝓡 .run))) 𝓜 𝓡 code.env ipsecs-def.name
     ipsecs-def.routine code.calls-empty·no-ipsecs (ipsecs-thm.met 𝓤 H 𝓜 𝓖 𝓡))
     (cited 𝓤 H (Told 𝓤 H A rules.ended (rules.clauses 𝓤 H A (𝓜 .mem) (𝓡 .run))) 𝓜 𝓡 code.env rules-def.name
-    rules-def.routine code.calls-empty·no-policy (rules-thm.met 𝓤 H 𝓜 𝓖 𝓡))
+    rules-def.routine code.calls-empty·no-policies (rules-thm.met 𝓤 H 𝓜 𝓖 𝓡))
     (cited 𝓤 H (Told 𝓤 H A blank.ended (blank.clauses 𝓤 H A (𝓜 .mem) (𝓡 .run))) 𝓜 𝓡 code.env blank-def.name
     blank-def.routine code.calls-empty·no-window (blank-thm.met 𝓤 H 𝓜 𝓖 𝓡))
     (cited 𝓤 H (Told 𝓤 H A room.ended (room.clauses 𝓤 H A (𝓜 .mem) (𝓡 .run))) 𝓜 𝓡 code.env room-def.name

@@ -19,5 +19,5 @@ pub(crate) struct EntryWritten {
     pub(crate) length: usize,
 }
 
-laid_out!(EntryRead, size 664, align 8, { number: 0, kind: 1, next: 8, slots: 16 });
+laid_out!(EntryRead, size 672, align 8, { number: 0, kind: 1, next: 8, slots: 16 });
 laid_out!(EntryWritten, size 16, align 8, { number: 0, length: 8 });

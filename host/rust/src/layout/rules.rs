@@ -19,7 +19,7 @@ pub struct Rule {
     pub destination_len: u8,
 }
 
-/// Up to [`RULES_MOST`] rules. The empty policy, [`Policy::EMPTY`], accepts nothing.
+/// Up to [`RULES_MOST`] rules, one operator's. The empty policy, [`Policy::EMPTY`], accepts nothing.
 #[repr(C)]
 #[derive(Debug, Clone, Copy, PartialEq, Eq)]
 pub struct Policy {

@@ -1,5 +1,5 @@
 //! The records that are lent to the library and changed in place, and what they are opened with.
-use super::{Address, Flag, Pair};
+use super::{Address, Flag, Operator, Pair};
 use crate::limits::{ADDRESSES_MOST, COOKIE_LEAST, COOKIE_MOST};
 
 /// What is agreed when an IKE record is opened, and with whom. It stays until the record is closed, and a
@@ -11,7 +11,9 @@ pub struct Agreed {
     pub mobike: Flag,
     /// Whether both ends sent CLONE_IKE_SA_SUPPORTED.
     pub cloning: Flag,
-    /// The host's number for the peer, one for all IKE SAs with it; any number, 0 too.
+    /// Whose IKE SA it is; the IPsec records that it owns are this operator's too.
+    pub operator: Operator,
+    /// The host's number for the peer, one for all IKE SAs of the operator with it; any number, 0 too.
     pub peer: u32,
 }
 
@@ -81,7 +83,7 @@ pub struct Opening {
     pub child: u32,
 }
 
-laid_out!(Agreed, size 8, align 4, { mobike: 0, cloning: 1, peer: 4 });
+laid_out!(Agreed, size 8, align 4, { mobike: 0, cloning: 1, operator: 2, peer: 4 });
 laid_out!(PendingCheck, size 72, align 4, { length: 0, octets: 1, id: 68 });
 laid_out!(IkeRecord, size 432, align 8, {
     spi: 0, agreed: 8, pair: 16, update_mark: 56, list_mark: 64, count: 72, addresses: 74, unknown: 348,
@@ -91,8 +93,9 @@ laid_out!(IpsecRecord, size 56, align 8, { spi: 0, owner: 8, pair: 16 });
 laid_out!(Opening, size 64, align 8, { spi: 0, agreed: 8, pair: 16, child: 56 });
 
 impl Agreed {
-    /// Nothing is agreed, as in a place that is free.
-    pub const NONE: Agreed = Agreed { mobike: Flag::NO, cloning: Flag::NO, peer: 0 };
+    /// Nothing is agreed, as in a place that is free; the operator is [`A`](Operator::A).
+    pub const NONE: Agreed =
+        Agreed { mobike: Flag::NO, cloning: Flag::NO, operator: Operator::A, peer: 0 };
 }
 
 impl PendingCheck {

@@ -2,10 +2,10 @@
 use super::from_slots::from_slots;
 use super::into_slots::into_slots;
 use super::{read_slots, write_slots};
-use crate::layout::{Opening, Policy};
+use crate::layout::{Opening, Operator, Policy};
 use crate::{CheckResponse, CloneRequest, Number, Request};
 
-/// An entry of a trace: a call on a gateway's tables or its policy, with what it is given.
+/// An entry of a trace: a call on a gateway's tables or its policies, with what it is given.
 #[derive(Debug, Clone, Copy, PartialEq, Eq)]
 // A policy is the largest by far, and stands here so that reading an entry allocates nothing.
 #[allow(clippy::large_enum_variant)]
@@ -18,21 +18,32 @@ pub enum Entry<'a> {
         spi: u32,
         /// The SPI of the IKE record that it is to belong to.
         owner: u64,
+        /// The operator that the call names.
+        operator: Operator,
     },
     /// As [`close_ike`](crate::close_ike).
     CloseIke {
         /// The SPI of the IKE record.
         spi: u64,
+        /// The operator that the call names.
+        operator: Operator,
     },
     /// As [`close_ipsec`](crate::close_ipsec).
     CloseIpsec {
         /// The SPI of the IPsec record.
         spi: u32,
+        /// The operator that the call names.
+        operator: Operator,
     },
     /// As [`handle`](crate::handle).
     Request(Request<'a>),
-    /// As [`set_policy`](crate::set_policy), with the first so many of these rules.
-    Policy(Policy),
+    /// As [`set_policy`](crate::set_policy).
+    Policy {
+        /// The rules, and how many of them.
+        policy: Policy,
+        /// The operator that the call names.
+        operator: Operator,
+    },
     /// As [`check`](crate::check).
     CheckResponse(CheckResponse<'a>),
     /// As [`clone_ike`](crate::clone_ike).
@@ -41,6 +52,8 @@ pub enum Entry<'a> {
     MarkDeletion {
         /// The SPI of the IKE record.
         spi: u64,
+        /// The operator that the call names.
+        operator: Operator,
     },
 }
 
@@ -59,8 +72,9 @@ pub fn read_entry(trace: &[u8], at: usize) -> Result<(Entry<'_>, usize), Number>
 /// were. [`ENTRY_MOST`](crate::limits::ENTRY_MOST) octets are room enough for any entry. Of what is agreed,
 /// yes is written as 1; rules past a policy's count aren't looked at.
 ///
-/// Numbers, in the order of the checks: [`TooLarge`](Number::TooLarge) for a string over 4,096 octets or a
-/// policy of over 16 rules, [`OutputTooShort`](Number::OutputTooShort). A refusal writes nothing.
+/// Numbers, in the order of the checks: [`TooLarge`](Number::TooLarge) for a string over 4,096 octets, a
+/// policy of over 16 rules or an operator that is neither, [`OutputTooShort`](Number::OutputTooShort). A
+/// refusal writes nothing.
 pub fn write_entry(entry: &Entry<'_>, out: &mut [u8]) -> Result<usize, Number> {
     let (kind, slots, source) = into_slots(entry);
     write_slots(kind, &slots, &source, out)

@@ -1,6 +1,7 @@
 //! What the slots of an entry say.
+use super::slots::POLICY_OPERATOR;
 use super::{Entry, Kind, Slots};
-use crate::layout::{Agreed, Opening, Pair, Policy, Rule};
+use crate::layout::{Agreed, Opening, Operator, Pair, Policy, Rule};
 use crate::limits::ADDRESS_OCTETS;
 use crate::{CheckResponse, CloneRequest, Request};
 
@@ -10,14 +11,23 @@ pub(super) fn from_slots<'a>(kind: Kind, slots: &Slots, trace: &'a [u8]) -> Opti
     let mut said = Said { slots: slots.iter(), trace };
     Some(match kind {
         Kind::OpenBoth => Entry::OpenBoth(said.opening()),
-        Kind::AddIpsec => Entry::AddIpsec { spi: said.number() as u32, owner: said.number() },
-        Kind::CloseIke => Entry::CloseIke { spi: said.number() },
-        Kind::CloseIpsec => Entry::CloseIpsec { spi: said.number() as u32 },
+        Kind::AddIpsec => Entry::AddIpsec {
+            spi: said.number() as u32,
+            owner: said.number(),
+            operator: said.operator(),
+        },
+        Kind::CloseIke => Entry::CloseIke { spi: said.number(), operator: said.operator() },
+        Kind::CloseIpsec => {
+            Entry::CloseIpsec { spi: said.number() as u32, operator: said.operator() }
+        }
         Kind::Request => Entry::Request(said.request()),
-        Kind::Policy => Entry::Policy(said.policy()),
+        Kind::Policy => {
+            let operator = Operator::from(slots[POLICY_OPERATOR] as u8);
+            Entry::Policy { policy: said.policy(), operator }
+        }
         Kind::CheckResponse => Entry::CheckResponse(said.check_response()),
         Kind::Clone => Entry::Clone(said.clone_request()),
-        Kind::MarkDeletion => Entry::MarkDeletion { spi: said.number() },
+        Kind::MarkDeletion => Entry::MarkDeletion { spi: said.number(), operator: said.operator() },
         Kind::Other(_) => return None,
     })
 }
@@ -31,6 +41,10 @@ struct Said<'a, 'b> {
 impl<'a> Said<'a, '_> {
     fn number(&mut self) -> u64 {
         self.slots.next().copied().unwrap_or_default()
+    }
+
+    fn operator(&mut self) -> Operator {
+        Operator::from(self.number() as u8)
     }
 
     fn part(&self, start: u64, length: u64) -> &'a [u8] {
@@ -64,7 +78,8 @@ impl<'a> Said<'a, '_> {
         let (spi, mobike) = (self.number(), self.number() != 0);
         let (pair, child) = (self.pair(), self.number() as u32);
         let (peer, cloning) = (self.number() as u32, self.number() != 0);
-        let agreed = Agreed { mobike: mobike.into(), cloning: cloning.into(), peer };
+        let operator = self.operator();
+        let agreed = Agreed { mobike: mobike.into(), cloning: cloning.into(), operator, peer };
         Opening { spi, agreed, pair, child }
     }
 
@@ -79,6 +94,7 @@ impl<'a> Said<'a, '_> {
             body: self.string(),
             cookie: self.string(),
             check_id: self.number() as u32,
+            operator: self.operator(),
         }
     }
 
@@ -88,6 +104,7 @@ impl<'a> Said<'a, '_> {
             id: self.number() as u32,
             first: self.number() as u8,
             body: self.string(),
+            operator: self.operator(),
         }
     }
 
@@ -97,6 +114,7 @@ impl<'a> Said<'a, '_> {
             new_spi: self.number(),
             first: self.number() as u8,
             body: self.string(),
+            operator: self.operator(),
         }
     }
 

@@ -1,6 +1,7 @@
 //! An entry as slots, and the octets that they point into.
+use super::slots::POLICY_OPERATOR;
 use super::{Entry, Kind, Slots};
-use crate::layout::{Opening, Pair, Policy, Rule};
+use crate::layout::{Opening, Operator, Pair, Policy, Rule};
 use crate::limits::{ADDRESS_OCTETS, ENTRY_SLOTS};
 use crate::{CheckResponse, CloneRequest, Request};
 
@@ -9,25 +10,29 @@ pub(super) fn into_slots(entry: &Entry<'_>) -> (Kind, Slots, Vec<u8>) {
     let mut told = Told { slots: [0; ENTRY_SLOTS], next: 0, source: Vec::new() };
     let kind = match entry {
         Entry::OpenBoth(opening) => told.opening(opening),
-        Entry::AddIpsec { spi, owner } => {
+        Entry::AddIpsec { spi, owner, operator } => {
             told.number(*spi);
             told.number(*owner);
+            told.operator(*operator);
             Kind::AddIpsec
         }
-        Entry::CloseIke { spi } => {
+        Entry::CloseIke { spi, operator } => {
             told.number(*spi);
+            told.operator(*operator);
             Kind::CloseIke
         }
-        Entry::CloseIpsec { spi } => {
+        Entry::CloseIpsec { spi, operator } => {
             told.number(*spi);
+            told.operator(*operator);
             Kind::CloseIpsec
         }
         Entry::Request(request) => told.request(request),
-        Entry::Policy(policy) => told.policy(policy),
+        Entry::Policy { policy, operator } => told.policy(policy, *operator),
         Entry::CheckResponse(response) => told.check_response(response),
         Entry::Clone(request) => told.clone_request(request),
-        Entry::MarkDeletion { spi } => {
+        Entry::MarkDeletion { spi, operator } => {
             told.number(*spi);
+            told.operator(*operator);
             Kind::MarkDeletion
         }
     };
@@ -47,6 +52,10 @@ impl Told {
             *slot = number.into();
         }
         self.next += 1;
+    }
+
+    fn operator(&mut self, operator: Operator) {
+        self.number(u8::from(operator));
     }
 
     fn address(&mut self, octets: &[u8; ADDRESS_OCTETS]) {
@@ -75,6 +84,7 @@ impl Told {
         self.number(opening.child);
         self.number(opening.agreed.peer);
         self.number(opening.agreed.cloning.is_set());
+        self.operator(opening.agreed.operator);
         Kind::OpenBoth
     }
 
@@ -88,6 +98,7 @@ impl Told {
         self.string(request.body);
         self.string(request.cookie);
         self.number(request.check_id);
+        self.operator(request.operator);
         Kind::Request
     }
 
@@ -96,6 +107,7 @@ impl Told {
         self.number(response.id);
         self.number(response.first);
         self.string(response.body);
+        self.operator(response.operator);
         Kind::CheckResponse
     }
 
@@ -104,6 +116,7 @@ impl Told {
         self.number(request.new_spi);
         self.number(request.first);
         self.string(request.body);
+        self.operator(request.operator);
         Kind::Clone
     }
 
@@ -115,11 +128,13 @@ impl Told {
         self.number(rule.destination_len);
     }
 
-    fn policy(&mut self, policy: &Policy) -> Kind {
+    fn policy(&mut self, policy: &Policy, operator: Operator) -> Kind {
         self.number(policy.count);
         for rule in policy.rules.iter().take(usize::from(policy.count)) {
             self.rule(rule);
         }
+        self.next = POLICY_OPERATOR;
+        self.operator(operator);
         Kind::Policy
     }
 }

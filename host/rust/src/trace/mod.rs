@@ -4,13 +4,14 @@
 //!
 //! ```
 //! use unmavreth::trace::{read_entry, write_entry, Entry};
-//! use unmavreth::Number;
+//! use unmavreth::{Number, Operator};
 //!
-//! let mut out = [0; 3];
-//! assert_eq!(write_entry(&Entry::CloseIke { spi: 7 }, &mut out), Ok(2));
-//! assert_eq!(out, [2, 7, 0]);
-//! assert_eq!(read_entry(&out, 0), Ok((Entry::CloseIke { spi: 7 }, 2)));
-//! assert_eq!(read_entry(&out[..1], 0), Err(Number::Cut));
+//! let close = Entry::CloseIke { spi: 7, operator: Operator::A };
+//! let mut out = [9; 4];
+//! assert_eq!(write_entry(&close, &mut out), Ok(3));
+//! assert_eq!(out, [2, 7, 0, 9]);
+//! assert_eq!(read_entry(&out, 0), Ok((close, 3)));
+//! assert_eq!(read_entry(&out[..2], 0), Err(Number::Cut));
 //! ```
 mod entry;
 mod from_slots;

@@ -4,8 +4,11 @@ use crate::{raw, Number};
 
 /// What an entry says, in the order of its fields: a number in one slot; an address in one, its offset in a
 /// lent buffer; a string in two, its offset there and its length; a list in one for its count and then those
-/// of its items. Of an entry that was read the buffer is the trace itself.
+/// of sixteen items, however many it has. Of an entry that was read the buffer is the trace itself.
 pub type Slots = [u64; ENTRY_SLOTS];
+
+/// The slot of a policy's operator, behind all sixteen rules.
+pub(super) const POLICY_OPERATOR: usize = ENTRY_SLOTS - 1;
 
 /// The kinds of entries. Any octet has a meaning here, so that looking at one never fails.
 #[derive(Debug, Clone, Copy, PartialEq, Eq)]

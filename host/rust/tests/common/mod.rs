@@ -1,8 +1,12 @@
 //! Payload chains, addresses and tables that the tests share.
 #![allow(dead_code)]
 use unmavreth::{
-    Agreed, CheckResponse, CloneRequest, Flag, Gateway, Number, Opening, Pair, Request, Rule,
+    Agreed, CheckResponse, CloneRequest, Flag, Gateway, Number, Opening, Operator, Pair, Request,
+    Rule,
 };
+
+pub const A: Operator = Operator::A;
+pub const B: Operator = Operator::B;
 
 pub const NAT_SOURCE: u16 = 16388;
 pub const NAT_DESTINATION: u16 = 16389;
@@ -21,7 +25,7 @@ pub const RULE: Rule = Rule::ipv4(([198, 51, 100, 0], 24), ([192, 0, 2, 0], 24))
 pub const COOKIE: [u8; 9] = [1, 2, 3, 4, 5, 6, 7, 8, 9];
 pub const AGREED: Agreed = Agreed { mobike: Flag::YES, ..Agreed::NONE };
 
-/// An opening with nothing wrong in it, beside the records of `gateway`.
+/// An opening by A with nothing wrong in it, beside the records of `gateway`.
 pub const OPENING: Opening = Opening { spi: 9, agreed: AGREED, pair: NEW, child: 90 };
 
 /// What is lent for a check: its cookie, and the message ID of the gateway's next request.
@@ -55,14 +59,15 @@ pub fn chain(payloads: &[Payload]) -> (u8, Vec<u8>) {
 }
 
 /// One IKE record, with SPI 7 and the old pair, that agreed on MOBIKE, and an IPsec record of it, with
-/// SPI 70; another IKE record, with SPI 8, that didn't agree, and its IPsec record 80; and one rule.
+/// SPI 70; another IKE record, with SPI 8, that didn't agree, and its IPsec record 80; and one rule. All
+/// of it is A's.
 pub fn gateway() -> Gateway {
     let mut gateway = Gateway::new();
     let first = Opening { spi: 7, agreed: AGREED, pair: OLD, child: 70 };
     assert_eq!(gateway.open(&first), Number::Done);
     let other = Opening { spi: 8, agreed: Agreed::NONE, pair: OLD, child: 80 };
     assert_eq!(gateway.open(&other), Number::Done);
-    assert_eq!(gateway.set_policy(&[RULE]), Number::Done);
+    assert_eq!(gateway.set_policy(&[RULE], A), Number::Done);
     gateway
 }
 
@@ -79,15 +84,16 @@ pub fn request<'a>((first, body): &'a (u8, Vec<u8>)) -> Request<'a> {
         body,
         cookie: &CHECK,
         check_id: CHECK_ID,
+        operator: A,
     }
 }
 
 /// The response to the check of the first record.
 pub fn response<'a>((first, body): &'a (u8, Vec<u8>)) -> CheckResponse<'a> {
-    CheckResponse { spi: 7, id: CHECK_ID, first: *first, body }
+    CheckResponse { spi: 7, id: CHECK_ID, first: *first, body, operator: A }
 }
 
 /// A request to clone the first record, as SPI 9.
 pub fn clone_request<'a>((first, body): &'a (u8, Vec<u8>)) -> CloneRequest<'a> {
-    CloneRequest { spi: 7, new_spi: 9, first: *first, body }
+    CloneRequest { spi: 7, new_spi: 9, first: *first, body, operator: A }
 }

@@ -1,4 +1,5 @@
 // The check responses every run begins with: each check, cookie, ID, outcome, record and list.
+use super::super::operators::{of_ike, MORE_OCTETS, OCTETS};
 use super::super::reader::draft::{sequences, ChainDraft, Draft};
 use super::super::reader::{self, listed as chains};
 use super::super::requests::listed::setting::{self, unknown, unknown_critical};
@@ -13,7 +14,7 @@ use crate::reader::MAX_BODY;
 use crate::tables::{IkeRecord, Tables, IKE_PLACES, IPSEC_PLACES};
 
 pub fn all() -> Vec<Case> {
-    [
+    let mut cases = [
         together(),
         kept_lengths(),
         cookies(),
@@ -29,7 +30,11 @@ pub fn all() -> Vec<Case> {
         each_outcome_on(&tallies()),
         bodies(),
     ]
-    .concat()
+    .concat();
+    for Case { tables, response } in &mut cases {
+        response.operator = of_ike(tables, response.spi).unwrap_or(0);
+    }
+    [operators(), cases].concat()
 }
 
 /// The ID of our request.
@@ -62,7 +67,8 @@ fn notify(notify_type: u16) -> Draft {
 
 fn response(payloads: &[Draft]) -> CheckResponse {
     let chain = ChainDraft::of(payloads.to_vec()).assemble();
-    CheckResponse { spi: setting::spi(), id: ID, first: chain.first, body: chain.body }
+    let (first, body) = (chain.first, chain.body);
+    CheckResponse { spi: setting::spi(), id: ID, first, body, operator: 0 }
 }
 
 /// Accepted, close by another cookie and by none, each sort of error, 62, 7 and 14; all with something to tally.
@@ -91,6 +97,46 @@ fn each_outcome_on(tables: &[Tables]) -> Vec<Case> {
         each_outcome().into_iter().map(move |response| Case { tables: tables.clone(), response })
     };
     tables.iter().flat_map(on).collect()
+}
+
+/// Octets that a call may give and that its record may have; with some, every outcome, a body too long and a list of
+/// another length; and two records of the SPI, each of either operator or of neither.
+fn operators() -> Vec<Case> {
+    let mut cases = Vec::new();
+    for octet in MORE_OCTETS {
+        for (its, operator) in [(0, octet), (octet, octet), (octet, 1)] {
+            let tables = tables_with(|record| record.agreed.operator = its);
+            let response = CheckResponse { operator, ..response(&[cookie(&sent())]) };
+            cases.push(Case { tables, response });
+        }
+    }
+    for its in OCTETS {
+        for operator in OCTETS {
+            let tables = tables_with(|record| record.agreed.operator = its);
+            let too_long = CheckResponse { body: vec![0; MAX_BODY + 1], ..response(&[]) };
+            for response in each_outcome().into_iter().chain([too_long]) {
+                let response = CheckResponse { operator, ..response };
+                let short = tables.with_ipsec_length(127);
+                cases.push(Case { tables: tables.clone(), response: response.clone() });
+                cases.push(Case { tables: short, response });
+            }
+            for twin in [0, 20] {
+                let mut tables = tables.clone();
+                let meant = tables.ike.records[setting::PLACE];
+                let record = &mut tables.ike_mut()[twin];
+                (record.spi, record.check, record.agreed.mobike) = (meant.spi, meant.check, 1);
+                for of_twin in [0, 1, 2] {
+                    tables.ike_mut()[twin].agreed.operator = of_twin;
+                    let outcomes = each_outcome().into_iter().step_by(3);
+                    cases.extend(outcomes.map(|response| Case {
+                        tables: tables.clone(),
+                        response: CheckResponse { operator, ..response },
+                    }));
+                }
+            }
+        }
+    }
+    cases
 }
 
 /// Every way to pass or fail each check with every one of the others.

@@ -1,5 +1,6 @@
 // Random responses to checks, drawn to suit the one that is pending in the record that their SPI means.
 use super::super::assess::responses::{self, answering};
+use super::super::operators;
 use super::super::reader::draft::{ChainDraft, Draft};
 use super::super::tables::pending;
 use crate::check::CheckResponse;
@@ -29,7 +30,8 @@ pub fn response(rng: &mut Rng, tables: &Tables, spi: u64) -> CheckResponse {
     let other = pending::id(rng);
     let id = if rng.one_in(8) { other } else { kept.unwrap_or(other) };
     let case = responses::to(rng, sent);
-    CheckResponse { spi, id, first: case.first, body: case.body }
+    let operator = operators::drawn(rng, operators::of_ike(tables, spi));
+    CheckResponse { spi, id, first: case.first, body: case.body, operator }
 }
 
 /// The same, to that request, and the chain has no flaw.
@@ -37,7 +39,8 @@ pub fn plain_response(rng: &mut Rng, tables: &Tables, spi: u64) -> CheckResponse
     let (sent, kept) = pending_in(tables, spi);
     let chain = answering(rng, &sent).assemble();
     let id = kept.unwrap_or_else(|| pending::id(rng));
-    CheckResponse { spi, id, first: chain.first, body: chain.body }
+    let operator = operators::of_ike(tables, spi).unwrap_or_else(|| operators::one(rng));
+    CheckResponse { spi, id, first: chain.first, body: chain.body, operator }
 }
 
 /// The same, with the cookie as it was sent and nothing else.
@@ -46,5 +49,6 @@ pub fn right_response(rng: &mut Rng, tables: &Tables, spi: u64) -> CheckResponse
     let cookie = Draft::notify(NotifyType::COOKIE2, &sent);
     let chain = ChainDraft::of(if sent.is_empty() { vec![] } else { vec![cookie] }).assemble();
     let id = kept.unwrap_or_else(|| pending::id(rng));
-    CheckResponse { spi, id, first: chain.first, body: chain.body }
+    let operator = operators::of_ike(tables, spi).unwrap_or_else(|| operators::one(rng));
+    CheckResponse { spi, id, first: chain.first, body: chain.body, operator }
 }

@@ -1,4 +1,5 @@
 // The requests to clone that every run begins with: each check, chain, agreement, peer, place and SPI.
+use super::super::operators::{divide, of_ike, MORE_OCTETS};
 use super::super::reader::draft::{sequences, ChainDraft, Draft};
 use super::super::reader::{self, listed as chains};
 use super::super::requests::listed::setting::{cookie, unknown, unknown_critical, update};
@@ -13,7 +14,7 @@ use crate::reader::MAX_BODY;
 use crate::tables::{IkeRecord, Tables, IKE_PLACES};
 
 pub fn all() -> Vec<Case> {
-    [
+    let mut cases = [
         together(),
         agreements(),
         marks(),
@@ -30,10 +31,14 @@ pub fn all() -> Vec<Case> {
         body_lengths(),
         listed_chains(),
     ]
-    .concat()
+    .concat();
+    for Case { tables, request } in &mut cases {
+        request.operator = of_ike(tables, request.spi).unwrap_or(0);
+    }
+    [octets(), shares(), of_two_operators(), cases].concat()
 }
 
-/// The place of the record that is meant; place 0 has an SPI with the same low 32 bits.
+/// The place of the record that is meant, which is A's; place 0 has an SPI with the same low 32 bits.
 const PLACE: usize = 1;
 
 fn spi() -> u64 {
@@ -66,7 +71,7 @@ fn supported() -> Draft {
 fn request(payloads: &[Draft]) -> CloneRequest {
     let reader::Case { first, body } = ChainDraft::of(payloads.to_vec()).assemble();
     let output = (0..=255).chain(0..44).collect();
-    CloneRequest { spi: spi(), new_spi: NEW_IKE, first, body, output }
+    CloneRequest { spi: spi(), new_spi: NEW_IKE, first, body, operator: 0, output }
 }
 
 /// What a rekey has, and something to tally.
@@ -123,10 +128,15 @@ fn choices() -> Vec<Vec<Choice>> {
     ]
 }
 
-/// Gives these places the peer of the record that is meant.
+/// Gives these places the peer and the operator of the record that is meant.
 fn has_peer(records: &mut [IkeRecord; IKE_PLACES], places: &[usize]) {
-    let peer = records[PLACE].agreed.peer;
-    places.iter().for_each(|&place| records[place].agreed.peer = peer);
+    places.iter().for_each(|&place| has_peer_of(records, place, PLACE));
+}
+
+/// Gives a place the peer and the operator of another one.
+fn has_peer_of(records: &mut [IkeRecord; IKE_PLACES], place: usize, of: usize) {
+    let Agreed { peer, operator, .. } = records[of].agreed;
+    (records[place].agreed.peer, records[place].agreed.operator) = (peer, operator);
 }
 
 /// Every choice of each with every one of the others.
@@ -149,11 +159,10 @@ fn together() -> Vec<Case> {
 fn agreements() -> Vec<Case> {
     let with = |mobike, cloning| {
         case_on(tables_with(|records| {
-            let peer = records[PLACE].agreed.peer;
-            records[PLACE].agreed = Agreed { mobike, cloning, peer };
+            records[PLACE].agreed = Agreed { mobike, cloning, ..records[PLACE].agreed };
         }))
     };
-    let of_octet = |octet| [with(octet, 1), with(octet, 255), with(1, octet), with(0, octet)];
+    let of_octet = |octet| [with(octet, 255), with(1, octet), with(0, octet)];
     (0..=255).flat_map(of_octet).collect()
 }
 
@@ -224,7 +233,7 @@ fn peers_alike() -> Vec<Case> {
                 cases.push(case_on(tables_with(|records| {
                     records[PLACE].agreed.peer = own;
                     for record in &mut records[8..8 + count] {
-                        record.agreed.peer = other;
+                        (record.agreed.peer, record.agreed.operator) = (other, 0);
                     }
                 })));
             }
@@ -293,10 +302,9 @@ fn twins() -> Vec<Case> {
             for (place, bit) in [(PLACE, 0), (twin, 3)] {
                 records[place].agreed.cloning = u8::from(has(bit));
                 records[place].deleting = u8::from(has(bit + 1));
-                let peer = records[place].agreed.peer;
                 let others = 10 + bit as usize..10 + bit as usize + 3;
                 let others = others.filter(|_| has(bit + 2));
-                others.for_each(|other| records[other].agreed.peer = peer);
+                others.for_each(|other| has_peer_of(records, other, place));
             }
             cases.push(case_on(tables));
         }
@@ -370,6 +378,115 @@ fn outputs() -> Vec<Case> {
             for request in each_outcome() {
                 let request = CloneRequest { output: vec![0xa5; length], ..request };
                 cases.push(Case { tables: tables.clone(), request });
+            }
+        }
+    }
+    cases
+}
+
+/// Octets that a call may give and that its record may have, some with every outcome.
+fn octets() -> Vec<Case> {
+    let mut cases = Vec::new();
+    let mut add = |its: u8, operator: u8, requests: Vec<CloneRequest>| {
+        let tables = tables_with(|records| records[PLACE].agreed.operator = its);
+        let case = |request| {
+            let request = CloneRequest { operator, ..request };
+            Case { tables: tables.clone(), request }
+        };
+        cases.extend(requests.into_iter().map(case));
+    };
+    for octet in MORE_OCTETS {
+        add(0, octet, vec![cloning()]);
+        add(octet, octet, vec![cloning()]);
+        add(octet, 0, vec![cloning()]);
+    }
+    for its in [0, 1, 2] {
+        for operator in [0, 1, 2] {
+            add(its, operator, each_outcome());
+            let short = CloneRequest { output: vec![0xa5; 127], ..cloning() };
+            add(its, operator, vec![CloneRequest { new_spi: 0, ..cloning() }, short]);
+        }
+    }
+    cases
+}
+
+/// So many records of A and so many of B, also in free places and of neither, with the peer's limit reached or not and
+/// the new SPI in use or not.
+fn shares() -> Vec<Case> {
+    let mut cases = Vec::new();
+    for of_a in [1, 12, 19, 20, 21, 22, 32] {
+        for free in
+            [&[][..], &[0], &[31], &[19, 20], &[1, 2, 3, 4, 5, 6, 7, 8, 9, 10, 11], &[2, 30]]
+        {
+            let mut tables = contents::with_free(free, &[]);
+            divide(tables.ike_mut(), of_a);
+            tables.ike_mut().iter_mut().for_each(|record| record.deleting = 0);
+            let mut of_neither = tables.clone();
+            for (place, record) in of_neither.ike_mut().iter_mut().enumerate() {
+                if place % 5 == 4 {
+                    record.agreed.operator = 2 + place as u8;
+                }
+            }
+            for (place, operator) in [(18, 0), (31, 1), (0, 0)] {
+                for new_spi in [NEW_IKE, spis::ike(30)] {
+                    for tables in [&tables, &of_neither] {
+                        let request =
+                            CloneRequest { spi: spis::ike(place), new_spi, operator, ..cloning() };
+                        cases.push(Case { tables: tables.clone(), request });
+                    }
+                }
+            }
+            let many = {
+                let mut tables = tables.clone();
+                let peer = tables.ike.records[18].agreed.peer;
+                tables.ike_mut()[12..18].iter_mut().for_each(|it| it.agreed.peer = peer);
+                tables
+            };
+            let request = CloneRequest { spi: spis::ike(18), ..cloning() };
+            for (operator, new_spi) in [(0, NEW_IKE), (1, NEW_IKE), (0, spis::ike(30))] {
+                let request = CloneRequest { operator, new_spi, ..request.clone() };
+                cases.push(Case { tables: many.clone(), request });
+            }
+        }
+    }
+    cases
+}
+
+/// Peers with records of both operators; new SPIs that the other operator has; and two records of the SPI, each of
+/// either or of neither.
+fn of_two_operators() -> Vec<Case> {
+    let mut cases = Vec::new();
+    for own in 0..=4 {
+        for others in 0..=5 {
+            let tables = tables_with(|records| {
+                has_peer(records, &(8..8 + own).collect::<Vec<_>>());
+                for place in 14..14 + others {
+                    has_peer(records, &[place]);
+                    records[place].agreed.operator = if place % 3 == 0 { 7 } else { 1 };
+                }
+            });
+            cases.push(case_on(tables));
+        }
+    }
+    for place in 0..IKE_PLACES {
+        for operator in [0, 1, 9] {
+            let tables = tables_with(|records| records[place].agreed.operator = operator);
+            let request = CloneRequest { new_spi: spis::ike(place), ..cloning() };
+            cases.push(Case { tables, request });
+        }
+    }
+    for twin in [0, 2, IKE_PLACES - 1] {
+        for own in [0, 1, 2] {
+            for its in [0, 1, 2] {
+                let tables = tables_with(|records| {
+                    (records[twin].spi, records[twin].deleting) = (spi(), 0);
+                    records[PLACE].agreed.operator = own;
+                    records[twin].agreed.operator = its;
+                });
+                for operator in [0, 1, 2] {
+                    let request = CloneRequest { operator, ..cloning() };
+                    cases.push(Case { tables: tables.clone(), request });
+                }
             }
         }
     }
@@ -487,7 +604,7 @@ fn listed_chains() -> Vec<Case> {
     for (number, reader::Case { first, body }) in chains::all().into_iter().enumerate() {
         let behind = [&[first, 0, 0, 8, 0, 0, 0x40, 0x31][..], &body].concat();
         cases.push(case(CloneRequest { first: NOTIFY, body: behind, ..cloning() }));
-        if number % 4 == 0 {
+        if number % 8 == 0 {
             cases.push(case(CloneRequest { first, body, ..cloning() }));
         }
     }

@@ -43,13 +43,14 @@ fn random(rng: &mut Rng) -> Case {
 #[cfg(test)]
 mod tests {
     use super::*;
+    use crate::agreed::Agreed;
     use crate::cases::seeded::met;
     use crate::cloning::clone;
     use crate::rules::Plain;
     use crate::tables::{find, IkeRecord, Record};
     use std::collections::BTreeMap;
 
-    const NUMBERS: [u8; 16] = [0, 1, 2, 3, 4, 40, 61, 62, 63, 64, 65, 7, 44, 41, 42, 11];
+    const NUMBERS: [u8; 17] = [0, 1, 2, 3, 4, 40, 61, 62, 63, 64, 65, 7, 44, 41, 42, 11, 43];
 
     fn number(Case { mut tables, request }: Case) -> u8 {
         clone(&request, &mut tables, &Plain).reply.number
@@ -75,8 +76,10 @@ mod tests {
         let met = met::answers(5_000, |case: Case| {
             let records = case.tables.ike.records;
             let place = find(&records, case.request.spi, &Plain)?;
-            let peer = records[place].agreed.peer;
-            let is_its = |it: &&IkeRecord| it.is_in_use() && it.agreed.peer == peer;
+            let Agreed { peer, operator, .. } = records[place].agreed;
+            let is_its = |it: &&IkeRecord| {
+                it.is_in_use() && (it.agreed.peer, it.agreed.operator) == (peer, operator)
+            };
             let count = records.iter().filter(is_its).count();
             Some((count, number(case)))
         });

@@ -1,9 +1,12 @@
 // Random requests to clone, and tables changed so that they may be done or come about one refusal.
+use super::super::operators;
 use super::super::reader::draft::{ChainDraft, Draft};
 use super::super::reader::{self, atoms, damage::Damage, mutation};
 use super::super::tables::{agreements, scripts, spis};
+use crate::agreed::Agreed;
 use crate::cloning::CloneRequest;
 use crate::notify::NotifyType;
+use crate::operator::other;
 use crate::reader::MAX_BODY;
 use crate::request::LEAST_OUTPUT;
 use crate::rng::Rng;
@@ -31,10 +34,11 @@ pub fn suit(rng: &mut Rng, tables: &mut Tables, spi: u64) {
     }
 }
 
-/// Gives the peer of this record 1 to 6 records in all, as far as there are others, and some free places its number.
+/// Gives the peer of this record 1 to 6 records of its operator in all, as far as there are others, and some of the
+/// other operator's and some free places its number.
 fn give_peer(rng: &mut Rng, tables: &mut Tables, meant: usize) {
     let records = tables.ike_mut();
-    let peer = records[meant].agreed.peer;
+    let Agreed { peer, operator, .. } = records[meant].agreed;
     let mut others: Vec<usize> = (0..IKE_PLACES).filter(|&place| place != meant).collect();
     rng.shuffle(&mut others);
     let mut left = rng.pick(&[0, 1, 2, 2, 2, 3, 3, 3, 4, 5]);
@@ -43,6 +47,12 @@ fn give_peer(rng: &mut Rng, tables: &mut Tables, meant: usize) {
         let is_its = if record.is_in_use() { left > 0 } else { rng.one_in(3) };
         left -= usize::from(is_its && record.is_in_use());
         record.agreed.peer = if is_its { peer } else { peer ^ (1 << rng.below(32)) };
+        if is_its {
+            record.agreed.operator = operator;
+        } else if rng.one_in(6) {
+            // Of the same peer, but the other operator's.
+            (record.agreed.peer, record.agreed.operator) = (peer, other(operator));
+        }
     }
 }
 
@@ -50,14 +60,16 @@ fn give_peer(rng: &mut Rng, tables: &mut Tables, meant: usize) {
 pub fn request(rng: &mut Rng, tables: &Tables, spi: u64) -> CloneRequest {
     let reader::Case { first, body } = chain(rng);
     let (new_spi, output) = (new_spi(rng, tables, spi), output(rng));
-    CloneRequest { spi, new_spi, first, body, output }
+    let operator = operators::drawn(rng, operators::of_ike(tables, spi));
+    CloneRequest { spi, new_spi, first, body, operator, output }
 }
 
 /// One in which nothing can be refused but by the tables.
 pub fn plain_request(rng: &mut Rng, tables: &Tables, spi: u64) -> CloneRequest {
     let reader::Case { first, body } = asking(rng, 1).assemble();
     let new_spi = new_spi(rng, tables, spi).max(1);
-    CloneRequest { spi, new_spi, first, body, output: rng.octets(LEAST_OUTPUT) }
+    let operator = operators::of_ike(tables, spi).unwrap_or_else(|| operators::one(rng));
+    CloneRequest { spi, new_spi, first, body, operator, output: rng.octets(LEAST_OUTPUT) }
 }
 
 /// Mostly one that is hardly in use; else that of a record, the original's own, one of few, or 0.

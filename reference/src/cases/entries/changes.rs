@@ -7,32 +7,47 @@ use crate::trace::fields::{Field, MOST_OCTETS};
 /// The numbers of an entry, rules past the count too.
 pub fn numbers(entry: &mut Entry) -> Vec<(Field, &mut u64)> {
     match entry {
-        Entry::OpenBoth(Opening { spi, agreed, pair, child, peer, cloning }) => {
+        Entry::OpenBoth(Opening { spi, agreed, pair, child, peer, cloning, operator }) => {
             let mut numbers = vec![(Field::IkeSpi, spi), (Field::Agreed, agreed)];
             numbers.extend(of_pair(pair));
             numbers.push((Field::IpsecSpi, child));
             numbers.extend([(Field::Peer, peer), (Field::Agreed, cloning)]);
+            numbers.push((Field::Operator, operator));
             numbers
         }
-        Entry::AddIpsec { spi, owner } => vec![(Field::IpsecSpi, spi), (Field::IkeSpi, owner)],
-        Entry::CloseIke { spi } | Entry::MarkDeletion { spi } => vec![(Field::IkeSpi, spi)],
-        Entry::CloseIpsec { spi } => vec![(Field::IpsecSpi, spi)],
+        Entry::AddIpsec { spi, owner, operator } => {
+            vec![(Field::IpsecSpi, spi), (Field::IkeSpi, owner), (Field::Operator, operator)]
+        }
+        Entry::CloseIke { spi, operator } | Entry::MarkDeletion { spi, operator } => {
+            vec![(Field::IkeSpi, spi), (Field::Operator, operator)]
+        }
+        Entry::CloseIpsec { spi, operator } => {
+            vec![(Field::IpsecSpi, spi), (Field::Operator, operator)]
+        }
         Entry::Request(request) => {
             let mut numbers = vec![(Field::IkeSpi, &mut request.spi), (Field::Id, &mut request.id)];
             numbers.extend(of_pair(&mut request.pair));
             numbers.push((Field::FirstType, &mut request.first));
             numbers.push((Field::Id, &mut request.check_id));
+            numbers.push((Field::Operator, &mut request.operator));
             numbers
         }
-        Entry::CheckResponse { spi, id, first, .. } => {
-            vec![(Field::IkeSpi, spi), (Field::Id, id), (Field::FirstType, first)]
-        }
-        Entry::Clone { spi, new_spi, first, .. } => {
-            vec![(Field::IkeSpi, spi), (Field::IkeSpi, new_spi), (Field::FirstType, first)]
-        }
-        Entry::Policy { count, rules } => {
+        Entry::CheckResponse { spi, id, first, operator, .. } => vec![
+            (Field::IkeSpi, spi),
+            (Field::Id, id),
+            (Field::FirstType, first),
+            (Field::Operator, operator),
+        ],
+        Entry::Clone { spi, new_spi, first, operator, .. } => vec![
+            (Field::IkeSpi, spi),
+            (Field::IkeSpi, new_spi),
+            (Field::FirstType, first),
+            (Field::Operator, operator),
+        ],
+        Entry::Policy { count, rules, operator } => {
             let mut numbers = vec![(Field::Count, count)];
             numbers.extend(rules.iter_mut().flat_map(of_rule));
+            numbers.push((Field::Operator, operator));
             numbers
         }
     }

@@ -4,7 +4,7 @@ use crate::rules::Plain;
 use crate::trace::codec::Lent;
 use crate::trace::entry::Entry;
 use crate::trace::fields::Field;
-use crate::trace::slots::{count, of_entry, Slots, SLOTS};
+use crate::trace::slots::{of_entry, unused, Slots, SLOTS};
 use crate::trace::writing::{entry_octets, pieces, Piece};
 
 /// What a slot is.
@@ -59,7 +59,7 @@ pub fn packed(entry: &Entry) -> Lent {
 /// With all sixteen rules of a policy.
 fn whole(entry: &Entry) -> Entry {
     match entry {
-        Entry::Policy { rules, .. } => Entry::policy(&rules[..]),
+        Entry::Policy { rules, operator, .. } => Entry::policy(&rules[..], *operator),
         other => other.clone(),
     }
 }
@@ -88,7 +88,7 @@ pub fn drawn(rng: &mut Rng, entry: &Entry) -> Lent {
 /// Anything in the slots that aren't looked at.
 fn spoil_unused(rng: &mut Rng, entry: &Entry, slots: &mut Slots) {
     let items = if let Entry::Policy { count, .. } = entry { (*count).min(16) as usize } else { 0 };
-    for slot in &mut slots[count(entry.kind() as u8, items)..] {
+    for slot in &mut slots[unused(entry.kind() as u8, items)] {
         *slot = rng.pick(&[0, 1, 255, 256, 4_097, u64::MAX, 1 << 32]);
     }
 }

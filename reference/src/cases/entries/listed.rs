@@ -11,7 +11,7 @@ use crate::rules::{Plain, TraceRules};
 use crate::trace::codec::{Buffer, Lent};
 use crate::trace::entry::{Entry, Request, Rules};
 use crate::trace::fields::{Field, MOST_OCTETS, MOST_RULES};
-use crate::trace::slots::{count, SLOTS};
+use crate::trace::slots::{unused, SLOTS};
 use crate::trace::writing::entry_octets;
 
 /// Something to write, and the output.
@@ -31,11 +31,11 @@ pub fn all() -> Vec<Case> {
 }
 
 fn written() -> Vec<Writing> {
-    let seven = packed(&Entry::CloseIke { spi: 7 });
-    let mut all = vec![(seven.clone(), vec![0xaa, 0xbb, 0xcc]), (seven, vec![0xaa])];
+    let seven = packed(&Entry::CloseIke { spi: 7, operator: 1 });
+    let mut all = vec![(seven.clone(), vec![0xaa, 0xbb, 0xcc, 0xdd]), (seven, vec![0xaa])];
     all.extend(entries().iter().flat_map(|entry| about_length(&packed(entry))));
     all.extend(misplaced());
-    all.extend(unused());
+    all.extend(unlooked_at());
     all.extend(kinds());
     all
 }
@@ -74,8 +74,9 @@ fn entries() -> Vec<Entry> {
         ];
         entries.extend(requests.map(Entry::Request));
         let body = octets.clone();
-        entries.push(Entry::CheckResponse { spi: 7, id: 1, first: 41, body });
-        entries.push(Entry::Clone { spi: 7, new_spi: 8, first: 41, body: octets });
+        let operator = length as u64 % 2;
+        entries.push(Entry::CheckResponse { spi: 7, id: 1, first: 41, body, operator });
+        entries.push(Entry::Clone { spi: 7, new_spi: 8, first: 41, body: octets, operator });
     }
     entries
 }
@@ -127,9 +128,12 @@ fn misplaced() -> Vec<Writing> {
 }
 
 /// The greatest number in every slot that an entry doesn't have, and in those past every count.
-fn unused() -> Vec<Writing> {
-    let policies = (0..=MOST_RULES as u64 + 2)
-        .map(|count| Entry::Policy { count, rules: Box::new(Rules::default()) });
+fn unlooked_at() -> Vec<Writing> {
+    let policies = (0..=MOST_RULES as u64 + 2).map(|count| Entry::Policy {
+        count,
+        rules: Box::new(Rules::default()),
+        operator: count % 2,
+    });
     let mut all = Vec::new();
     for entry in samples().into_iter().chain(policies) {
         let items = match &entry {
@@ -138,7 +142,7 @@ fn unused() -> Vec<Writing> {
         };
         for value in [1, 256, u64::MAX] {
             let mut lent = packed(&entry);
-            lent.slots[count(lent.kind, items)..].fill(value);
+            lent.slots[unused(lent.kind, items)].fill(value);
             all.extend(about_length(&lent));
         }
     }
@@ -168,7 +172,7 @@ fn forms() -> Vec<Buffer> {
             for form in forms {
                 let mut parts = parts.clone();
                 parts[place] = form;
-                add([vec![2], parts.concat(), vec![2, 7]].concat());
+                add([vec![2], parts.concat(), vec![2, 7, 0]].concat());
             }
             let to_number = [vec![2], parts[..=place].concat()].concat();
             add(to_number[..to_number.len() - 1].to_vec());
@@ -184,7 +188,7 @@ fn places() -> Vec<Buffer> {
     let past = [
         1 << 16,
         1 << 32,
-        (1 << 32) + 43,
+        (1 << 32) + 44,
         1 << 63,
         usize::MAX / 2,
         usize::MAX - 16,

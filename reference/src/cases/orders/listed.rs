@@ -1,5 +1,6 @@
 // The lists every run begins with: late and repeated updates, lists, keepalives and check responses, in every order
 // of three.
+use super::super::operators::suit_asked;
 use super::super::reader::draft::{ChainDraft, Draft};
 use super::super::requests::listed::responses::nat_detection;
 use super::super::requests::listed::setting::{self, cookie, list, packet, request, update};
@@ -22,12 +23,14 @@ pub fn all() -> Vec<Case> {
     for list in of_requests.chain(with_responses()) {
         for tables in tables() {
             for chance in ORDERS_OF_3 {
-                let list = list.to_vec();
+                let mut list = list.to_vec();
+                list.iter_mut().for_each(|asked| suit_asked(&tables, asked));
                 let chance: Order = chance.to_vec();
                 cases.push(Case { tables: tables.clone(), list, chance });
             }
         }
     }
+    cases.extend(of_two_operators());
     cases
 }
 
@@ -35,7 +38,7 @@ pub fn all() -> Vec<Case> {
 /// lengths.
 fn tables() -> Vec<Tables> {
     let mut ipv6_only = setting::tables();
-    ipv6_only.policy.rules[0].family = 6;
+    ipv6_only.policies.iter_mut().for_each(|policy| policy.rules[0].family = 6);
     let mut twin = setting::tables();
     twin.ike_mut()[20].spi = setting::spi();
     let others = [0, 127, 129].map(|length| setting::tables().with_ipsec_length(length));
@@ -52,7 +55,7 @@ fn with_responses() -> Vec<[Asked; 3]> {
     let answered = |check: u32, payloads: &[Draft]| {
         let chain = ChainDraft::of(payloads.to_vec()).assemble();
         let (first, body) = (chain.first, chain.body);
-        Asked::Check(CheckResponse { spi: setting::spi(), id: check, first, body })
+        Asked::Check(CheckResponse { spi: setting::spi(), id: check, first, body, operator: 0 })
     };
     let cookie = |octet: u8| Draft::notify(NotifyType::COOKIE2, &[octet; 8]);
     let right = |check: u32| answered(check, &[cookie(check as u8)]);
@@ -85,6 +88,46 @@ fn with_responses() -> Vec<[Asked; 3]> {
         [updating(6, 1), updating(3, 2), right(1)],
         [updating(6, 1), updating(7, 2), answered(5, &[])],
     ]
+}
+
+/// Calls of which one names the other operator, on records of which the upper one is the other's, with a check that is
+/// wrong, right or none.
+fn of_two_operators() -> Vec<Case> {
+    let mut twins = setting::tables();
+    let standing = twins.ike.records[setting::PLACE].check;
+    let twin = &mut twins.ike_mut()[20];
+    (twin.spi, twin.agreed.operator) = (setting::spi(), 1);
+    (twin.update_mark, twin.list_mark) = (0, 0);
+    let check = |octets: &[u8]| {
+        let chain = ChainDraft::of(vec![Draft::notify(NotifyType::COOKIE2, octets)]).assemble();
+        let (id, first, body) = (standing.id, chain.first, chain.body);
+        Asked::Check(CheckResponse { spi: setting::spi(), id, first, body, operator: 0 })
+    };
+    let sent = standing.cookie().unwrap_or_default();
+    let updating = |id: u32, operator: u8| {
+        let pair = AddressPair { source_port: 1000 + id as u16, ..packet(6) };
+        Asked::Request(Request { id, pair, operator, ..request(&[update(), cookie(8)]) })
+    };
+    let mut lists = Vec::new();
+    for other in [1, 2, 255] {
+        lists.extend([
+            [check(&[99; 8]), updating(6, other), updating(7, 0)],
+            [check(sent), updating(6, other), updating(7, 0)],
+            [updating(6, 0), updating(8, other), updating(7, 0)],
+            [updating(6, other), updating(7, other), updating(8, 0)],
+            [updating(6, other), updating(7, 0), updating(6, 0)],
+        ]);
+    }
+    let mut cases = Vec::new();
+    for tables in [setting::tables(), twins] {
+        for list in &lists {
+            for chance in ORDERS_OF_3 {
+                let (tables, list, chance) = (tables.clone(), list.to_vec(), chance.to_vec());
+                cases.push(Case { tables, list, chance });
+            }
+        }
+    }
+    cases
 }
 
 fn lists() -> Vec<[Request; 3]> {

@@ -38,7 +38,7 @@ pub type OrdersCases = Seeded<Case>;
 fn random(rng: &mut Rng) -> Case {
     let mut tables = starts::tables(rng);
     if rng.pick_weighted(&OPEN) {
-        starts::open(&mut tables.policy);
+        tables.policies.iter_mut().for_each(starts::open);
     }
     let list = sequences::list(rng, &mut tables);
     lengths::vary(rng, &mut tables);

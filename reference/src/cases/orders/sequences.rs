@@ -3,6 +3,7 @@ use super::super::checks::responses;
 use super::super::requests::{arguments, starts};
 use crate::asked::Asked;
 use crate::check::CheckResponse;
+use crate::operator::other;
 use crate::request::Request;
 use crate::rng::Rng;
 use crate::rules::{CheckRules, Plain};
@@ -23,7 +24,7 @@ enum Drawing {
 }
 
 const WEIGHTS: [(usize, Drawing); 5] = [
-    (8, Drawing::Sound),
+    (10, Drawing::Sound),
     (1, Drawing::EqualIds),
     (2, Drawing::SomeUnsound),
     (5, Drawing::Checked),
@@ -137,7 +138,10 @@ impl Source {
     /// A request that is sound or isn't; where none comes up, one that asks for nothing.
     fn drawn(&self, rng: &mut Rng, tables: &Tables, id: u32, sound: bool) -> Request {
         for _ in 0..TRIES {
-            let request = Request { id, ..arguments::plain_request(rng, tables, self.spi) };
+            let mut request = Request { id, ..arguments::plain_request(rng, tables, self.spi) };
+            if !sound && rng.one_in(3) {
+                request.operator = other(request.operator);
+            }
             if request.is_sound(tables, &Plain) == sound {
                 return request;
             }

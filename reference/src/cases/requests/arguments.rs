@@ -1,4 +1,5 @@
 // Random requests, drawn to suit the tables and the record that their SPI means.
+use super::super::operators;
 use super::super::tables::{pairs, pending, rules, scripts};
 use super::chains;
 use crate::address::{octet_count, AddressPair};
@@ -25,19 +26,21 @@ pub fn request(rng: &mut Rng, tables: &Tables, spi: u64) -> Request {
         nat_destination: lent_value(rng),
         cookie: lent_cookie(rng),
         check_id: pending::id(rng),
+        operator: operators::drawn(rng, operators::of_ike(tables, spi)),
         first: chain.first,
         body: chain.body,
         output: output(rng),
     }
 }
 
-/// As `request`, but that it passes checks 1 and 2 and its chain has no flaw.
+/// As `request`, but that it passes checks 1 and 2, names the record's operator, and its chain has no flaw.
 pub fn plain_request(rng: &mut Rng, tables: &Tables, spi: u64) -> Request {
     let mut request = request(rng, tables, spi);
     request.pair = sound(request.pair);
     request.nat_source = rng.octets(NAT_VALUE_LENGTH);
     request.nat_destination = rng.octets(NAT_VALUE_LENGTH);
     request.cookie = pending::cookie(rng);
+    request.operator = operators::of_ike(tables, spi).unwrap_or_else(|| operators::one(rng));
     request.output = rng.octets(LEAST_OUTPUT);
     let chain = chains::asking(rng, &request.pair, &request.pair).assemble();
     (request.first, request.body) = (chain.first, chain.body);
@@ -56,7 +59,10 @@ fn id(rng: &mut Rng, record: &IkeRecord) -> u32 {
 
 fn packet_pair(rng: &mut Rng, tables: &Tables, record: &IkeRecord) -> AddressPair {
     match rng.below(10) {
-        0..=3 => sound(rules::pair_near(rng, &tables.policy)),
+        0..=3 => {
+            let policy = &tables.policies[usize::from(record.agreed.operator.min(1))];
+            sound(rules::pair_near(rng, policy))
+        }
         4..=7 => pairs::pair(rng),
         8 => sound(record.pair),
         _ => pairs::any_pair(rng),

@@ -1,4 +1,5 @@
 // The tables that random requests are made on; their policies accept nothing, some pairs or all.
+use super::super::operators;
 use super::super::tables::shapes::Shape;
 use super::super::tables::{agreements, pairs};
 use crate::policy::{Policy, Rule};
@@ -16,8 +17,10 @@ const WEIGHTS: [(usize, Shape); 5] = [
 
 pub fn tables(rng: &mut Rng) -> Tables {
     let mut tables = rng.pick_weighted(&WEIGHTS).tables(rng);
-    if rng.one_in(2) {
-        open(&mut tables.policy);
+    for policy in &mut tables.policies {
+        if rng.one_in(2) {
+            open(policy);
+        }
     }
     if rng.one_in(6) {
         share_pair(rng, &mut tables);
@@ -39,11 +42,15 @@ pub fn open(policy: &mut Policy) {
     policy.rules[1] = Rule { family: 6, ..Rule::ZERO };
 }
 
-/// Makes MOBIKE agreed in the record that the SPI means, if there is one and it isn't yet.
+/// Makes MOBIKE agreed in the record that the SPI means, if there is one and it isn't yet; and the record one of the
+/// two operators'.
 pub fn agree(rng: &mut Rng, tables: &mut Tables, spi: u64) {
     if let Some(place) = find(&tables.ike.records, spi, &Plain) {
         if tables.ike.records[place].agreed.mobike == 0 {
             tables.ike_mut()[place].agreed.mobike = agreements::yes(rng);
+        }
+        if tables.ike.records[place].agreed.operator > 1 && !rng.one_in(8) {
+            tables.ike_mut()[place].agreed.operator = operators::one(rng);
         }
     }
 }

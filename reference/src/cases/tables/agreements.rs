@@ -1,4 +1,5 @@
-// What may be agreed: octets that say no, those that a new record has, and others that say yes; and with whom.
+// What may be agreed: octets that say no, those that a new record has, and others that say yes; for whom and with whom.
+use super::super::operators;
 use super::peers;
 use crate::agreed::Agreed;
 use crate::rng::Rng;
@@ -7,7 +8,8 @@ use crate::rng::Rng;
 pub const YES: [u8; 7] = [255, 1, 2, 3, 127, 128, 254];
 
 pub fn any(rng: &mut Rng) -> Agreed {
-    Agreed { mobike: octet(rng), cloning: octet(rng), peer: peers::any(rng) }
+    let (mobike, cloning, operator) = (octet(rng), octet(rng), operators::in_record(rng));
+    Agreed { mobike, cloning, operator, peer: peers::any(rng) }
 }
 
 fn octet(rng: &mut Rng) -> u8 {

@@ -60,6 +60,7 @@ mod tests {
     use crate::opening_both::{failing, Check};
     use crate::pending::PendingCheck;
     use crate::rules::{CheckRules, Plain, TableRules};
+    use crate::shares::Held;
     use crate::tables::{find, IkeRecord, IpsecRecord, Record};
     use std::collections::BTreeSet;
 
@@ -70,8 +71,8 @@ mod tests {
     /// What a call does, and which numbers it may give back.
     fn numbers(call: &Call) -> (&'static str, &'static [u8]) {
         match call {
-            Call::OpenBoth(_) => ("open both", &[0, 1, 10, 11]),
-            Call::OpenIpsec { .. } => ("open IPsec", &[0, 1, 4, 10, 11]),
+            Call::OpenBoth(_) => ("open both", &[0, 1, 10, 11, 43]),
+            Call::OpenIpsec(_) => ("open IPsec", &[0, 1, 4, 10, 11, 43]),
             Call::CloseIke { .. } => ("close IKE", &[0, 1, 4]),
             Call::CloseIpsec { .. } => ("close IPsec", &[0, 1, 4]),
             Call::MarkDeletion { .. } => ("mark deletion", &[0, 1, 4]),
@@ -95,8 +96,8 @@ mod tests {
                 }
             }
         }
-        assert_eq!(met.len(), 4 + 5 + 3 + 3 + 3 + 3 + 2);
-        let of_each_two = 4; // each of which is 0, 1 or another
+        assert_eq!(met.len(), 5 + 6 + 3 + 3 + 3 + 3 + 2);
+        let of_each_two = 5; // each of which is 0, 1 or another
         assert_eq!(octets.len(), 3 * 3 * of_each_two);
     }
 
@@ -120,7 +121,9 @@ mod tests {
         let of_each_record = 3 * 3; // its SPI is 0, in use, or neither
         sets.sort_by_key(|set| set.iter().map(|&check| 1_u32 << check as u32).sum::<u32>());
         sets.dedup();
-        assert_eq!(sets.len(), of_each_record * 2_usize.pow(4));
+        // The pair, the list, and each table full or not; and each share reached or not, but by no operator.
+        let (by_one, by_none) = (2_usize.pow(6), 2_usize.pow(4));
+        assert_eq!(sets.len(), of_each_record * (by_one + by_none));
     }
 
     #[test]
@@ -142,8 +145,8 @@ mod tests {
                 let sent = Plain.kept(&record.check);
                 let left = sent.map(|sent| PendingCheck::of(&sent, record.check.id));
                 assert_eq!(record.check, left.unwrap_or(PendingCheck::NONE));
-                let Agreed { mobike, cloning, .. } = record.agreed;
-                assert!(mobike.max(cloning).max(record.deleting) <= 1);
+                let Agreed { mobike, cloning, operator, .. } = record.agreed;
+                assert!(mobike.max(cloning).max(operator).max(record.deleting) <= 1);
             } else {
                 assert_eq!(*record, IkeRecord::FREE);
             }
@@ -158,17 +161,30 @@ mod tests {
         }
     }
 
+    /// Whether an operator is at its share, of IKE records and of IPsec records.
+    fn assert_within_shares(tables: &Tables) -> [bool; 2] {
+        let of = |operator| Held::of(tables, operator);
+        let held = [of(0), of(1)];
+        assert!(held.iter().all(|it| it.ikes <= 20 && it.ipsecs <= 80), "{held:?}");
+        [held.iter().any(|it| it.ikes == 20), held.iter().any(|it| it.ipsecs == 80)]
+    }
+
     #[test]
     fn calls_leave_reached_tables_reached() {
+        let mut at_shares = [0; 2];
         for number in 0..1_000 {
             let mut rng = Rng::from_words(&[number]);
             let shape = rng.pick(&[Shape::Empty, Shape::Reached, Shape::Full]);
             let mut tables = shape.tables(&mut rng);
             assert_reached(&tables);
+            let at = assert_within_shares(&tables);
+            at_shares.iter_mut().zip(at).for_each(|(count, at)| *count += u32::from(at));
             for call in scripts::calls(&mut rng, &tables) {
                 call.make(&mut tables, &Plain);
                 assert_reached(&tables);
+                assert_within_shares(&tables);
             }
         }
+        assert!(at_shares.iter().all(|&count| count > 50), "{at_shares:?}");
     }
 }

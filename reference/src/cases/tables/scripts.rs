@@ -1,6 +1,8 @@
 // Random calls: up to twelve in a row, each drawn to suit the tables that the one before left.
+use super::super::operators;
 use super::{agreements, pairs, rules, spis};
 use crate::calls::Call;
+use crate::opening::Adding;
 use crate::opening_both::Opening;
 use crate::rng::Rng;
 use crate::rules::Plain;
@@ -45,23 +47,41 @@ fn call(rng: &mut Rng, tables: &Tables) -> Call {
     match rng.pick_weighted(&WEIGHTS) {
         Making::OpenBoth => Call::OpenBoth(opening(rng, tables)),
         Making::OpenIpsec => {
-            Call::OpenIpsec { spi: ipsec_spi(rng, tables, 1), owner: ike_spi(rng, tables, 8) }
+            let (spi, owner) = (ipsec_spi(rng, tables, 1), ike_spi(rng, tables, 8));
+            let operator = operators::drawn(rng, operators::of_ike(tables, owner));
+            Call::OpenIpsec(Adding { spi, owner, operator })
         }
-        Making::CloseIke => Call::CloseIke { spi: ike_spi(rng, tables, 8) },
-        Making::CloseIpsec => Call::CloseIpsec { spi: ipsec_spi(rng, tables, 8) },
-        Making::MarkDeletion => Call::MarkDeletion { spi: ike_spi(rng, tables, 8) },
+        Making::CloseIke => {
+            let spi = ike_spi(rng, tables, 8);
+            Call::CloseIke { spi, operator: operators::drawn(rng, operators::of_ike(tables, spi)) }
+        }
+        Making::CloseIpsec => {
+            let spi = ipsec_spi(rng, tables, 8);
+            let operator = operators::drawn(rng, operators::of_ipsec(tables, spi));
+            Call::CloseIpsec { spi, operator }
+        }
+        Making::MarkDeletion => {
+            let spi = ike_spi(rng, tables, 8);
+            let operator = operators::drawn(rng, operators::of_ike(tables, spi));
+            Call::MarkDeletion { spi, operator }
+        }
         Making::SetPolicy => {
             let (count, rules) = rules::list_to_set(rng);
-            Call::SetPolicy { count, rules: Box::new(rules) }
+            Call::SetPolicy { count, rules: Box::new(rules), operator: operators::drawn(rng, None) }
         }
-        Making::Acceptable => Call::Acceptable { pair: rules::pair_near(rng, &tables.policy) },
+        Making::Acceptable => {
+            let operator = operators::one(rng);
+            let policy = &tables.policies[usize::from(operator)];
+            Call::Acceptable { pair: rules::pair_near(rng, policy), operator }
+        }
     }
 }
 
 /// Often one in which nothing is wrong but perhaps for the tables, else any.
 fn opening(rng: &mut Rng, tables: &Tables) -> Opening {
-    let agreed = agreements::any(rng);
+    let mut agreed = agreements::any(rng);
     if rng.one_in(3) {
+        agreed.operator = operators::one(rng);
         let (spi, child) = (other_ike_spi(rng), other_ipsec_spi(rng));
         return Opening { spi, agreed, pair: pairs::pair(rng), child };
     }

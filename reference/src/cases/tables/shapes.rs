@@ -1,6 +1,8 @@
 // The tables that random cases start from: empty, reached from empty ones, full, dense and hostile.
 use super::{agreements, pairs, peers, pending, rules, spis};
 use crate::agreed::Agreed;
+use crate::operator::{other, OPERATORS};
+use crate::policy::Policy;
 use crate::rng::Rng;
 use crate::summary::MAX_KEPT;
 use crate::tables::{IkeRecord, IpsecRecord, Record, Tables, IKE_PLACES, IPSEC_PLACES};
@@ -26,9 +28,15 @@ const TALLIES: [u32; 5] = [0, 1, 256, u32::MAX - 1, u32::MAX];
 impl Shape {
     pub fn tables(self, rng: &mut Rng) -> Tables {
         match self {
-            Shape::Empty => Tables { policy: rules::policy(rng), ..Tables::empty() },
+            Shape::Empty => with_policies([rules::policy(rng), rules::policy(rng)]),
             Shape::Reached => {
-                let in_use = [rng.below(IKE_PLACES + 1), rng.below(IPSEC_PLACES + 1)];
+                // Often so many that an operator may be at its share, and not all.
+                let ike = rng.below(IKE_PLACES + 1);
+                let ipsec = rng.below(IPSEC_PLACES + 1);
+                let in_use = [
+                    if rng.one_in(3) { rng.between(20, IKE_PLACES - 1) } else { ike },
+                    if rng.one_in(3) { rng.between(80, IPSEC_PLACES - 1) } else { ipsec },
+                ];
                 reached(rng, in_use)
             }
             Shape::Full => {
@@ -45,20 +53,55 @@ impl Shape {
     }
 }
 
-/// So many of the places in use, which ones is left to chance; no SPI twice, no orphan.
+fn with_policies(policies: [Policy; OPERATORS]) -> Tables {
+    Tables { policies, ..Tables::empty() }
+}
+
+/// The operators of so many records, of which neither has more than this share: often as many as it may have, or as
+/// few as the other leaves; which ones is left to chance.
+fn shared(rng: &mut Rng, count: usize, share: usize) -> Vec<u8> {
+    let (least, most) = (count.saturating_sub(share), count.min(share));
+    let any = rng.between(least, most);
+    let of_a = rng.pick(&[least, most, most, any, any]);
+    let mut operators: Vec<u8> = (0..count).map(|number| u8::from(number >= of_a)).collect();
+    if rng.one_in(2) {
+        operators.iter_mut().for_each(|operator| *operator = other(*operator));
+    }
+    rng.shuffle(&mut operators);
+    operators
+}
+
+/// So many of the places in use, which ones is left to chance; no SPI twice, no orphan, and no operator over its
+/// shares, for which there may be fewer IPsec records.
 fn reached(rng: &mut Rng, in_use: [usize; 2]) -> Tables {
-    let mut tables = Tables { policy: rules::policy(rng), ..Tables::empty() };
+    let mut tables = with_policies([rules::policy(rng), rules::policy(rng)]);
     let ike_places = some_places(rng, IKE_PLACES, in_use[0]);
     let peer_count = rng.between(1, peers::FEW.len());
-    for (number, &place) in ike_places.iter().enumerate() {
-        let record = reached_record(rng, spis::ike(number), peer_count);
+    let operators = shared(rng, ike_places.len(), 20);
+    for (number, (&place, &operator)) in ike_places.iter().zip(&operators).enumerate() {
+        let mut record = reached_record(rng, spis::ike(number), peer_count);
+        record.agreed.operator = operator;
         tables.ike_mut()[place] = record;
     }
-    if ike_places.is_empty() {
-        return tables;
-    }
-    let owners = &ike_places[..rng.between(1, ike_places.len())];
-    for (number, place) in some_places(rng, IPSEC_PLACES, in_use[1]).into_iter().enumerate() {
+    let owner_count = rng.below(ike_places.len() + 1);
+    let owners = |operator: u8| {
+        let own = |place: &&usize| tables.ike.records[**place].agreed.operator == operator;
+        let of = |places: &[usize]| places.iter().filter(own).copied().collect::<Vec<usize>>();
+        let some = of(&ike_places[..owner_count]);
+        if some.is_empty() {
+            of(&ike_places)
+        } else {
+            some
+        }
+    };
+    let owners = [owners(0), owners(1)];
+    let operators = shared(rng, in_use[1], 80);
+    let places = some_places(rng, IPSEC_PLACES, in_use[1]);
+    for (number, (place, operator)) in places.into_iter().zip(operators).enumerate() {
+        let owners = &owners[usize::from(operator)];
+        if owners.is_empty() {
+            continue;
+        }
         let IkeRecord { spi: owner, pair, .. } = tables.ike.records[rng.pick(owners)];
         // Where a check is pending, or came to an error, the pair is one that the IKE record had.
         let pair = if rng.one_in(3) { pairs::pair(rng) } else { pair };
@@ -79,7 +122,7 @@ fn some_places(rng: &mut Rng, places: usize, count: usize) -> Vec<usize> {
 
 fn reached_record(rng: &mut Rng, spi: u64, peer_count: usize) -> IkeRecord {
     let (cloning, peer) = (u8::from(rng.one_in(2)), peers::among(rng, peer_count));
-    let agreed = Agreed { mobike: 0, cloning, peer };
+    let agreed = Agreed { mobike: 0, cloning, operator: 0, peer };
     let mut record = IkeRecord { spi, agreed, pair: pairs::pair(rng), ..IkeRecord::FREE };
     record.deleting = u8::from(rng.one_in(6));
     if rng.one_in(4) {
@@ -100,7 +143,9 @@ fn reached_record(rng: &mut Rng, spi: u64, peer_count: usize) -> IkeRecord {
 
 /// Few SPIs and owners, any values elsewhere; one place in so many is free, mostly not cleared.
 fn unreached(rng: &mut Rng, free_in: usize) -> Tables {
-    let mut tables = Tables { policy: rules::any_policy(rng), ..Tables::empty() };
+    let mut tables = with_policies([rules::any_policy(rng), rules::any_policy(rng)]);
+    // Mostly A's, mostly B's, or either's.
+    let of_one = rng.pick(&[None, None, Some(0), Some(1)]);
     let few = rng.between(1, spis::FEW_IKE.len());
     let peer_count = rng.between(1, peers::FEW.len());
     for record in tables.ike_mut() {
@@ -110,6 +155,9 @@ fn unreached(rng: &mut Rng, free_in: usize) -> Tables {
             record.spi = if free { 0 } else { rng.pick(&spis::FEW_IKE[..few]) };
             if !rng.one_in(8) {
                 record.agreed.peer = peers::among(rng, peer_count);
+            }
+            if let (Some(operator), false) = (of_one, rng.one_in(4)) {
+                record.agreed.operator = operator;
             }
         }
     }

@@ -18,12 +18,21 @@ pub fn entry(rng: &mut Rng) -> Entry {
             child: number(rng, Field::IpsecSpi),
             peer: number(rng, Field::Peer),
             cloning: number(rng, Field::Agreed),
+            operator: number(rng, Field::Operator),
         }),
-        1 => {
-            Entry::AddIpsec { spi: number(rng, Field::IpsecSpi), owner: number(rng, Field::IkeSpi) }
-        }
-        2 => Entry::CloseIke { spi: number(rng, Field::IkeSpi) },
-        3 => Entry::CloseIpsec { spi: number(rng, Field::IpsecSpi) },
+        1 => Entry::AddIpsec {
+            spi: number(rng, Field::IpsecSpi),
+            owner: number(rng, Field::IkeSpi),
+            operator: number(rng, Field::Operator),
+        },
+        2 => Entry::CloseIke {
+            spi: number(rng, Field::IkeSpi),
+            operator: number(rng, Field::Operator),
+        },
+        3 => Entry::CloseIpsec {
+            spi: number(rng, Field::IpsecSpi),
+            operator: number(rng, Field::Operator),
+        },
         4 => Entry::Request(Request {
             spi: number(rng, Field::IkeSpi),
             id: number(rng, Field::Id),
@@ -34,24 +43,30 @@ pub fn entry(rng: &mut Rng) -> Entry {
             body: string(rng, 8),
             cookie: string(rng, 8),
             check_id: number(rng, Field::Id),
+            operator: number(rng, Field::Operator),
         }),
         5 => Entry::CheckResponse {
             spi: number(rng, Field::IkeSpi),
             id: number(rng, Field::Id),
             first: number(rng, Field::FirstType),
             body: string(rng, 8),
+            operator: number(rng, Field::Operator),
         },
         6 => Entry::Clone {
             spi: number(rng, Field::IkeSpi),
             new_spi: number(rng, Field::IkeSpi),
             first: number(rng, Field::FirstType),
             body: string(rng, 8),
+            operator: number(rng, Field::Operator),
         },
-        7 => Entry::MarkDeletion { spi: number(rng, Field::IkeSpi) },
+        7 => Entry::MarkDeletion {
+            spi: number(rng, Field::IkeSpi),
+            operator: number(rng, Field::Operator),
+        },
         _ => {
             let count = rng.pick_weighted(&[(4, 1), (2, 2), (1, 0), (1, 15), (1, MOST_RULES)]);
             let rules: Vec<Rule> = (0..count).map(|_| rule(rng)).collect();
-            Entry::policy(&rules)
+            Entry::policy(&rules, number(rng, Field::Operator))
         }
     }
 }

@@ -25,19 +25,19 @@ pub struct Example {
     pub printed: String,
 }
 
-/// Opens IKE 7 and IPsec 9, of peer 5, with cloning agreed.
+/// Opens IKE 7 and IPsec 9 for operator 0, of peer 5, with cloning agreed.
 pub fn opening() -> Vec<u8> {
-    from_hex(&format!("00 07 01 {PAIR} 09 05 01"))
+    from_hex(&format!("00 07 01 {PAIR} 09 05 01 00"))
 }
 
 /// A request to clone IKE 7 to this SPI.
 pub fn clone(new_spi: u8) -> Vec<u8> {
-    from_hex(&format!("07 07 {new_spi:02x} 29 08 {CLONE}"))
+    from_hex(&format!("07 07 {new_spi:02x} 29 08 {CLONE} 00"))
 }
 
 /// Accepts all pairs of IPv4.
 pub fn any_ipv4() -> Vec<u8> {
-    from_hex(&format!("05 01 04 {} 00 00", "00".repeat(32)))
+    from_hex(&format!("05 01 04 {} 00 00 00", "00".repeat(32)))
 }
 
 /// A request to IKE 7 from the other pair.
@@ -46,7 +46,7 @@ pub fn request(id: u8, first: u8, body: &[u8]) -> Vec<u8> {
     let mut octets = from_hex(&format!("04 07 {id:02x} {OTHER_PAIR} {values} {first:02x}"));
     octets.push(u8::try_from(body.len()).expect("a short body"));
     octets.extend_from_slice(body);
-    octets.extend(from_hex(&format!("08 {COOKIE} 03")));
+    octets.extend(from_hex(&format!("08 {COOKIE} 03 00")));
     octets
 }
 
@@ -54,14 +54,14 @@ pub fn request(id: u8, first: u8, body: &[u8]) -> Vec<u8> {
 pub fn response(first: u8, body: &str) -> Vec<u8> {
     let body = from_hex(body);
     let length = u8::try_from(body.len()).expect("a short body");
-    [vec![6, 7, 3, first, length], body].concat()
+    [vec![6, 7, 3, first, length], body, vec![0]].concat()
 }
 
 /// A trace with an entry of every kind, none of which is refused.
 pub fn all_kinds() -> Vec<u8> {
     let list = from_hex("29 00000800004010 0000000c 0000400d 0a000001");
-    let adding = from_hex("01 ac02 07 01 ad02 07");
-    let closing = from_hex("03 ac02");
+    let adding = from_hex("01 ac02 07 00 01 ad02 07 00");
+    let closing = from_hex("03 ac02 00");
     let entries = [
         opening(),
         any_ipv4(),
@@ -72,8 +72,8 @@ pub fn all_kinds() -> Vec<u8> {
         request(0, 0, &[]),
         response(41, &format!("00000010 00004011 {COOKIE}")),
         clone(8),
-        from_hex("08 07"),
-        from_hex("02 07"),
+        from_hex("08 07 00"),
+        from_hex("02 07 00"),
         opening(),
     ];
     entries.concat()
@@ -81,8 +81,8 @@ pub fn all_kinds() -> Vec<u8> {
 
 pub fn all() -> Vec<Example> {
     let update = request(5, 41, &from_hex(UPDATE));
-    let moved = [opening(), any_ipv4(), update].concat();
-    let at_45 = [opening(), from_hex("02 07 09")].concat();
+    let moved = [opening(), any_ipv4(), update.clone()].concat();
+    let at_47 = [opening(), from_hex("02 07 00 09")].concat();
     let answered = |chain: Vec<u8>| [&moved[..], &chain].concat();
     let right = answered(response(41, &format!("00000010 00004011 {COOKIE}")));
     let wrong = answered(response(41, &format!("00000010 00004011 {COOKIE}").replace("08", "09")));
@@ -98,13 +98,18 @@ pub fn all() -> Vec<Example> {
     let (applied, decided) = ("2 0 applied none", "3 0 none none");
     let clones = [8, 10, 11].map(|spi| format!("ike {spi} {PRINTED}"));
     let opened = |behind: &[Vec<u8>]| [opening(), behind.concat()].concat();
-    let asking = |spi: &str, chain: &str| from_hex(&format!("07 07 {spi} {chain}"));
+    let asking = |spi: &str, chain: &str| from_hex(&format!("07 07 {spi} {chain} 00"));
     let unagreed = with_octet(opening(), 42, 0);
-    let examples: [(Vec<u8>, &[&str]); 36] = [
-        (from_hex("02 07"), &["0 4 none none"]),
+    let others_policy = [opening(), of_other(any_ipv4()), update.clone()].concat();
+    let others_request = [opening(), any_ipv4(), of_other(update.clone())].concat();
+    // Twenty-one openings of one operator, and one of the other.
+    let (at_share, at_share_lines) = twenty_one();
+    let at_share_lines: Vec<&str> = at_share_lines.iter().map(String::as_str).collect();
+    let examples: [(Vec<u8>, &[&str]); 50] = [
+        (from_hex("02 07 00"), &["0 4 none none"]),
         (vec![], &[]),
         (opening(), &[done[0], &ike, &ipsec]),
-        (at_45, &[done[0], done[1], "21 at 45"]),
+        (at_47, &[done[0], done[1], "21 at 47"]),
         (moved.clone(), &[done[0], done[1], applied, &moved_ike, &ipsec]),
         // The check of that update: right, wrong, an error, and answered twice.
         (right, &[done[0], done[1], applied, decided, &moved_ike, &moved_ipsec]),
@@ -112,10 +117,10 @@ pub fn all() -> Vec<Example> {
         (error, &[done[0], done[1], applied, decided, &moved_ike, &ipsec]),
         (twice, &[done[0], done[1], applied, decided, "4 14 none none", &moved_ike, &moved_ipsec]),
         (from_hex("03 80 80 80 80 10"), &["22 at 0"]),
-        (from_hex("02 80 80 80 80 10"), &["0 4 none none"]),
+        (from_hex("02 80 80 80 80 10 00"), &["0 4 none none"]),
         (from_hex("05 11"), &["22 at 0"]),
         (from_hex("05 10"), &["20 at 0"]),
-        (from_hex("05 00"), &["0 0 none none"]),
+        (from_hex("05 00 01"), &["0 0 none none"]),
         // The kind: a number first, and unknown at once however large.
         (from_hex("82 00"), &["20 at 0"]),
         (from_hex("80"), &["20 at 0"]),
@@ -150,23 +155,64 @@ pub fn all() -> Vec<Example> {
         (opened(&[asking("08", "29 00")]), &[done[0], "1 61 none none", &ike, &ipsec]),
         ([unagreed, clone(8)].concat(), &[done[0], "1 40 none none", &ike, &ipsec]),
         (
-            opened(&[from_hex("08 07"), clone(8)]),
+            opened(&[from_hex("08 07 00"), clone(8)]),
             &[done[0], done[1], "2 41 none none", &ike, &ipsec],
         ),
         (clone(8), &["0 4 none none"]),
         // The mark for being deleted, without a record and of SPI 0; an SPI has 64 bits.
-        (from_hex("08 07"), &["0 4 none none"]),
-        (from_hex("08 00"), &["0 1 none none"]),
-        (from_hex("08 80 80 80 80 10"), &["0 4 none none"]),
+        (from_hex("08 07 00"), &["0 4 none none"]),
+        (from_hex("08 00 00"), &["0 1 none none"]),
+        (from_hex("08 80 80 80 80 10 01"), &["0 4 none none"]),
         // An opening's peer past 32 bits, and its last yes or no past a bit.
-        (with_end(opening(), "80 80 80 80 10 01"), &["22 at 0"]),
-        (with_end(opening(), "05 02"), &["22 at 0"]),
+        (with_end(opening(), "80 80 80 80 10 01 00"), &["22 at 0"]),
+        (with_end(opening(), "05 02 00"), &["22 at 0"]),
+        // An operator past a bit, and none; the other one's record is not found, nor is its IPsec record.
+        (with_end(opening(), "05 01 02"), &["22 at 0"]),
+        (with_end(opening(), "05 01"), &["20 at 0"]),
+        (from_hex("02 07 02"), &["22 at 0"]),
+        (from_hex("02 07"), &["20 at 0"]),
+        (from_hex("05 00 02"), &["22 at 0"]),
+        (opened(&[from_hex("02 07 01")]), &[done[0], "1 4 none none", &ike, &ipsec]),
+        (opened(&[from_hex("03 09 01")]), &[done[0], "1 4 none none", &ike, &ipsec]),
+        (opened(&[from_hex("08 07 01")]), &[done[0], "1 4 none none", &ike, &ipsec]),
+        (opened(&[from_hex("01 0a 07 01")]), &[done[0], "1 4 none none", &ike, &ipsec]),
+        (opened(&[from_hex("02 07 00")]), &done),
+        (opened(&[of_other(clone(8))]), &[done[0], "1 4 none none", &ike, &ipsec]),
+        // The other's policy accepts nothing of one's.
+        (others_policy, &[done[0], done[1], "2 9 none none", &ike, &ipsec]),
+        (others_request, &[done[0], done[1], "2 4 none none", &ike, &ipsec]),
+        (at_share, &at_share_lines),
     ];
     let example = |(trace, lines): (Vec<u8>, &[&str])| Example {
         trace,
         printed: lines.iter().map(|line| format!("{line}\n")).collect(),
     };
     examples.map(example).into()
+}
+
+/// The same entry for the other operator.
+fn of_other(mut entry: Vec<u8>) -> Vec<u8> {
+    if let Some(operator) = entry.last_mut() {
+        *operator ^= 1;
+    }
+    entry
+}
+
+/// An operator's openings up to its share and one more, which gives 43; then one of the other operator, and one more
+/// after a closing.
+fn twenty_one() -> (Vec<u8>, Vec<String>) {
+    let open = |spi: u8| with_octet(with_octet(opening(), 1, spi), 40, spi);
+    let first = (1..=21).flat_map(open);
+    let others = [of_other(open(30)), from_hex("02 05 00"), open(22)].concat();
+    let trace = first.chain(others).collect();
+    let number = |ordinal: usize| if ordinal == 20 { 43 } else { 0 };
+    let mut lines: Vec<String> =
+        (0..24).map(|ordinal| format!("{ordinal} {} none none", number(ordinal))).collect();
+    let spis: Vec<u8> = [&[1, 2, 3, 4, 22][..], &(6..=20).collect::<Vec<u8>>(), &[30]].concat();
+    for table in ["ike", "ipsec"] {
+        lines.extend(spis.iter().map(|spi| format!("{table} {spi} {PRINTED}")));
+    }
+    (trace, lines)
 }
 
 /// Requests whose chains give 61 to 65 and 7.
@@ -183,9 +229,9 @@ fn each_flaw() -> Vec<u8> {
     [opening(), requests.concat()].concat()
 }
 
-/// An opening whose peer and last yes or no stand as these octets.
+/// An opening whose peer, last yes or no and operator stand as these octets.
 fn with_end(mut opening: Vec<u8>, end: &str) -> Vec<u8> {
-    opening.truncate(opening.len() - 2);
+    opening.truncate(opening.len() - 3);
     [opening, from_hex(end)].concat()
 }
 

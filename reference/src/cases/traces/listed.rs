@@ -50,6 +50,7 @@ pub(in crate::cases) fn request() -> Request {
         body: BODY.to_vec(),
         cookie: COOKIE.to_vec(),
         check_id: 70_000,
+        operator: 0,
     }
 }
 
@@ -59,6 +60,11 @@ pub(crate) fn samples() -> Vec<Entry> {
     let narrow = Rule { family: 4, source, source_length: 24, ..Rule::default() };
     let whole = Rule { family: 6, destination_length: 128, ..Rule::default() };
     let long = Rule { family: 4, destination_length: 33, ..Rule::default() };
+    let (spi, first) = (7, 41);
+    let answer =
+        |operator| Entry::CheckResponse { spi, id: 70_000, first, body: ANSWER.to_vec(), operator };
+    let clone =
+        |operator| Entry::Clone { spi, new_spi: 1 << 40, first, body: CLONE.to_vec(), operator };
     vec![
         Entry::OpenBoth(Opening {
             spi: 1 << 40,
@@ -67,22 +73,23 @@ pub(crate) fn samples() -> Vec<Entry> {
             child: 300,
             peer: 70_000,
             cloning: 1,
+            operator: 1,
         }),
         Entry::OpenBoth(Opening { spi: 8, pair: IPV6, child: 10, ..Opening::default() }),
-        Entry::AddIpsec { spi: 11, owner: 7 },
-        Entry::AddIpsec { spi: 7, owner: 11 },
-        Entry::CloseIke { spi: 7 },
-        Entry::CloseIpsec { spi: 9 },
+        Entry::AddIpsec { spi: 11, owner: 7, operator: 0 },
+        Entry::AddIpsec { spi: 7, owner: 11, operator: 1 },
+        Entry::CloseIke { spi: 7, operator: 0 },
+        Entry::CloseIpsec { spi: 9, operator: 0 },
         Entry::Request(request()),
-        Entry::Request(Request { first: 200, body: vec![0, 0x80, 0, 4], ..request() }),
-        Entry::policy(&[narrow, whole]),
-        Entry::policy(&[long]),
-        Entry::CheckResponse { spi: 7, id: 70_000, first: 41, body: ANSWER.to_vec() },
-        Entry::CheckResponse { spi: 1 << 40, id: 300, first: 0, body: vec![] },
-        Entry::Clone { spi: 7, new_spi: 1 << 40, first: 41, body: CLONE.to_vec() },
-        Entry::Clone { spi: 1 << 40, new_spi: 7, first: 0, body: vec![] },
-        Entry::MarkDeletion { spi: 7 },
-        Entry::MarkDeletion { spi: 1 << 40 },
+        Entry::Request(Request { first: 200, body: vec![0, 0x80, 0, 4], operator: 1, ..request() }),
+        Entry::policy(&[narrow, whole], 0),
+        Entry::policy(&[long], 1),
+        answer(0),
+        Entry::CheckResponse { spi: 1 << 40, id: 300, first: 0, body: vec![], operator: 1 },
+        clone(0),
+        Entry::Clone { spi: 1 << 40, new_spi: 7, first: 0, body: vec![], operator: 1 },
+        Entry::MarkDeletion { spi: 7, operator: 0 },
+        Entry::MarkDeletion { spi: 1 << 40, operator: 1 },
     ]
 }
 
@@ -91,10 +98,10 @@ fn start() -> Vec<u8> {
     [examples::opening(), examples::any_ipv4()].concat()
 }
 
-/// Each number of each sample in each form, alone and with an entry behind it.
+/// Each number of each sample in each form with an entry behind it, and of every other sample alone too.
 fn forms() -> Vec<Vec<u8>> {
     let mut traces = Vec::new();
-    for sample in samples() {
+    for (number, sample) in samples().into_iter().enumerate() {
         let parts = parts(&sample);
         traces.push([start(), parts.concat()].concat());
         for (place, forms) in numbers_with_forms(&sample) {
@@ -102,8 +109,10 @@ fn forms() -> Vec<Vec<u8>> {
                 let mut parts = parts.clone();
                 parts[place] = form;
                 let trace = [start(), parts.concat()].concat();
-                traces.push([&trace[..], &[2, 7]].concat());
-                traces.push(trace);
+                traces.push([&trace[..], &[2, 7, 0]].concat());
+                if number % 2 == 0 {
+                    traces.push(trace);
+                }
             }
             // The octets end with this number, or inside it.
             let to_number = [start(), parts[..=place].concat()].concat();
@@ -127,16 +136,17 @@ fn kinds() -> Vec<Vec<u8>> {
 
 /// Every count of rules about those allowed, with all of them, one less, or an octet less.
 fn counts() -> Vec<Vec<u8>> {
-    let rule = entry_octets(&Entry::policy(&[Rule { family: 4, ..Rule::default() }]))[2..].to_vec();
+    let whole = entry_octets(&Entry::policy(&[Rule { family: 4, ..Rule::default() }], 0));
+    let rule = whole[2..whole.len() - 1].to_vec();
     let mut traces = Vec::new();
     for count in 0..=MOST_RULES as u8 + 2 {
         let rules = rule.repeat(usize::from(count));
-        let whole = [&[5, count], &rules[..]].concat();
+        let whole = [&[5, count], &rules[..], &[count % 2]].concat();
         if count > 0 {
             traces.push(whole[..whole.len() - 1].to_vec());
             traces.push(whole[..whole.len() - rule.len()].to_vec());
         }
-        traces.push([&whole[..], &[2, 7]].concat());
+        traces.push([&whole[..], &[2, 7, 0]].concat());
         traces.push(whole);
     }
     traces
@@ -161,15 +171,16 @@ fn lengths() -> Vec<Vec<u8>> {
             let whole = [start(), entry_octets(&Entry::Request(request))].concat();
             traces.push(whole[..whole.len() - 1].to_vec());
             traces.push(whole[..whole.len() - length.min(30)].to_vec());
-            traces.push([&whole[..], &[2, 7]].concat());
+            traces.push([&whole[..], &[2, 7, 0]].concat());
             traces.push(whole);
         }
-        let response = Entry::CheckResponse { spi: 7, id: 1, first: 0, body: octets.clone() };
-        let clone = Entry::Clone { spi: 7, new_spi: 8, first: 41, body: octets };
+        let body = octets.clone();
+        let response = Entry::CheckResponse { spi: 7, id: 1, first: 0, body, operator: 0 };
+        let clone = Entry::Clone { spi: 7, new_spi: 8, first: 41, body: octets, operator: 0 };
         for entry in [response, clone] {
             let whole = [start(), entry_octets(&entry)].concat();
             traces.push(whole[..whole.len() - 1].to_vec());
-            traces.push([&whole[..], &[2, 7]].concat());
+            traces.push([&whole[..], &[2, 7, 0]].concat());
         }
     }
     traces
@@ -191,7 +202,7 @@ fn some_nights() -> Vec<Vec<u8>> {
 
 /// Past the longest entry, past 65,536 octets and of some megabytes, read to the end and refused there.
 fn long() -> Vec<Vec<u8>> {
-    let closings = [2, 7].repeat(33_000);
+    let closings = [2, 7, 0].repeat(22_000);
     let nights = [night(30, 30_000), night(31, 90_000), night(32, 3_000_000)];
     let refused = nights.clone().map(|night| [night, vec![4, 7]].concat());
     let all_refused = [&closings[..], &[9]].concat();

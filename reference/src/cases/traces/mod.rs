@@ -167,7 +167,7 @@ mod tests {
     fn random_traces_meet_every_sort_of_line_often() {
         let met = sorts((0..1_000).map(|seed| case(seed, 6_000)));
         let numbers =
-            [1, 4, 5, 61, 62, 63, 64, 65, 7, 8, 9, 10, 11, 12, 14, 40, 41, 42, 44].into_iter();
+            [1, 4, 5, 61, 62, 63, 64, 65, 7, 8, 9, 10, 11, 12, 14, 40, 41, 42, 43, 44].into_iter();
         let mut expected: Vec<String> =
             numbers.map(|number| format!("{number} none none")).collect();
         for update in ["none", "applied", "stale"] {

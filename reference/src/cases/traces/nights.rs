@@ -1,6 +1,7 @@
 // Traces as a gateway might leave them: calls on the records that are there, and requests to them.
 use super::super::checks::responses;
 use super::super::clones::requests as clones;
+use super::super::operators;
 use super::super::requests::{arguments, starts};
 use super::super::tables::{pairs, peers, rules, scripts, spis};
 use crate::check::CheckResponse;
@@ -71,7 +72,8 @@ const IPSEC_SPIS: usize = 400;
 pub fn entries(rng: &mut Rng, size: usize) -> Vec<Entry> {
     let mut tables = Tables::empty();
     let weights = if rng.one_in(4) { MOSTLY_OPENINGS } else { MOSTLY_REQUESTS };
-    let mut entries = vec![policy(rng), opening(rng)];
+    let mut entries = vec![policy(rng), policy(rng), opening(rng)];
+    set_operators(&mut entries[..2]);
     let mut octets = 0;
     for entry in &entries {
         octets += entry_octets(entry).len();
@@ -91,13 +93,19 @@ fn entry(rng: &mut Rng, tables: &Tables, weights: &Weights) -> Entry {
     let making = if has_record { rng.pick_weighted(weights) } else { Making::OpenBoth };
     match making {
         Making::OpenBoth => opening(rng),
-        Making::AddIpsec => Entry::AddIpsec {
-            spi: u64::from(spis::ipsec(rng.below(IPSEC_SPIS))),
-            owner: scripts::ike_spi(rng, tables, 30),
-        },
-        Making::CloseIke => Entry::CloseIke { spi: scripts::ike_spi(rng, tables, 8) },
+        Making::AddIpsec => {
+            let owner = scripts::ike_spi(rng, tables, 30);
+            let operator = for_ike(rng, tables, owner);
+            Entry::AddIpsec { spi: u64::from(spis::ipsec(rng.below(IPSEC_SPIS))), owner, operator }
+        }
+        Making::CloseIke => {
+            let spi = scripts::ike_spi(rng, tables, 8);
+            Entry::CloseIke { spi, operator: for_ike(rng, tables, spi) }
+        }
         Making::CloseIpsec => {
-            Entry::CloseIpsec { spi: u64::from(scripts::ipsec_spi(rng, tables, 8)) }
+            let spi = scripts::ipsec_spi(rng, tables, 8);
+            let operator = operators::drawn(rng, operators::of_ipsec(tables, spi)) % 2;
+            Entry::CloseIpsec { spi: u64::from(spi), operator: u64::from(operator) }
         }
         Making::PlainRequest => {
             let spi = scripts::ike_spi(rng, tables, 60);
@@ -123,8 +131,25 @@ fn entry(rng: &mut Rng, tables: &Tables, weights: &Weights) -> Entry {
             let spi = arguments::spi(rng, tables);
             of_clone(clones::request(rng, tables, spi))
         }
-        Making::MarkDeletion => Entry::MarkDeletion { spi: scripts::ike_spi(rng, tables, 8) },
+        Making::MarkDeletion => {
+            let spi = scripts::ike_spi(rng, tables, 8);
+            Entry::MarkDeletion { spi, operator: for_ike(rng, tables, spi) }
+        }
         Making::Policy => policy(rng),
+    }
+}
+
+/// Mostly the operator of the record that the SPI means; an entry has room for one of the two only.
+fn for_ike(rng: &mut Rng, tables: &Tables, spi: u64) -> u64 {
+    u64::from(operators::drawn(rng, operators::of_ike(tables, spi)) % 2)
+}
+
+/// The first policies are one for each operator.
+fn set_operators(policies: &mut [Entry]) {
+    for (number, policy) in policies.iter_mut().enumerate() {
+        if let Entry::Policy { operator, .. } = policy {
+            *operator = number as u64;
+        }
     }
 }
 
@@ -137,6 +162,7 @@ fn opening(rng: &mut Rng) -> Entry {
         child: u64::from(spis::ipsec(rng.below(IPSEC_SPIS))),
         peer: u64::from(peers::any(rng)),
         cloning: u64::from(!rng.one_in(8)),
+        operator: u64::from(operators::one(rng)),
     })
 }
 
@@ -153,7 +179,7 @@ fn policy(rng: &mut Rng) -> Entry {
     }
     let rules: Vec<Rule> =
         policy.rules[..usize::from(policy.count)].iter().map(Rule::from).collect();
-    Entry::policy(&rules)
+    Entry::policy(&rules, u64::from(operators::one(rng)))
 }
 
 fn of_request(request: request::Request) -> Entry {
@@ -169,6 +195,7 @@ fn of_request(request: request::Request) -> Entry {
         body,
         cookie: request.cookie,
         check_id: u64::from(request.check_id),
+        operator: u64::from(request.operator % 2),
     })
 }
 
@@ -185,8 +212,9 @@ fn spi_of_check(rng: &mut Rng, tables: &Tables) -> u64 {
 fn of_clone(request: CloneRequest) -> Entry {
     let mut body = request.body;
     body.truncate(MOST_OCTETS);
-    let CloneRequest { spi, new_spi, first, .. } = request;
-    Entry::Clone { spi, new_spi, first: u64::from(first), body }
+    let CloneRequest { spi, new_spi, first, operator, .. } = request;
+    let operator = u64::from(operator % 2);
+    Entry::Clone { spi, new_spi, first: u64::from(first), body, operator }
 }
 
 fn of_response(response: CheckResponse) -> Entry {
@@ -197,5 +225,6 @@ fn of_response(response: CheckResponse) -> Entry {
         id: u64::from(response.id),
         first: u64::from(response.first),
         body,
+        operator: u64::from(response.operator % 2),
     }
 }

@@ -17,7 +17,7 @@ pub fn all() -> Vec<Case> {
     let small: Vec<Vec<usize>> = (1..=50).map(|length| vec![length]).collect();
     let small: Vec<&[usize]> = small.iter().map(Vec::as_slice).collect();
     add(&every_kind, &small);
-    add(&every_kind, &[&[1, 100], &[43, 37], &[42, 1], &[79, 1, 1], &[4_095]]);
+    add(&every_kind, &[&[1, 100], &[44, 38], &[43, 1], &[81, 1, 1], &[4_095]]);
     for length in (0..every_kind.len()).step_by(9) {
         add(&every_kind[..length], &[&[1], &[7], &[4_095]]);
     }
@@ -30,7 +30,7 @@ pub fn all() -> Vec<Case> {
     }
     for before in [0, 3, 4_000, LONGEST - 1] {
         let trace = windows::longest_in_a_row(before, 3);
-        add(&trace, &[&[4_095], &[4_096], &[4_096, 4_096, 4_096, 4_096, 71], &[1_000, 3_001, 1]]);
+        add(&trace, &[&[4_095], &[4_096], &[4_096, 4_096, 4_096, 4_096, 72], &[1_000, 3_001, 1]]);
     }
     add(&windows::longest_in_a_row(3, 2), &[&[7], &[61]]);
     add(&windows::longest_in_a_row(0, 1), &[&[1]]);

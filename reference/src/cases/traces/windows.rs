@@ -19,8 +19,8 @@ pub fn all() -> Vec<Vec<u8>> {
         }
     }
     for before in (0..=12).chain([100, LONGEST - 1, LONGEST, LONGEST + 1]) {
-        let whole = [filled(before), longest(), vec![2, 7]].concat();
-        traces.push(whole[..whole.len() - 3].to_vec());
+        let whole = [filled(before), longest(), vec![2, 7, 0]].concat();
+        traces.push(whole[..whole.len() - 4].to_vec());
         traces.push(whole);
     }
     for before in [0, 2, 3, 5, 4_000, 8_000, LONGEST - 2, LONGEST - 1, LONGEST + 1] {
@@ -33,7 +33,7 @@ pub fn all() -> Vec<Vec<u8>> {
 
 /// The longest entry several times behind so many octets, then a short entry and an unknown kind.
 pub fn longest_in_a_row(before: usize, count: usize) -> Vec<u8> {
-    [filled(before), longest().repeat(count), vec![2, 7, 9]].concat()
+    [filled(before), longest().repeat(count), vec![2, 7, 0, 9]].concat()
 }
 
 /// Entries up to a few octets before the end of a window as long as the longest entry, and one more.
@@ -46,7 +46,7 @@ pub fn about_longest() -> Vec<Vec<u8>> {
 fn last_entries() -> [Vec<u8>; 5] {
     let greatest = [&[0xff; 9][..], &[1]].concat();
     [
-        [&[1, 0x80, 0x80, 0x80, 0x80, 8][..], &greatest, &[2, 7]].concat(),
+        [&[1, 0x80, 0x80, 0x80, 0x80, 8][..], &greatest, &[1, 2, 7, 0]].concat(),
         [&[3][..], &greatest].concat(),
         [&[5, 1][..], &greatest].concat(),
         greatest.clone(),
@@ -68,10 +68,11 @@ fn longest() -> Vec<u8> {
         body: vec![0x83; MOST_OCTETS],
         cookie: vec![0x84; MOST_OCTETS],
         check_id: u64::from(u32::MAX),
+        operator: 1,
     }))
 }
 
-/// Entries of so many octets in all, but for 1, which no entry has.
+/// Entries of so many octets in all, but for 1 and 2, which no entry has.
 fn filled(mut count: usize) -> Vec<u8> {
     let with_body =
         |length| entry_octets(&Entry::Request(Request { body: vec![0; length], ..request() }));
@@ -85,11 +86,10 @@ fn filled(mut count: usize) -> Vec<u8> {
         octets.extend(with_body(128 + count - least));
         return octets;
     }
-    if count % 2 == 1 {
-        octets.extend([2, 0x80, 1]);
-        count = count.saturating_sub(3);
-    }
-    octets.extend([2, 7].repeat(count / 2));
+    let longer: &[u8] = [&[][..], &[2, 0x80, 1, 0], &[2, 0x80, 0x80, 1, 1]][count % 3];
+    octets.extend(longer);
+    count = count.saturating_sub(longer.len());
+    octets.extend([2, 7, 0].repeat(count / 3));
     octets
 }
 
@@ -99,10 +99,10 @@ mod tests {
 
     #[test]
     fn traces_are_filled_as_far_as_they_should_be() {
-        for count in (2..500).chain([3_999, 4_000, 4_001, 12_351, 65_536]) {
+        for count in (3..500).chain([3_999, 4_000, 4_001, 12_351, 65_536]) {
             assert_eq!(filled(count).len(), count);
         }
         assert_eq!(longest().len(), LONGEST);
-        assert_eq!(longest_in_a_row(3, 4).len(), 3 + 4 * LONGEST + 3);
+        assert_eq!(longest_in_a_row(3, 4).len(), 3 + 4 * LONGEST + 4);
     }
 }

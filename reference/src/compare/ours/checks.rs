@@ -16,13 +16,14 @@ extern "C" {
         first: u8,
         body: *const u8,
         body_len: usize,
+        operator: u8,
     ) -> CAssessed;
 }
 
 /// Decides the response by the library, which changes the tables; also whether what is around the lent ones is kept.
 pub fn check<'a>(response: &'a CheckResponse, tables: &mut Tables) -> (Assessed<'a>, bool) {
-    let CheckResponse { spi, id, first, body } = response;
-    let mut lent = LentTables::new(tables, *spi, NO_SPI_GIVEN);
+    let CheckResponse { spi, id, first, body, operator } = response;
+    let mut lent = LentTables::new(tables, (*spi, NO_SPI_GIVEN), *operator);
     let ipsec_length = lent.ipsec().len();
     // SAFETY: each start and length are those of a slice that outlives the call, that of the IKE records has its 32,
     // and no two of these overlap; the rest goes by value, and any is allowed.
@@ -36,6 +37,7 @@ pub fn check<'a>(response: &'a CheckResponse, tables: &mut Tables) -> (Assessed<
             *first,
             body.as_ptr(),
             body.len(),
+            *operator,
         )
     };
     (assessed(told, body), lent.give_back(tables))

@@ -31,6 +31,7 @@ extern "C" {
         body_len: usize,
         out: *mut u8,
         out_len: usize,
+        operator: u8,
     ) -> CCloneReply;
 }
 
@@ -40,8 +41,8 @@ const OCTET: u8 = 0x5b;
 
 /// Clones by the library, which changes the IKE table; also whether what is around that and around the output is kept.
 pub fn clone(request: &CloneRequest, tables: &mut Tables) -> (Cloned, bool) {
-    let CloneRequest { spi, new_spi, first, body, output } = request;
-    let mut lent = LentTables::new(tables, *spi, NO_SPI_GIVEN);
+    let CloneRequest { spi, new_spi, first, body, operator, output } = request;
+    let mut lent = LentTables::new(tables, (*spi, NO_SPI_GIVEN), *operator);
     let mut longer = [&[OCTET; AROUND], &output[..], &[OCTET; AROUND]].concat();
     let middle = &mut longer[AROUND..][..output.len()];
     // SAFETY: each start and length are those of a slice that outlives the call, that of the IKE records has its 32,
@@ -56,6 +57,7 @@ pub fn clone(request: &CloneRequest, tables: &mut Tables) -> (Cloned, bool) {
             body.len(),
             middle.as_mut_ptr(),
             middle.len(),
+            *operator,
         )
     };
     let output = middle.to_vec();

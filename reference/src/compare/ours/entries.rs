@@ -18,7 +18,7 @@ struct CEntryWritten {
     length: usize,
 }
 
-const _: () = assert!(size_of::<CEntryRead>() == 664 && offset_of!(CEntryRead, kind) == 1);
+const _: () = assert!(size_of::<CEntryRead>() == 672 && offset_of!(CEntryRead, kind) == 1);
 const _: () = assert!(offset_of!(CEntryRead, next) == 8 && offset_of!(CEntryRead, slots) == 16);
 const _: () = assert!(size_of::<CEntryWritten>() == 16 && offset_of!(CEntryWritten, length) == 8);
 

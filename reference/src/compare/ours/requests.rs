@@ -2,6 +2,7 @@
 use super::cookie::hand_out;
 use reference::address::AddressPair;
 use reference::lent::{LentTables, NO_SPI_GIVEN};
+use reference::operator::OPERATORS;
 use reference::outcome::Place;
 use reference::policy::Policy;
 use reference::reply::{Handled, Reply};
@@ -33,7 +34,7 @@ extern "C" {
         ike: *mut IkeRecord,
         ipsec: *const IpsecRecord,
         ipsec_len: usize,
-        policy: *const Policy,
+        policies: *const [Policy; OPERATORS],
         spi: u64,
         id: u32,
         pair: AddressPair,
@@ -49,11 +50,12 @@ extern "C" {
         body_len: usize,
         out: *mut u8,
         out_len: usize,
+        operator: u8,
     ) -> CReply;
 }
 
 /// Handles the request by the library, which changes the tables; also whether what is around the
-/// lent ones and the policy is kept.
+/// lent ones and the policies is kept.
 pub fn handle<'a>(request: &'a Request, tables: &mut Tables) -> (Handled<'a>, bool) {
     let Request {
         spi,
@@ -63,22 +65,23 @@ pub fn handle<'a>(request: &'a Request, tables: &mut Tables) -> (Handled<'a>, bo
         nat_destination,
         cookie,
         check_id,
+        operator,
         first,
         body,
         output,
     } = request;
     let mut output = output.clone();
-    let mut lent = LentTables::new(tables, *spi, NO_SPI_GIVEN);
+    let mut lent = LentTables::new(tables, (*spi, NO_SPI_GIVEN), *operator);
     let ipsec_length = lent.ipsec().len();
     // SAFETY: each start and length are those of a slice that outlives the call, that of the IKE
-    // records has its 32, that of the policy is one's, and no two of these overlap; the rest goes by
+    // records has its 32, that of the policies two, and no two of these overlap; the rest goes by
     // value, and any is allowed.
     let told = unsafe {
         unmavreth_handle(
             lent.ike().as_mut_ptr(),
             lent.ipsec().as_ptr(),
             ipsec_length,
-            lent.policy(),
+            lent.policies(),
             *spi,
             *id,
             *pair,
@@ -94,6 +97,7 @@ pub fn handle<'a>(request: &'a Request, tables: &mut Tables) -> (Handled<'a>, bo
             body.len(),
             output.as_mut_ptr(),
             output.len(),
+            *operator,
         )
     };
     (Handled { reply: reply(told, body), output }, lent.give_back(tables))

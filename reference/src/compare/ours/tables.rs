@@ -4,7 +4,9 @@ use reference::agreed::Agreed;
 use reference::calls::Call;
 use reference::lent::{LentTables, NO_SPI_GIVEN};
 use reference::lent_rules::BetweenRules;
+use reference::opening::Adding;
 use reference::opening_both::Opening;
+use reference::operator::OPERATORS;
 use reference::pending::PendingCheck;
 use reference::policy::{Policy, Rule, RuleList};
 use reference::tables::{IkeRecord, IpsecRecord, Tables};
@@ -19,14 +21,16 @@ const _: () = assert!(offset_of!(IkeRecord, agreed) == 8 && offset_of!(IkeRecord
 const _: () = assert!(offset_of!(IkeRecord, count) == 72 && offset_of!(IkeRecord, addresses) == 74);
 const _: () = assert!(size_of::<Agreed>() == 8 && offset_of!(Agreed, mobike) == 0);
 const _: () = assert!(offset_of!(Agreed, cloning) == 1 && offset_of!(Agreed, peer) == 4);
+const _: () = assert!(offset_of!(Agreed, operator) == 2);
 const _: () = assert!(offset_of!(IpsecRecord, owner) == 8 && offset_of!(IpsecRecord, pair) == 16);
 const _: () = assert!(size_of::<Opening>() == 64 && offset_of!(Opening, agreed) == 8);
 const _: () = assert!(offset_of!(Opening, pair) == 16 && offset_of!(Opening, child) == 56);
 const _: () = assert!(size_of::<Rule>() == 35 && offset_of!(Rule, source_length) == 33);
 const _: () = assert!(size_of::<Policy>() == 562 && offset_of!(Policy, rules) == 2);
+const _: () = assert!(size_of::<[Policy; OPERATORS]>() == 1124);
 const _: () = assert!(size_of::<RuleList>() == 560);
 
-// Each start of IKE records is that of 32.
+// Each start of IKE records is that of 32, and that of policies of one for each operator.
 #[link(name = "unmavreth", kind = "static")]
 extern "C" {
     fn unmavreth_open(
@@ -41,25 +45,37 @@ extern "C" {
         ipsec_len: usize,
         spi: u32,
         owner: u64,
+        operator: u8,
     ) -> u8;
     fn unmavreth_close_ike(
         ike: *mut IkeRecord,
         ipsec: *mut IpsecRecord,
         ipsec_len: usize,
         spi: u64,
+        operator: u8,
     ) -> u8;
-    fn unmavreth_close_ipsec(ipsec: *mut IpsecRecord, ipsec_len: usize, spi: u32) -> u8;
-    fn unmavreth_mark_deletion(ike: *mut IkeRecord, spi: u64) -> u8;
-    fn unmavreth_set_policy(policy: *mut Policy, count: u16, rules: *const RuleList) -> u8;
-    /// Given back as an octet, so that any value may be looked at.
+    fn unmavreth_close_ipsec(
+        ike: *const IkeRecord,
+        ipsec: *mut IpsecRecord,
+        ipsec_len: usize,
+        spi: u32,
+        operator: u8,
+    ) -> u8;
+    fn unmavreth_mark_deletion(ike: *mut IkeRecord, spi: u64, operator: u8) -> u8;
+    fn unmavreth_set_policy(
+        policies: *mut [Policy; OPERATORS],
+        count: u16,
+        rules: *const RuleList,
+        operator: u8,
+    ) -> u8;
+    /// Of one policy; given back as an octet, so that any value may be looked at.
     fn unmavreth_acceptable(policy: *const Policy, pair: AddressPair) -> u8;
 }
 
 /// Makes the call on the tables by the library; what it gives back is as for `Call::make`, with
 /// whether what is around all that was lent is kept, and the rules that were lent for reading.
 pub fn make(call: &Call, tables: &mut Tables) -> (u8, bool) {
-    let (spi, ipsec_spi) = spis(call);
-    let mut lent = LentTables::new(tables, spi, ipsec_spi);
+    let mut lent = LentTables::new(tables, spis(call), call.operator());
     let given = given_rules(call);
     let mut rules = BetweenRules::new(given);
     let number = make_on(call, &mut lent, rules.start());
@@ -72,9 +88,9 @@ fn spis(call: &Call) -> (u64, u32) {
     let none = u64::from(NO_SPI_GIVEN);
     match *call {
         Call::OpenBoth(Opening { spi, child, .. }) => (spi, child),
-        Call::OpenIpsec { spi, owner } => (owner, spi),
-        Call::CloseIke { spi } | Call::MarkDeletion { spi } => (spi, NO_SPI_GIVEN),
-        Call::CloseIpsec { spi } => (none, spi),
+        Call::OpenIpsec(Adding { spi, owner, .. }) => (owner, spi),
+        Call::CloseIke { spi, .. } | Call::MarkDeletion { spi, .. } => (spi, NO_SPI_GIVEN),
+        Call::CloseIpsec { spi, .. } => (none, spi),
         Call::SetPolicy { .. } | Call::Acceptable { .. } => (none, NO_SPI_GIVEN),
     }
 }
@@ -91,37 +107,39 @@ fn make_on(call: &Call, lent: &mut LentTables, rules: *const RuleList) -> u8 {
     let ike = lent.ike().as_mut_ptr();
     let ipsec_length = lent.ipsec().len();
     let ipsec = lent.ipsec().as_mut_ptr();
-    let policy = lent.policy();
+    let policies = lent.policies();
     match *call {
         Call::OpenBoth(opening) => {
             // SAFETY: each start and length are those of a slice that outlives the call, that of
-            // the IKE records has its 32, those of the policy and of the rules are one's, and no two
-            // of these overlap; the rest goes by value, and any is allowed.
+            // the IKE records has its 32, that of the policies two, that of the rules is one's, and no
+            // two of these overlap; the rest goes by value, and any is allowed.
             unsafe { unmavreth_open(ike, ipsec, ipsec_length, opening) }
         }
-        Call::OpenIpsec { spi, owner } => {
+        Call::OpenIpsec(Adding { spi, owner, operator }) => {
             // SAFETY: as above.
-            unsafe { unmavreth_open_ipsec(ike, ipsec, ipsec_length, spi, owner) }
+            unsafe { unmavreth_open_ipsec(ike, ipsec, ipsec_length, spi, owner, operator) }
         }
-        Call::CloseIke { spi } => {
+        Call::CloseIke { spi, operator } => {
             // SAFETY: as above.
-            unsafe { unmavreth_close_ike(ike, ipsec, ipsec_length, spi) }
+            unsafe { unmavreth_close_ike(ike, ipsec, ipsec_length, spi, operator) }
         }
-        Call::CloseIpsec { spi } => {
+        Call::CloseIpsec { spi, operator } => {
             // SAFETY: as above.
-            unsafe { unmavreth_close_ipsec(ipsec, ipsec_length, spi) }
+            unsafe { unmavreth_close_ipsec(ike, ipsec, ipsec_length, spi, operator) }
         }
-        Call::MarkDeletion { spi } => {
+        Call::MarkDeletion { spi, operator } => {
             // SAFETY: as above.
-            unsafe { unmavreth_mark_deletion(ike, spi) }
+            unsafe { unmavreth_mark_deletion(ike, spi, operator) }
         }
-        Call::SetPolicy { count, .. } => {
+        Call::SetPolicy { count, operator, .. } => {
             // SAFETY: as above.
-            unsafe { unmavreth_set_policy(policy, count, rules) }
+            unsafe { unmavreth_set_policy(policies, count, rules, operator) }
         }
-        Call::Acceptable { pair } => {
-            // SAFETY: as above.
-            unsafe { unmavreth_acceptable(policy, pair) }
+        Call::Acceptable { pair, operator } => {
+            let place = usize::from(operator);
+            assert!(place < OPERATORS, "A's policy or B's");
+            // SAFETY: as above; the start of a policy is that of one of the two.
+            unsafe { unmavreth_acceptable(policies.cast::<Policy>().add(place), pair) }
         }
     }
 }

@@ -28,11 +28,24 @@ clone-notify-spec =
       ne-eqb _ _ (λ x. j .if2 .left (x ∙ sym (j .before .number-of2 .ensures))),
       eq-eqb _ _ (c .if3 .taken ∙ c .before .number-of3 .ensures),
     ))
+    (λ c κs. search needs)
     (λ c.
-    let j = c .before .before in
+    let k = c .before .before in
+    let j = k .before .before in
     let i = j .before .before in
     rw (
       ne-eqb _ _ (λ x. i .if1 .left (x ∙ sym (i .before .number-of .ensures))),
       ne-eqb _ _ (λ x. j .if2 .left (x ∙ sym (j .before .number-of2 .ensures))),
-      ne-eqb _ _ (λ x. c .if3 .left (x ∙ sym (c .before .number-of3 .ensures))),
+      ne-eqb _ _ (λ x. k .if3 .left (x ∙ sym (k .before .number-of3 .ensures))),
+      eq-eqb _ _ (c .if4 .taken ∙ c .before .number-of4 .ensures),
+    ))
+    (λ c.
+    let k = c .before .before in
+    let j = k .before .before in
+    let i = j .before .before in
+    rw (
+      ne-eqb _ _ (λ x. i .if1 .left (x ∙ sym (i .before .number-of .ensures))),
+      ne-eqb _ _ (λ x. j .if2 .left (x ∙ sym (j .before .number-of2 .ensures))),
+      ne-eqb _ _ (λ x. k .if3 .left (x ∙ sym (k .before .number-of3 .ensures))),
+      ne-eqb _ _ (λ x. c .if4 .left (x ∙ sym (c .before .number-of4 .ensures))),
     )))

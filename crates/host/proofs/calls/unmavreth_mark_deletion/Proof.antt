@@ -44,16 +44,17 @@ use Rattle.host.proofs.calls.unmavreth_mark_deletion.Statement as state
 use Rattle.host.proofs.calls.unmavreth_mark_deletion.Code as code
 
 abbrev stayed : Stays (f.ended .signature .params) (f.ended .kept)
-stayed = gave-ref (0 ∷ []) tt table-slot & stay-dropped (plain (λ _. u64)) yes & tt
+stayed =
+    gave-ref (0 ∷ []) tt table-slot & stay-dropped (plain (λ _. u64)) yes & stay-dropped (plain (λ _. u8)) yes & tt
 
 abbrev spelled : (κs : Lfts 1) → Spells (typesAt (f.signature .params) κs)
-spelled κs = ptr-vals & uint-vals w64 & tt
+spelled κs = ptr-vals & uint-vals w64 & uint-vals w8 & tt
 
 module _ {M : Type 1} (𝓤 : URA M) (H : Heap 𝓤) (A : Atoms 𝓤) (W : Given 𝓤 H A) (at-mem : Memory → SProp 𝓤)
-    (run : Routine → Fun 𝓤) (κs : Lfts 1) (qs : Shares 1) (ike : RefT (List IkeRecord)) (spi : ℕ)
-    (spi-fits : spi < 2 ^ 64) where
+    (run : Routine → Fun 𝓤) (κs : Lfts 1) (qs : Shares 1) (ike : RefT (List IkeRecord)) (spi op : ℕ)
+    (spi-fits : spi < 2 ^ 64) (op-fits : op < 2 ^ 8) where
   abbrev a : Args f.signature κs
-  a = ike & spi & tt
+  a = ike & spi & op & tt
 
   abbrev vals : Vals f.signature κs
   vals = valss (typesAt (f.signature .params) κs) (spelled κs) a
@@ -69,7 +70,7 @@ module _ {M : Type 1} (𝓤 : URA M) (H : Heap 𝓤) (A : Atoms 𝓤) (W : Given
   old = getD (ike .now) place noIke
 
   abbrev c : IkeChange
-  c = ikeMarking spi place old
+  c = ikeMarking spi op place old
 
   abbrev after : List IkeRecord
   after = set (ike .now) (c .place) (c .entry)
@@ -82,9 +83,9 @@ module _ {M : Type 1} (𝓤 : URA M) (H : Heap 𝓤) (A : Atoms 𝓤) (W : Given
   exits long fits zs e =
       qed W (End zs) ∵
       suffices ! _ (ends-at 𝓤 H A f.ended stayed (f.clauses 𝓤 H A at-mem run) W ((κs, qs, tt, a, vals), tt)
-      (vint w8 (c .number)) (c .number) (zs & tt & tt) (tt & tt & tt)) $
-      says ! (rw e (marks-deletion (ike .now) long spi)) $ move ! (1 ∷ []) $ token ! $ frame ! $ nothing ! $ nothing ! $
-      fjoin ! $ move ! (1 ∷ 0 ∷ []) $ fjoin ! $ frame ! $
+      (vint w8 (c .number)) (c .number) (zs & tt & tt & tt) (tt & tt & tt & tt)) $
+      says ! (rw e (marks-deletion (ike .now) long spi op)) $ move ! (1 ∷ []) $ token ! $ frame ! $ nothing ! $ nothing ! $
+      fjoin ! $ nothing ! $ fjoin ! $ move ! (1 ∷ 0 ∷ []) $ fjoin ! $ frame ! $
       owned ! u8 (Is u8) (uint-makes 𝓤 H A W w8) (c .number) _ (refl, fits) $ done !
 
   module _ (C : Calls 𝓤 H) (Λ : Loops 𝓤 H) (fm : FmC 𝓤 H (W .laws) C)
@@ -98,7 +99,7 @@ module _ {M : Type 1} (𝓤 : URA M) (H : Heap 𝓤) (A : Atoms 𝓤) (W : Given
         qed W (Token 𝓤 (κs .0) (qs .0) ∷ ‵ (owns (typesAt (f.signature .params) κs) a vals) ∷ []) ∵
         enter ! C Λ code.function (flat (typesAt (f.signature .params) κs) vals) _ $
         allocates ! (λ l. params1 ! $ passed ! refl (tt, tt) $ passed ! refl (tt, record { fits = spi-fits }) $
-        pass0 ! $ given-first ! $ no-token ! $ move ! (1 ∷ []) $ fsplit ! $ move ! (1 ∷ []) $ drop ! $
+        passed ! refl (tt, record { fits = op-fits }) $ pass0 ! $ given-first ! $ no-token ! $ move ! (1 ∷ []) $ fsplit ! $ move ! (1 ∷ []) $ drop ! $
         -- [the table; its token; the locals]
         sets ! (addr ! (behind ! refl (stop !))) refl (tt, tt) $
         finds-ike ! fm at-mem run ike known-find spi spi-fits
@@ -108,13 +109,21 @@ module _ {M : Type 1} (𝓤 : URA M) (H : Heap 𝓤) (A : Atoms 𝓤) (W : Given
         reads-ike ! fm at-mem run ike known-read place place-fits
         (λ i j. and-then ! (value ! refl) (and-then ! (value ! refl) (no-more !)))
         (λ old-is. lands-in ! refl (LL.lawful S.the-type S′.the-laws 𝓤 H A W .typed old _ old-is .0) $
-        plainly ! (u64 ∷ usize ∷ R ∷ [])
-        (uint-makes 𝓤 H A W w64 & uint-makes 𝓤 H A W w64 & LL.makes S.the-type S′.the-plain 𝓤 H A & tt)
-        (spi & place & old & tt) (uint-vals w64 spi & uint-vals w64 place & rec-vals old & tt)
-        ((refl, spi-fits) & (refl, place-fits) & old-is & tt) $
-        calls-for ! fm marking.ended (marking.clauses 𝓤 H A at-mem run) known-marking
-        ((tt, tt, tt, (spi & place & old & tt), (uint-vals w64 spi & uint-vals w64 place & rec-vals old & tt)), tt)
-        (id⊢ 𝓤 _) (and-then ! (value ! refl) (and-then ! (value ! refl) (and-then ! (value ! refl) (no-more !))))
+        plainly ! (u64 ∷ u8 ∷ usize ∷ R ∷ []) (uint-makes 𝓤 H A W w64 & uint-makes 𝓤 H A W w8 & uint-makes 𝓤 H A W w64
+        & LL.makes S.the-type S′.the-plain 𝓤 H A & tt) (spi & op & place & old & tt)
+        (uint-vals w64 spi & uint-vals w8 op & uint-vals w64 place & rec-vals old & tt)
+        ((refl, spi-fits) & (refl, op-fits) & (refl, place-fits) & old-is & tt) $
+        calls-for ! fm marking.ended (marking.clauses 𝓤 H A at-mem run) known-marking (
+          (
+            tt,
+            tt,
+            tt,
+            (spi & op & place & old & tt),
+            (uint-vals w64 spi & uint-vals w8 op & uint-vals w64 place
+                & rec-vals old & tt),
+          ),
+          tt,
+        ) (id⊢ 𝓤 _) (and-then ! (value ! refl) (and-then ! (value ! refl) (and-then ! (value ! refl) (and-then ! (value ! refl) (no-more !)))))
         (LL.vals D.the-type D′.the-laws) (LL.tells D.the-type D′.the-laws) c (λ r ws. id⊢ 𝓤 _) (λ is. drop ! $
         lands-in ! refl (LL.lawful D.the-type D′.the-laws 𝓤 H A W .typed c _ is .0) $
         sets ! (addr ! (behind ! refl (stop !))) refl (tt, tt) $
@@ -133,10 +142,11 @@ unmavreth-mark-deletion-spec 𝓤 H 𝓜 𝓖 𝓡 =
     let Ts = tables 𝓤 H 𝓜 𝓡 code.env in
     closes 𝓤 H 𝓜 𝓖 𝓡 code.env key.name code.function (code.unfolded 𝓤 H 𝓜 𝓡) f.ended stayed
     (f.clauses 𝓤 H A (𝓜 .mem) (𝓡 .run))
-    (goes-gave-ref 𝓤 H A W 1 0 tt table-slot & goes-dropped 𝓤 H A W 1 (plain (λ _. u64)) yes (λ κs x f. refl) & tt)
-    spelled (λ κs. mut-tells (named 0) (κs .0) Q & uint-tells w64 & tt)
+    (goes-gave-ref 𝓤 H A W 1 0 tt table-slot & goes-dropped 𝓤 H A W 1 (plain (λ _. u64)) yes (λ κs x f. refl)
+    & goes-dropped 𝓤 H A W 1 (plain (λ _. u8)) yes (λ κs x f. refl) & tt)
+    spelled (λ κs. mut-tells (named 0) (κs .0) Q & uint-tells w64 & uint-tells w8 & tt)
     (λ κs qs bounds a g are. via 𝓤 _ (fst∗ 𝓤 _ (emp 𝓤)) (walk 𝓤 H A W (𝓜 .mem) (𝓡 .run) κs qs (a .0) (a .1 .0)
-    (are .1 .0 .1) (Ts .C) (Ts .Λ) (fmOf 𝓤 H (W .laws) (tablesOf 𝓤 H 𝓜 Ts))
+    (a .1 .1 .0) (are .1 .0 .1) (are .1 .1 .0 .1) (Ts .C) (Ts .Λ) (fmOf 𝓤 H (W .laws) (tablesOf 𝓤 H 𝓜 Ts))
     (cited 𝓤 H (Told 𝓤 H A find.ended (find.clauses 𝓤 H A (𝓜 .mem) (𝓡 .run))) 𝓜 𝓡 code.env find-def.name
     find-def.routine code.calls-lent-ike·ike·ike-place (find-thm.met 𝓤 H 𝓜 𝓖 𝓡))
     (cited 𝓤 H (Told 𝓤 H A read.ended (read.clauses 𝓤 H A (𝓜 .mem) (𝓡 .run))) 𝓜 𝓡 code.env read-def.name

@@ -1,4 +1,4 @@
--- `host::calls::unmavreth_open` meets its contract: a walk of its MIR, by hand. The list is lent to `ipsec_count`, the table twice to `ike_place` and the list twice to `ipsec_place`, the covered `both_opening` decides, and then the table is passed for good to `ike_store`, and the list to `ipsec_store`.
+-- `host::calls::unmavreth_open` meets its contract: a walk of its MIR, by hand. The list is lent to `ipsec_count`, the table twice to `ike_place` and the list twice to `ipsec_place`, the table to `ike_count` and both to `ipsec_count_of`, the covered `both_opening` decides, and then the table is passed for good to `ike_store`, and the list to `ipsec_store`.
 -- Assumes nothing.
 use Rattle.walks.proofs.Kit.{_≡_, refl, ℕ, _<_, _^_, [], _∷_, List, lit<, length, set, URA, named, w8, w64, Val, vint}
 use Rattle.walks.proofs.Kit.{SProp, ent, emp, via, id⊢, fst∗, flft, fres, Memory, Routine, Heap, Calls, Loops, WpFn}
@@ -9,15 +9,25 @@ use Rattle.walks.proofs.Kit.{flat, Is, Spells, valss, uint-makes, uint-vals, u8
 use Rattle.walks.proofs.Kit.{slice-vals, mut-slice-tells, Room, finally, Slot, plain, typesAt, owned, nothing, Triple}
 use Rattle.walks.proofs.Kit.{Args, Vals, onEntry, cited, says, Stays, stay-dropped, gave-ref, gave-slice, walkOf}
 use Rattle.walks.proofs.Kit.{goes-dropped, goes-gave-ref, goes-gave-slice, ends-at, yes, T}
+use Rattle.walks.proofs.Kit.{_+_, Ty, Share, Env, spotOf, Item, copy, fld, load, from, look-in}
+use mathlib.Core.Option.{some}
+use mir.Syntax.{field, place as at}
+use prog.Memory.{fieldOf}
+use types.Kit.{nth}
+use types.Part.{Part}
+use types.Run.{Opd}
 use denote.Struct.Laws as LL
 use Rattle.octets.specs.Lists.{placeOf}
 use Rattle.records.specs.Records.{ikeSpi, ipsecSpi}
+use Rattle.tables.specs.Calls.{ikesOf, ipsecsOf}
 use Rattle.tables.specs.Changes.{bothOpening}
 use Rattle.records.specs.declared.ike.IkeRecord.{IkeRecord}
 use Rattle.records.specs.declared.ipsec.IpsecRecord.{IpsecRecord}
 use Rattle.tables.specs.declared.calls.BothChange.{BothChange}
 use Rattle.tables.specs.declared.calls.Opening.{Opening}
 use Rattle.tables.proofs.Changed.{opens-both}
+use Rattle.records.proofs.ike.Agreed as G
+use Rattle.records.proofs.ike.Agreed.Laws as G′
 use Rattle.tables.proofs.calls.BothChange as D
 use Rattle.tables.proofs.calls.BothChange.Laws as D′
 use Rattle.tables.proofs.calls.Opening as O
@@ -26,12 +36,15 @@ use Rattle.tables.proofs.calls.both_opening as opening
 use Rattle.tables.proofs.calls.both_opening.Symbol as opening-def
 use Rattle.tables.proofs.calls.both_opening.Met as opening-thm
 use Rattle.walks.proofs.Walk.{closes}
-use Rattle.walks.proofs.Locals.{allocates, passed, given-first, value, part, behind, behind-part, sets, lands-in}
+use Rattle.walks.proofs.Locals.{allocates, passed, given-first, spot, value, part, behind, behind-part, sets, lands-in}
 use Rattle.walks.proofs.Locals.{lands-over, hands, ends}
 use Rattle.walks.proofs.Calls.{_&_, tokens, Told, no-token, plainly, calls-for}
-use Rattle.lent.proofs.Asked.{counts, finds-ike, finds-ipsec, stores-ike, stores-ipsec}
+use Rattle.lent.proofs.Asked.{counts, finds-ike, finds-ipsec, counts-ikes, counts-ipsecs, stores-ike, stores-ipsec}
 use Rattle.lent_ike.proofs.IkeTable.{Q, table-slot}
 use Rattle.lent_ipsec.proofs.IpsecTable.{R}
+use Rattle.lent_ike.proofs.ike.ike_count as ikes
+use Rattle.lent_ike.proofs.ike.ike_count.Symbol as ikes-def
+use Rattle.lent_ike.proofs.ike.ike_count.Met as ikes-thm
 use Rattle.lent_ike.proofs.ike.ike_place as home
 use Rattle.lent_ike.proofs.ike.ike_place.Symbol as home-def
 use Rattle.lent_ike.proofs.ike.ike_place.Met as home-thm
@@ -47,10 +60,21 @@ use Rattle.lent_ipsec.proofs.places.ipsec_place.Met as place-thm
 use Rattle.lent_ipsec.proofs.places.ipsec_store as store
 use Rattle.lent_ipsec.proofs.places.ipsec_store.Symbol as store-def
 use Rattle.lent_ipsec.proofs.places.ipsec_store.Met as store-thm
+use Rattle.lent_shares.proofs.shares.ipsec_count_of as ipsecs
+use Rattle.lent_shares.proofs.shares.ipsec_count_of.Symbol as ipsecs-def
+use Rattle.lent_shares.proofs.shares.ipsec_count_of.Met as ipsecs-thm
 use Rattle.host.proofs.calls.unmavreth_open.Key as key
 use Rattle.host.proofs.calls.unmavreth_open as f
 use Rattle.host.proofs.calls.unmavreth_open.Statement as stated
 use Rattle.host.proofs.calls.unmavreth_open.Code as code
+
+-- a field of a local's field is read
+inner : {M : Type 1} {𝓤 : URA M} {H : Heap 𝓤} {A : Atoms 𝓤} {K : Type 0} {W : Given 𝓤 H A} {Γ : List (Item 𝓤)}
+    {E : Env 𝓤 H} {i k j : ℕ} {σ υ : Ty} {d m : ℕ} {q : Share} {back : Val → Item 𝓤} → K → {v : Val}
+    → fieldOf (spotOf 𝓤 H E i .0) k ≡ some (σ, d) → fieldOf σ j ≡ some (υ, m)
+    → Part K W (nth 𝓤 H A (spot Γ i) Γ) q υ (spotOf 𝓤 H E i .1) (0 + d + m) v back
+    → Opd K W Γ E (copy (at i (field k ∷ field j ∷ []))) v
+inner {Γ = Γ} {i = i} t e e′ p = load t (from t (fld t e (fld t e′ (stop t)))) (look-in t (spot Γ i) p)
 
 abbrev val : RattleType → Slot 2
 val T = plain (λ _. T)
@@ -74,14 +98,21 @@ module _ {M : Type 1} (𝓤 : URA M) (H : Heap 𝓤) (A : Atoms 𝓤) (W : Given
   abbrev Post : Val → SProp 𝓤
   Post = walkOf 𝓤 H A f.ended stayed (f.clauses 𝓤 H A at-mem run) .post ((κs, qs, tt, a, vals), tt)
 
-  -- the SPIs that are given fit
+  -- the SPIs and the operator that are given fit
   spi-fits : h .spi < 2 ^ 64
   spi-fits = LL.owed O.the-type O′.the-laws h _ h-is .0 .1
 
   child-fits : h .child < 2 ^ 32
   child-fits = LL.owed O.the-type O′.the-laws h _ h-is .1 .1 .1 .0 .1
 
-  -- the places that are found, of each table with the SPI and the lowest free one
+  abbrev operator : ℕ
+  operator = h .agreed .operator
+
+  operator-fits : operator < 2 ^ 8
+  operator-fits =
+      LL.owed G.the-type G′.the-laws (h .agreed) _ (LL.owed O.the-type O′.the-laws h _ h-is .1 .0) .1 .1 .0 .1
+
+  -- the places that are found, of each table with the SPI and the lowest free one, and how many of each the operator has
   abbrev taken : ℕ
   taken = placeOf ikeSpi (h .spi) (y .now)
 
@@ -94,9 +125,15 @@ module _ {M : Type 1} (𝓤 : URA M) (H : Heap 𝓤) (A : Atoms 𝓤) (W : Given
   abbrev child-free : ℕ
   child-free = placeOf ipsecSpi 0 (x .now)
 
+  abbrev own : ℕ
+  own = ikesOf operator (y .now)
+
+  abbrev child-own : ℕ
+  child-own = ipsecsOf operator (y .now) (x .now)
+
   -- what is decided, and the records and the list after it
   abbrev c : BothChange
-  c = bothOpening (length (x .now)) h taken free child-taken child-free
+  c = bothOpening (length (x .now)) h taken free child-taken child-free own child-own
 
   abbrev after : List IkeRecord
   after = set (y .now) (c .place) (c .entry)
@@ -113,6 +150,7 @@ module _ {M : Type 1} (𝓤 : URA M) (H : Heap 𝓤) (A : Atoms 𝓤) (W : Given
       owned ! u8 (Is u8) (uint-makes 𝓤 H A W w8) (c .number) _ (refl, fits) $ done !
 
   module _ (C : Calls 𝓤 H) (Λ : Loops 𝓤 H) (fm : FmC 𝓤 H (W .laws) C) (known-count : Triple 𝓤 (C count-def.name) (Told 𝓤 H A count.ended (count.clauses 𝓤 H A at-mem run))) (known-home : Triple 𝓤 (C home-def.name) (Told 𝓤 H A home.ended (home.clauses 𝓤 H A at-mem run))) (known-place : Triple 𝓤 (C place-def.name) (Told 𝓤 H A place.ended (place.clauses 𝓤 H A at-mem run)))
+      (known-ikes : Triple 𝓤 (C ikes-def.name) (Told 𝓤 H A ikes.ended (ikes.clauses 𝓤 H A at-mem run))) (known-ipsecs : Triple 𝓤 (C ipsecs-def.name) (Told 𝓤 H A ipsecs.ended (ipsecs.clauses 𝓤 H A at-mem run)))
       (known-opening : Triple 𝓤 (C opening-def.name) (Told 𝓤 H A opening.ended (opening.clauses 𝓤 H A at-mem run))) (known-put : Triple 𝓤 (C put-def.name) (Told 𝓤 H A put.ended (put.clauses 𝓤 H A at-mem run))) (known-store : Triple 𝓤 (C store-def.name) (Told 𝓤 H A store.ended (store.clauses 𝓤 H A at-mem run))) where
     walk : ent 𝓤 (onEntry 𝓤 H A f.signature κs qs a vals) (WpFn 𝓤 H C Λ code.function (flat (typesAt (f.signature .params) κs) vals) Post)
     walk =
@@ -147,13 +185,45 @@ module _ {M : Type 1} (𝓤 : URA M) (H : Heap 𝓤) (A : Atoms 𝓤) (W : Given
         (tt, (tt, (record { fits = room .0 }, tt))) $
         finds-ipsec ! fm at-mem run x known-place room 0 (lit< tt) (λ i j. (and-then ! (value ! refl) (and-then !
         (lit ! tt) (no-more !)))) (λ child-free-fits. lands-in ! refl (tt, record { fits = child-free-fits }) $
-        plainly ! (usize ∷ O.the-row ∷ usize ∷ usize ∷ usize ∷ usize ∷ []) (uint-makes 𝓤 H A W w64 & LL.makes O.the-type O′.the-plain 𝓤 H A & uint-makes 𝓤 H A W w64 & uint-makes 𝓤 H A W w64 & uint-makes 𝓤 H A W w64 & uint-makes 𝓤 H A W w64 & tt) (length (x .now), (h, (taken, (free, (child-taken, (child-free, tt))))))
-        (uint-vals w64 (length (x .now)), (opening-vals h, (uint-vals w64 taken, (uint-vals w64 free, (uint-vals w64 child-taken, (uint-vals w64 child-free, tt)))))) ((refl, room .0), (h-is, ((refl, taken-fits), ((refl, free-fits), ((refl, child-taken-fits), ((refl, child-free-fits), tt)))))) $
-        calls-for ! fm opening.ended (opening.clauses 𝓤 H A at-mem run) known-opening ((tt, tt, tt, (length (x .now), (h, (taken, (free, (child-taken, (child-free, tt)))))), (uint-vals w64 (length (x .now)), (opening-vals h, (uint-vals w64 taken, (uint-vals w64 free, (uint-vals w64 child-taken, (uint-vals w64 child-free, tt))))))), tt) (id⊢ 𝓤 _)
+        sets ! (of-opd ! (inner ! refl refl (sub ! 2 refl (sub ! 1 refl (whole !))))) refl
+        (tt, record { fits = operator-fits }) $ move ! (2 ∷ 3 ∷ []) $
+        -- [the table; its token; the list; its token; the locals as before]
+        sets ! (addr ! (behind ! refl (stop !))) refl (tt, tt) $
+        counts-ikes ! fm at-mem run y known-ikes operator operator-fits (λ i j. (and-then ! (value ! refl) (and-then !
+        (value ! refl) (no-more !)))) (λ own-fits. lands-in ! refl (tt, record { fits = own-fits }) $
+        sets ! (addr ! (behind ! refl (stop !))) refl (tt, tt) $
+        sets ! (addr ! (behind-part ! refl (sub ! 0 refl (whole !)) (stop !))) refl (tt, tt) $
+        sets ! (agg ! (and-then ! (value ! refl) (and-then ! (part ! refl (sub ! 1 refl (whole !))) (no-more !)))) refl
+        (tt, (tt, (record { fits = room .0 }, tt))) $
+        counts-ipsecs ! fm at-mem run y known-ipsecs x room operator operator-fits (λ i j k. (and-then ! (value ! refl)
+        (and-then ! (value ! refl) (and-then ! (value ! refl) (no-more !))))) (λ child-own-fits. lands-in ! refl
+        (tt, record { fits = child-own-fits }) $
+        plainly ! (usize ∷ O.the-row ∷ usize ∷ usize ∷ usize ∷ usize ∷ usize ∷ usize ∷ [])
+        (uint-makes 𝓤 H A W w64 & LL.makes O.the-type O′.the-plain 𝓤 H A & uint-makes 𝓤 H A W w64
+        & uint-makes 𝓤 H A W w64 & uint-makes 𝓤 H A W w64 & uint-makes 𝓤 H A W w64 & uint-makes 𝓤 H A W w64
+        & uint-makes 𝓤 H A W w64 & tt)
+        (length (x .now) & h & taken & free & child-taken & child-free & own & child-own & tt)
+        (uint-vals w64 (length (x .now)) & opening-vals h & uint-vals w64 taken & uint-vals w64 free
+        & uint-vals w64 child-taken & uint-vals w64 child-free & uint-vals w64 own & uint-vals w64 child-own & tt)
+        ((refl, room .0) & h-is & (refl, taken-fits) & (refl, free-fits) & (refl, child-taken-fits)
+        & (refl, child-free-fits) & (refl, own-fits) & (refl, child-own-fits) & tt) $
+        calls-for ! fm opening.ended (opening.clauses 𝓤 H A at-mem run) known-opening (
+          (
+            tt,
+            tt,
+            tt,
+            (length (x .now) & h & taken & free & child-taken & child-free & own & child-own & tt),
+            (uint-vals w64 (length (x .now)) & opening-vals h & uint-vals w64 taken & uint-vals w64 free
+                & uint-vals w64 child-taken & uint-vals w64 child-free & uint-vals w64 own & uint-vals w64 child-own
+                & tt),
+          ),
+          tt,
+        ) (id⊢ 𝓤 _)
         (and-then ! (value ! refl) (and-then ! (value ! refl) (and-then ! (value ! refl) (and-then ! (value ! refl)
-        (and-then ! (value ! refl) (and-then ! (value ! refl) (no-more !))))))) (LL.vals D.the-type D′.the-laws)
+        (and-then ! (value ! refl) (and-then ! (value ! refl) (and-then ! (value ! refl) (and-then ! (value ! refl)
+        (no-more !))))))))) (LL.vals D.the-type D′.the-laws)
         (LL.tells D.the-type D′.the-laws) c (λ r ws. id⊢ 𝓤 _) (λ is. drop ! $
-        lands-in ! refl (LL.lawful D.the-type D′.the-laws 𝓤 H A W .typed c _ is .0) $ move ! (2 ∷ 3 ∷ []) $
+        lands-in ! refl (LL.lawful D.the-type D′.the-laws 𝓤 H A W .typed c _ is .0) $
         sets ! (addr ! (behind ! refl (stop !))) refl (tt, tt) $
         stores-ike ! fm at-mem run y known-put (c .place) (c .entry) (LL.owed D.the-type D′.the-laws c _ is .1 .0)
         (LL.owed D.the-type D′.the-laws c _ is .1 .1 .0) (λ j. (and-then ! (value ! refl) (and-then ! (part ! refl
@@ -169,7 +239,7 @@ module _ {M : Type 1} (𝓤 : URA M) (H : Heap 𝓤) (A : Atoms 𝓤) (W : Given
         (sub ! 4 refl (whole !))) (no-more !))))) (λ us e₂ l. lands-over ! refl (tt, tt) $
         sets ! (of-opd ! (part ! refl (sub ! 0 refl (whole !)))) refl
         (tt, record { fits = LL.owed D.the-type D′.the-laws c _ is .0 .1 }) $ hands ! refl $ ends ! refl refl $
-        by ! (exits long (LL.owed D.the-type D′.the-laws c _ is .0 .1) zs us l e₁ e₂)))))))))
+        by ! (exits long (LL.owed D.the-type D′.the-laws c _ is .0 .1) zs us l e₁ e₂)))))))))))
 
 pub unmavreth-open-spec : {M : Type 1} → stated.statement M
 unfolding code.routine tablesOf
@@ -184,6 +254,8 @@ unmavreth-open-spec 𝓤 H 𝓜 𝓖 𝓡 =
     (cited 𝓤 H (Told 𝓤 H A count.ended (count.clauses 𝓤 H A (𝓜 .mem) (𝓡 .run))) 𝓜 𝓡 code.env count-def.name count-def.routine code.calls-lent-ipsec·places·ipsec-count (count-thm.met 𝓤 H 𝓜 𝓖 𝓡))
     (cited 𝓤 H (Told 𝓤 H A home.ended (home.clauses 𝓤 H A (𝓜 .mem) (𝓡 .run))) 𝓜 𝓡 code.env home-def.name home-def.routine code.calls-lent-ike·ike·ike-place (home-thm.met 𝓤 H 𝓜 𝓖 𝓡))
     (cited 𝓤 H (Told 𝓤 H A place.ended (place.clauses 𝓤 H A (𝓜 .mem) (𝓡 .run))) 𝓜 𝓡 code.env place-def.name place-def.routine code.calls-lent-ipsec·places·ipsec-place (place-thm.met 𝓤 H 𝓜 𝓖 𝓡))
+    (cited 𝓤 H (Told 𝓤 H A ikes.ended (ikes.clauses 𝓤 H A (𝓜 .mem) (𝓡 .run))) 𝓜 𝓡 code.env ikes-def.name ikes-def.routine code.calls-lent-ike·ike·ike-count (ikes-thm.met 𝓤 H 𝓜 𝓖 𝓡))
+    (cited 𝓤 H (Told 𝓤 H A ipsecs.ended (ipsecs.clauses 𝓤 H A (𝓜 .mem) (𝓡 .run))) 𝓜 𝓡 code.env ipsecs-def.name ipsecs-def.routine code.calls-lent-shares·shares·ipsec-count-of (ipsecs-thm.met 𝓤 H 𝓜 𝓖 𝓡))
     (cited 𝓤 H (Told 𝓤 H A opening.ended (opening.clauses 𝓤 H A (𝓜 .mem) (𝓡 .run))) 𝓜 𝓡 code.env opening-def.name opening-def.routine code.calls-tables·calls·both-opening (opening-thm.met 𝓤 H 𝓜 𝓖 𝓡))
     (cited 𝓤 H (Told 𝓤 H A put.ended (put.clauses 𝓤 H A (𝓜 .mem) (𝓡 .run))) 𝓜 𝓡 code.env put-def.name put-def.routine code.calls-lent-ike·ike·ike-store (put-thm.met 𝓤 H 𝓜 𝓖 𝓡))
     (cited 𝓤 H (Told 𝓤 H A store.ended (store.clauses 𝓤 H A (𝓜 .mem) (𝓡 .run))) 𝓜 𝓡 code.env store-def.name store-def.routine code.calls-lent-ipsec·places·ipsec-store (store-thm.met 𝓤 H 𝓜 𝓖 𝓡))))

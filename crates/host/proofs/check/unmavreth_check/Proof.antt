@@ -61,17 +61,18 @@ off s = stay-dropped s yes
 abbrev stayed : Stays (f.ended .signature .params) (f.ended .kept)
 stayed =
     gave-ref (0 ∷ []) tt table-slot & gave-slice (1 ∷ []) tt (val R) & off (val u64) & off (val u32) & off (val u8)
-    & off octets & tt
+    & off octets & off (val u8) & tt
 
 abbrev spelled : (κs : Lfts 3) → Spells (typesAt (f.signature .params) κs)
-spelled κs = ptr-vals & slice-vals & uint-vals w64 & uint-vals w32 & uint-vals w8 & slice-vals & tt
+spelled κs = ptr-vals & slice-vals & uint-vals w64 & uint-vals w32 & uint-vals w8 & slice-vals & uint-vals w8 & tt
 
 module _ {M : Type 1} (𝓤 : URA M) (H : Heap 𝓤) (A : Atoms 𝓤) (W : Given 𝓤 H A) (at-mem : Memory → SProp 𝓤)
     (run : Routine → Fun 𝓤) (κs : Lfts 3) (qs : Shares 3) (ike : RefT (List IkeRecord)) (ipsec : RefT (List IpsecRecord))
-    (spi id first : ℕ) (body : RefT (List ℕ)) (ipsec-room : Room R (length (ipsec .now))) (spi-fits : spi < 2 ^ 64)
-    (id-fits : id < 2 ^ 32) (first-fits : first < 2 ^ 8) (body-room : Room u8 (length (body .now))) where
+    (spi id first : ℕ) (body : RefT (List ℕ)) (op : ℕ) (ipsec-room : Room R (length (ipsec .now))) (spi-fits : spi < 2 ^ 64)
+    (id-fits : id < 2 ^ 32) (first-fits : first < 2 ^ 8) (body-room : Room u8 (length (body .now)))
+    (op-fits : op < 2 ^ 8) where
   abbrev a : Args f.signature κs
-  a = ike & ipsec & spi & id & first & body & tt
+  a = ike & ipsec & spi & id & first & body & op & tt
 
   abbrev vals : Vals f.signature κs
   vals = valss (typesAt (f.signature .params) κs) (spelled κs) a
@@ -81,7 +82,7 @@ module _ {M : Type 1} (𝓤 : URA M) (H : Heap 𝓤) (A : Atoms 𝓤) (W : Given
 
   -- the response; what is looked up for it, what it comes to by that, and the table and the list after it
   abbrev q : CheckResponse
-  q = checkResponse spi id first (body .now)
+  q = checkResponse spi id first (body .now) op
 
   abbrev size : ℕ
   size = length (ipsec .now)
@@ -130,9 +131,9 @@ module _ {M : Type 1} (𝓤 : URA M) (H : Heap 𝓤) (A : Atoms 𝓤) (W : Given
   exits zs us is l e =
       qed W (End zs us) ∵
       suffices ! _ (ends-at 𝓤 H A f.ended stayed (f.clauses 𝓤 H A at-mem run) W ((κs, qs, tt, a, vals), tt)
-      (LL.val Z.the-type Z′.the-laws (c .told)) (c .told) (zs & us & tt & tt & tt & tt & tt)
-      (tt & l & tt & tt & tt & tt & tt)) $ says ! e $ move ! (4 ∷ []) $ token ! $ move ! (2 ∷ 0 ∷ []) $ join ! $
-      move ! (3 ∷ 0 ∷ []) $ join ! $ frame ! $ nothing ! $ nothing ! $ fjoin ! $ nothing ! $ fjoin ! $ nothing ! $
+      (LL.val Z.the-type Z′.the-laws (c .told)) (c .told) (zs & us & tt & tt & tt & tt & tt & tt)
+      (tt & l & tt & tt & tt & tt & tt & tt)) $ says ! e $ move ! (4 ∷ []) $ token ! $ move ! (2 ∷ 0 ∷ []) $ join ! $
+      move ! (3 ∷ 0 ∷ []) $ join ! $ frame ! $ nothing ! $ nothing ! $ fjoin ! $ nothing ! $ fjoin ! $ nothing ! $ fjoin ! $ nothing ! $
       fjoin ! $ nothing ! $ fjoin ! $ move ! (1 ∷ 0 ∷ []) $ fjoin ! $ move ! (1 ∷ 0 ∷ []) $ fjoin ! $ frame ! $
       owned ! Z.the-row (Is Z.the-row) (LL.makes Z.the-type Z′.the-plain 𝓤 H A) (c .told) _ is $ done !
 
@@ -146,7 +147,7 @@ module _ {M : Type 1} (𝓤 : URA M) (H : Heap 𝓤) (A : Atoms 𝓤) (W : Given
         passed ! refl (tt, (tt, (record { fits = ipsec-room .0 }, tt))) $
         passed ! refl (tt, record { fits = spi-fits }) $ passed ! refl (tt, record { fits = id-fits }) $
         passed ! refl (tt, record { fits = first-fits }) $ passed ! refl
-        (tt, (tt, (record { fits = body-room .0 }, tt))) $ pass0 ! $ given-first ! $ move ! (1 ∷ []) $ fsplit ! $
+        (tt, (tt, (record { fits = body-room .0 }, tt))) $ passed ! refl (tt, record { fits = op-fits }) $ pass0 ! $ given-first ! $ move ! (1 ∷ []) $ fsplit ! $
         move ! (1 ∷ []) $ fsplit ! $ move ! (1 ∷ []) $ fsplit ! $ drop ! $ fsplit ! $ drop ! $ fsplit ! $ drop ! $
         fsplit ! $ move ! (1 ∷ []) $ drop ! $ move ! (3 ∷ []) $ split ! $ move ! (1 ∷ []) $ split ! $
         move ! (1 ∷ []) $ no-token ! $ move ! (4 ∷ 1 ∷ 5 ∷ 2 ∷ 3 ∷ 0 ∷ []) $
@@ -164,7 +165,8 @@ module _ {M : Type 1} (𝓤 : URA M) (H : Heap 𝓤) (A : Atoms 𝓤) (W : Given
         reads-ike ! fm at-mem run ike (known .reads) place place-fits
         (λ i j. and-then ! (value ! refl) (and-then ! (value ! refl) (no-more !)))
         (λ old-is. lands-in ! refl (LL.lawful S.the-type S′.the-laws 𝓤 H A W .typed old _ old-is .0) $
-        nothing ! $ move ! (5 ∷ 0 ∷ []) $ fjoin ! $
+        nothing ! $ owned ! u8 (Is u8) (uint-makes 𝓤 H A W w8) op _ (refl, op-fits) $ fjoin ! $
+        move ! (5 ∷ 0 ∷ []) $ fjoin ! $
         owned ! u8 (Is u8) (uint-makes 𝓤 H A W w8) first _ (refl, first-fits) $ fjoin ! $
         owned ! u32 (Is u32) (uint-makes 𝓤 H A W w32) id _ (refl, id-fits) $ fjoin ! $
         owned ! u64 (Is u64) (uint-makes 𝓤 H A W w64) spi _ (refl, spi-fits) $ fjoin ! $
@@ -178,14 +180,15 @@ module _ {M : Type 1} (𝓤 : URA M) (H : Heap 𝓤) (A : Atoms 𝓤) (W : Given
             (κs .1 .1 .0, tt),
             (qs .1 .1 .0, tt),
             tt,
-            (size & place & old & spi & id & first & body & tt),
+            (size & place & old & spi & id & first & body & op & tt),
             (uint-vals w64 size & uint-vals w64 place & rec-vals old & uint-vals w64 spi & uint-vals w32 id
-                & uint-vals w8 first & slice-vals body & tt),
+                & uint-vals w8 first & slice-vals body & uint-vals w8 op & tt),
           ),
           tt,
         ) (id⊢ 𝓤 _)
         (and-then ! (value ! refl) (and-then ! (value ! refl) (and-then ! (value ! refl) (and-then ! (value ! refl)
-        (and-then ! (value ! refl) (and-then ! (value ! refl) (and-then ! (value ! refl) (no-more !))))))))
+        (and-then ! (value ! refl) (and-then ! (value ! refl) (and-then ! (value ! refl) (and-then ! (value ! refl)
+        (no-more !)))))))))
         (LL.vals D.the-type D′.the-laws) (LL.tells D.the-type D′.the-laws) c (λ r ws. id⊢ 𝓤 _)
         (λ is. no-token ! $ lands-in ! refl (LL.lawful D.the-type D′.the-laws 𝓤 H A W .typed c _ is .0) $
         move ! (1 ∷ 2 ∷ []) $ sets ! (addr ! (behind ! refl (stop !))) refl (tt, tt) $
@@ -233,10 +236,11 @@ unmavreth-check-spec 𝓤 H 𝓜 𝓖 𝓡 =
     closes 𝓤 H 𝓜 𝓖 𝓡 code.env key.name code.function (code.unfolded 𝓤 H 𝓜 𝓡) f.ended stayed
     (f.clauses 𝓤 H A (𝓜 .mem) (𝓡 .run)) (goes-gave-ref 𝓤 H A W 3 0 tt table-slot
     & goes-gave-slice 𝓤 H A W 3 1 tt (val R) & no (val u64) yes (λ κs x f. refl) & no (val u32) yes (λ κs x f. refl)
-    & no (val u8) yes (λ κs x f. refl) & no octets yes (λ κs x f. refl) & tt) spelled
+    & no (val u8) yes (λ κs x f. refl) & no octets yes (λ κs x f. refl) & no (val u8) yes (λ κs x f. refl) & tt) spelled
     (λ κs. mut-tells (named 0) (κs .0) Q & mut-slice-tells (named 1) (κs .1 .0) R & uint-tells w64 & uint-tells w32
-    & uint-tells w8 & shr-slice-tells (named 2) (κs .1 .1 .0) u8 & tt)
+    & uint-tells w8 & shr-slice-tells (named 2) (κs .1 .1 .0) u8 & uint-tells w8 & tt)
     (λ κs qs bounds a g are. via 𝓤 _ (fst∗ 𝓤 _ (emp 𝓤)) (walk 𝓤 H A W (𝓜 .mem) (𝓡 .run) κs qs (a .0) (a .1 .0)
-    (a .1 .1 .0) (a .1 .1 .1 .0) (a .1 .1 .1 .1 .0) (a .1 .1 .1 .1 .1 .0) (are .1 .0 .0 .1) (are .1 .1 .0 .1)
-    (are .1 .1 .1 .0 .1) (are .1 .1 .1 .1 .0 .1) (are .1 .1 .1 .1 .1 .0 .0 .1) (Ts .C) (Ts .Λ)
+    (a .1 .1 .0) (a .1 .1 .1 .0) (a .1 .1 .1 .1 .0) (a .1 .1 .1 .1 .1 .0)
+    (a .1 .1 .1 .1 .1 .1 .0) (are .1 .0 .0 .1) (are .1 .1 .0 .1)
+    (are .1 .1 .1 .0 .1) (are .1 .1 .1 .1 .0 .1) (are .1 .1 .1 .1 .1 .0 .0 .1) (are .1 .1 .1 .1 .1 .1 .0 .1) (Ts .C) (Ts .Λ)
     (fmOf 𝓤 H (W .laws) (tablesOf 𝓤 H 𝓜 Ts)) (known 𝓤 H 𝓜 𝓖 𝓡)))

@@ -36,7 +36,7 @@ use Rattle.walks.proofs.Walk.{closes}
 use Rattle.walks.proofs.Locals.{allocates, passed, given-first, value, part, behind, behind-part, sets, lands-in}
 use Rattle.walks.proofs.Locals.{hands, ends}
 use Rattle.walks.proofs.Calls.{_&_, tokens, token, no-token, calls-both}
-use Rattle.lent.proofs.Asked.{finds-ike, reads-ike, counts-peers, stores-ike}
+use Rattle.lent.proofs.Asked.{finds-ike, reads-ike, counts-ikes, counts-peers, stores-ike}
 use Rattle.lent_ike.proofs.IkeTable.{R, Q, table-slot, rec-vals}
 use Rattle.host.proofs.clone.unmavreth_clone.Proof.Callees.{Known, known}
 use Rattle.host.proofs.clone.unmavreth_clone.Key as key
@@ -58,10 +58,10 @@ off s = stay-dropped s yes
 abbrev stayed : Stays (f.ended .signature .params) (f.ended .kept)
 stayed =
     gave-ref (0 ∷ []) tt table-slot & off (val u64) & off (val u64) & off (val u8) & off octets
-    & gave-slice (2 ∷ []) tt (val u8) & tt
+    & gave-slice (2 ∷ []) tt (val u8) & off (val u8) & tt
 
 abbrev spelled : (κs : Lfts 3) → Spells (typesAt (f.signature .params) κs)
-spelled κs = ptr-vals & uint-vals w64 & uint-vals w64 & uint-vals w8 & slice-vals & slice-vals & tt
+spelled κs = ptr-vals & uint-vals w64 & uint-vals w64 & uint-vals w8 & slice-vals & slice-vals & uint-vals w8 & tt
 
 -- two facts that are one
 apart : {M : Type 1} (𝓤 : URA M) {φ ψ : Type 0} → ent 𝓤 (fact 𝓤 (φ × ψ)) (sep 𝓤 (fact 𝓤 φ) (fact 𝓤 ψ))
@@ -71,10 +71,11 @@ apart 𝓤 {φ} {ψ} =
 
 module _ {M : Type 1} (𝓤 : URA M) (H : Heap 𝓤) (A : Atoms 𝓤) (W : Given 𝓤 H A) (at-mem : Memory → SProp 𝓤)
     (run : Routine → Fun 𝓤) (κs : Lfts 3) (qs : Shares 3) (ike : RefT (List IkeRecord)) (spi new first : ℕ)
-    (body out : RefT (List ℕ)) (spi-fits : spi < 2 ^ 64) (new-fits : new < 2 ^ 64) (first-fits : first < 2 ^ 8)
-    (body-room : Room u8 (length (body .now))) (out-room : Room u8 (length (out .now))) where
+    (body out : RefT (List ℕ)) (op : ℕ) (spi-fits : spi < 2 ^ 64) (new-fits : new < 2 ^ 64) (first-fits : first < 2 ^ 8)
+    (body-room : Room u8 (length (body .now))) (out-room : Room u8 (length (out .now)))
+    (op-fits : op < 2 ^ 8) where
   abbrev a : Args f.signature κs
-  a = ike & spi & new & first & body & out & tt
+  a = ike & spi & new & first & body & out & op & tt
 
   abbrev vals : Vals f.signature κs
   vals = valss (typesAt (f.signature .params) κs) (spelled κs) a
@@ -84,7 +85,7 @@ module _ {M : Type 1} (𝓤 : URA M) (H : Heap 𝓤) (A : Atoms 𝓤) (W : Given
 
   -- the request; what is looked up for it, what it comes to by that, and the table and the output after it
   abbrev q : CloneRequest
-  q = cloneRequest spi new first (body .now) (length (out .now))
+  q = cloneRequest spi new first (body .now) (length (out .now)) op
 
   abbrev place : ℕ
   place = L.place (ike .now) q
@@ -101,6 +102,9 @@ module _ {M : Type 1} (𝓤 : URA M) (H : Heap 𝓤) (A : Atoms 𝓤) (W : Given
   abbrev records : ℕ
   records = L.records (ike .now) q
 
+  abbrev own : ℕ
+  own = L.own (ike .now) q
+
   abbrev c : CloneAnswer
   c = L.decided (ike .now) q
 
@@ -108,7 +112,7 @@ module _ {M : Type 1} (𝓤 : URA M) (H : Heap 𝓤) (A : Atoms 𝓤) (W : Given
   after = set (ike .now) (c .place) (c .entry)
 
   abbrev response : List ℕ
-  response = placed (out .now) 0 (octetsAt place free taken records old q)
+  response = placed (out .now) 0 (octetsAt place free taken records own old q)
 
   -- what is answered and stored is what the contract says
   abbrev Said : List IkeRecord → List ℕ → Type 0
@@ -138,9 +142,9 @@ module _ {M : Type 1} (𝓤 : URA M) (H : Heap 𝓤) (A : Atoms 𝓤) (W : Given
   exits zs ws is l e =
       qed W (End zs ws) ∵
       suffices ! _ (ends-at 𝓤 H A f.ended stayed (f.clauses 𝓤 H A at-mem run) W ((κs, qs, tt, a, vals), tt)
-      (LL.val Z.the-type Z′.the-laws (c .reply)) (c .reply) (zs & tt & tt & tt & tt & ws & tt)
-      (tt & tt & tt & tt & tt & l & tt)) $ says ! e $ move ! (2 ∷ []) $ token ! $ move ! (3 ∷ 0 ∷ []) $ join ! $
-      move ! (2 ∷ 0 ∷ []) $ join ! $ frame ! $ nothing ! $ move ! (2 ∷ 0 ∷ []) $ fjoin ! $ nothing ! $ fjoin ! $
+      (LL.val Z.the-type Z′.the-laws (c .reply)) (c .reply) (zs & tt & tt & tt & tt & ws & tt & tt)
+      (tt & tt & tt & tt & tt & l & tt & tt)) $ says ! e $ move ! (2 ∷ []) $ token ! $ move ! (3 ∷ 0 ∷ []) $ join ! $
+      move ! (2 ∷ 0 ∷ []) $ join ! $ frame ! $ nothing ! $ nothing ! $ fjoin ! $ move ! (2 ∷ 0 ∷ []) $ fjoin ! $ nothing ! $ fjoin ! $
       nothing ! $ fjoin ! $ nothing ! $ fjoin ! $ nothing ! $ fjoin ! $ move ! (1 ∷ 0 ∷ []) $ fjoin ! $ frame ! $
       owned ! Z.the-row (Is Z.the-row) (LL.makes Z.the-type Z′.the-plain 𝓤 H A) (c .reply) _ is $ done !
 
@@ -153,7 +157,8 @@ module _ {M : Type 1} (𝓤 : URA M) (H : Heap 𝓤) (A : Atoms 𝓤) (W : Given
         allocates ! (λ l. params1 ! $ passed ! refl (tt, tt) $ passed ! refl (tt, record { fits = spi-fits }) $
         passed ! refl (tt, record { fits = new-fits }) $ passed ! refl (tt, record { fits = first-fits }) $
         passed ! refl (tt, (tt, (record { fits = body-room .0 }, tt))) $
-        passed ! refl (tt, (tt, (record { fits = out-room .0 }, tt))) $ pass0 ! $ given-first ! $ move ! (1 ∷ []) $
+        passed ! refl (tt, (tt, (record { fits = out-room .0 }, tt))) $
+        passed ! refl (tt, record { fits = op-fits }) $ pass0 ! $ given-first ! $ move ! (1 ∷ []) $
         fsplit ! $ move ! (1 ∷ []) $ fsplit ! $ drop ! $ fsplit ! $ drop ! $ fsplit ! $ drop ! $ fsplit ! $
         move ! (1 ∷ []) $ fsplit ! $ move ! (1 ∷ []) $ drop ! $ move ! (3 ∷ []) $ split ! $ move ! (1 ∷ []) $ split ! $
         move ! (1 ∷ []) $ no-token ! $ move ! (5 ∷ 2 ∷ 4 ∷ 1 ∷ 3 ∷ 0 ∷ []) $
@@ -178,17 +183,24 @@ module _ {M : Type 1} (𝓤 : URA M) (H : Heap 𝓤) (A : Atoms 𝓤) (W : Given
         sets ! (of-opd ! (part ! refl (sub ! 1 refl (whole !)))) refl
         (LL.lawful G.the-type G′.the-laws 𝓤 H A W .typed (old .agreed) _ agreed-is .0) $
         sets ! (addr ! (behind ! refl (stop !))) refl (tt, tt) $
-        counts-peers ! fm at-mem run ike (known .counts) (old .agreed .peer)
-        (LL.owed G.the-type G′.the-laws (old .agreed) _ agreed-is .1 .1 .0 .1)
-        (λ i j. and-then ! (value ! refl) (and-then ! (part ! refl (sub ! 2 refl (whole !))) (no-more !)))
+        counts-peers ! fm at-mem run ike (known .counts) op (old .agreed .peer) op-fits
+        (LL.owed G.the-type G′.the-laws (old .agreed) _ agreed-is .1 .1 .1 .0 .1)
+        (λ i j. and-then ! (value ! refl) (and-then ! (value ! refl) (and-then ! (part ! refl
+        (sub ! 3 refl (whole !))) (no-more !))))
         (λ records-fits. lands-in ! refl (tt, record { fits = records-fits }) $
+        sets ! (addr ! (behind ! refl (stop !))) refl (tt, tt) $
+        counts-ikes ! fm at-mem run ike (known .counts-own) op op-fits
+        (λ i j. and-then ! (value ! refl) (and-then ! (value ! refl) (no-more !)))
+        (λ own-fits. lands-in ! refl (tt, record { fits = own-fits }) $
         sets ! (addr ! (behind-part ! refl (sub ! 0 refl (whole !)) (stop !))) refl (tt, tt) $
         sets ! (agg ! (and-then ! (value ! refl) (and-then ! (part ! refl (sub ! 1 refl (whole !))) (no-more !)))) refl
         (tt, (tt, (record { fits = out-room .0 }, tt))) $
-        nothing ! $ move ! (5 ∷ 0 ∷ []) $ fjoin ! $ move ! (3 ∷ 0 ∷ []) $ fjoin ! $
+        nothing ! $ owned ! u8 (Is u8) (uint-makes 𝓤 H A W w8) op _ (refl, op-fits) $ fjoin ! $
+        move ! (5 ∷ 0 ∷ []) $ fjoin ! $ move ! (3 ∷ 0 ∷ []) $ fjoin ! $
         owned ! u8 (Is u8) (uint-makes 𝓤 H A W w8) first _ (refl, first-fits) $ fjoin ! $
         owned ! u64 (Is u64) (uint-makes 𝓤 H A W w64) new _ (refl, new-fits) $ fjoin ! $
         owned ! u64 (Is u64) (uint-makes 𝓤 H A W w64) spi _ (refl, spi-fits) $ fjoin ! $
+        owned ! usize (Is usize) (uint-makes 𝓤 H A W w64) own _ (refl, own-fits) $ fjoin ! $
         owned ! usize (Is usize) (uint-makes 𝓤 H A W w64) records _ (refl, records-fits) $ fjoin ! $
         owned ! usize (Is usize) (uint-makes 𝓤 H A W w64) taken _ (refl, taken-fits) $ fjoin ! $
         owned ! usize (Is usize) (uint-makes 𝓤 H A W w64) free _ (refl, free-fits) $ fjoin ! $
@@ -201,19 +213,21 @@ module _ {M : Type 1} (𝓤 : URA M) (H : Heap 𝓤) (A : Atoms 𝓤) (W : Given
             κs .1,
             qs .1,
             tt,
-            (place & old & free & taken & records & spi & new & first & body & out & tt),
+            (place & old & free & taken & records & own & spi & new & first & body & out & op & tt),
             (uint-vals w64 place & rec-vals old & uint-vals w64 free & uint-vals w64 taken & uint-vals w64 records
-                & uint-vals w64 spi & uint-vals w64 new & uint-vals w8 first & slice-vals body & slice-vals out & tt),
+                & uint-vals w64 own & uint-vals w64 spi & uint-vals w64 new & uint-vals w8 first & slice-vals body
+                & slice-vals out & uint-vals w8 op & tt),
           ),
           tt,
         ) (id⊢ 𝓤 _)
         (and-then ! (value ! refl) (and-then ! (value ! refl) (and-then ! (value ! refl) (and-then ! (value ! refl)
         (and-then ! (value ! refl) (and-then ! (value ! refl) (and-then ! (value ! refl) (and-then ! (value ! refl)
-        (and-then ! (value ! refl) (and-then ! (value ! refl) (no-more !)))))))))))
+        (and-then ! (value ! refl) (and-then ! (value ! refl) (and-then ! (value ! refl) (and-then ! (value ! refl)
+        (no-more !)))))))))))))
         (LL.vals D.the-type D′.the-laws) (LL.tells D.the-type D′.the-laws) c
-        (λ ws. ws .1 .1 .1 .1 .1 .1 .1 .1 .1 .0 ≡ response) (λ r ws. apart 𝓤)
+        (λ ws. ws .1 .1 .1 .1 .1 .1 .1 .1 .1 .1 .0 ≡ response) (λ r ws. apart 𝓤)
         (λ is ws e₂. fsplit ! $ drop ! $ fsplit ! $ drop ! $ fsplit ! $ drop ! $ fsplit ! $ drop ! $ fsplit ! $ drop ! $
-        fsplit ! $ drop ! $ fsplit ! $ drop ! $ fsplit ! $ drop ! $ fsplit ! $ drop ! $ fsplit ! $ fsplit ! $
+        fsplit ! $ drop ! $ fsplit ! $ drop ! $ fsplit ! $ drop ! $ fsplit ! $ drop ! $ fsplit ! $ drop ! $ fsplit ! $ fsplit ! $
         move ! (1 ∷ []) $ feqL ! (λ l. move ! (1 ∷ []) $ drop ! $ move ! (1 ∷ []) $ split ! $ move ! (1 ∷ []) $
         no-token ! $ move ! (3 ∷ 4 ∷ []) $
         -- [the table; its token; the tokens of the output and the body; what says the output's last list; the locals]
@@ -225,8 +239,8 @@ module _ {M : Type 1} (𝓤 : URA M) (H : Heap 𝓤) (A : Atoms 𝓤) (W : Given
         (λ zs e₁. lands-in ! refl (tt, tt) $ sets ! (of-opd ! (part ! refl (sub ! 0 refl (whole !)))) refl
         (LL.lawful Z.the-type Z′.the-laws 𝓤 H A W .typed (c .reply) _ (LL.owed D.the-type D′.the-laws c _ is .0) .0) $
         hands ! refl $ ends ! refl refl $
-        by ! (exits zs (ws .1 .1 .1 .1 .1 .1 .1 .1 .1 .0) (LL.owed D.the-type D′.the-laws c _ is .0) l
-        (all-said long zs (ws .1 .1 .1 .1 .1 .1 .1 .1 .1 .0) e₁ e₂)))))))))))
+        by ! (exits zs (ws .1 .1 .1 .1 .1 .1 .1 .1 .1 .1 .0) (LL.owed D.the-type D′.the-laws c _ is .0) l
+        (all-said long zs (ws .1 .1 .1 .1 .1 .1 .1 .1 .1 .1 .0) e₁ e₂))))))))))))
 
 pub unmavreth-clone-spec : {M : Type 1} → stated.statement M
 unfolding code.routine tablesOf
@@ -238,10 +252,11 @@ unmavreth-clone-spec 𝓤 H 𝓜 𝓖 𝓡 =
     closes 𝓤 H 𝓜 𝓖 𝓡 code.env key.name code.function (code.unfolded 𝓤 H 𝓜 𝓡) f.ended stayed
     (f.clauses 𝓤 H A (𝓜 .mem) (𝓡 .run)) (goes-gave-ref 𝓤 H A W 3 0 tt table-slot & no (val u64) yes (λ κs x f. refl)
     & no (val u64) yes (λ κs x f. refl) & no (val u8) yes (λ κs x f. refl) & no octets yes (λ κs x f. refl)
-    & goes-gave-slice 𝓤 H A W 3 2 tt (val u8) & tt) spelled
+    & goes-gave-slice 𝓤 H A W 3 2 tt (val u8) & no (val u8) yes (λ κs x f. refl) & tt) spelled
     (λ κs. mut-tells (named 0) (κs .0) Q & uint-tells w64 & uint-tells w64 & uint-tells w8
-    & shr-slice-tells (named 1) (κs .1 .0) u8 & mut-slice-tells (named 2) (κs .1 .1 .0) u8 & tt)
+    & shr-slice-tells (named 1) (κs .1 .0) u8 & mut-slice-tells (named 2) (κs .1 .1 .0) u8 & uint-tells w8 & tt)
     (λ κs qs bounds a g are. via 𝓤 _ (fst∗ 𝓤 _ (emp 𝓤)) (walk 𝓤 H A W (𝓜 .mem) (𝓡 .run) κs qs (a .0) (a .1 .0)
-    (a .1 .1 .0) (a .1 .1 .1 .0) (a .1 .1 .1 .1 .0) (a .1 .1 .1 .1 .1 .0) (are .1 .0 .1) (are .1 .1 .0 .1)
-    (are .1 .1 .1 .0 .1) (are .1 .1 .1 .1 .0 .0 .1) (are .1 .1 .1 .1 .1 .0 .0 .1) (Ts .C) (Ts .Λ)
+    (a .1 .1 .0) (a .1 .1 .1 .0) (a .1 .1 .1 .1 .0) (a .1 .1 .1 .1 .1 .0)
+    (a .1 .1 .1 .1 .1 .1 .0) (are .1 .0 .1) (are .1 .1 .0 .1)
+    (are .1 .1 .1 .0 .1) (are .1 .1 .1 .1 .0 .0 .1) (are .1 .1 .1 .1 .1 .0 .0 .1) (are .1 .1 .1 .1 .1 .1 .0 .1) (Ts .C) (Ts .Λ)
     (fmOf 𝓤 H (W .laws) (tablesOf 𝓤 H 𝓜 Ts)) (known 𝓤 H 𝓜 𝓖 𝓡)))

@@ -1,8 +1,8 @@
 -- `host::handler::unmavreth_handle` meets its contract: a walk of its MIR, by hand. The IKE table is lent as `&` for each
--- look-up, and the output for `received_at`, and comes back; `accepts_if` asks the policy where it is lent. The output
+-- look-up, and the output for `received_at`, and comes back; `accepts_if` asks the operator's policy. The output
 -- goes to `handle_at` for good, and the IKE table to `ike_change`; the IPsec list is only counted.
 -- Assumes nothing.
-use Rattle.walks.proofs.Kit.{_≡_, refl, ap, ℕ, _<_, _^_, [], _∷_, List, length, set, URA, w8, w32, w64, Val}
+use Rattle.walks.proofs.Kit.{arith, _≡_, refl, ap, ℕ, _<_, _^_, [], _∷_, List, length, set, URA, w8, w32, w64, Val}
 use Rattle.walks.proofs.Kit.{SProp, ent, emp, via, id⊢, fst∗, flft, fres, Memory, Routine, Heap, Calls, Loops, WpFn}
 use Rattle.walks.proofs.Kit.{Atoms, Lfts, Shares, Fun, givenOf, tables, tablesOf, Given, Item, ‵, ⋆, _$_, _∵_, !, qed}
 use Rattle.walks.proofs.Kit.{by, move, drop, split, join, fsplit, fjoin, suffices, frame, done, stop, of-opd, addr}
@@ -14,6 +14,7 @@ use Rattle.walks.proofs.Kit.{atRet, MutRef, ShrRef, ShrSlice, vbool}
 use mathlib.Core.Bool.{_&&_}
 use mathlib.Core.Option.{Option, none, some}
 use mathlib.Core.List.{_++_}
+use types.Run.{un}
 use denote.Struct.Laws as LL
 use Rattle.octets.specs.Limits.{ikePlaces}
 use Rattle.octets.specs.Lists.{placeOf}
@@ -65,7 +66,7 @@ use Rattle.walks.proofs.Locals.{sets, lands-in, hands, rests, ends}
 use Rattle.walks.proofs.Calls.{_&_, tokens, no-token, plainly, gives, calls-for}
 use Rattle.lent_ike.proofs.IkeTable.{R, Q, rec-vals}
 use Rattle.lent_ipsec.proofs.IpsecTable.{R as Rᵢ}
-use Rattle.lent_policy.proofs.PolicyTypes.{R as Rₚ}
+use Rattle.lent_policy.proofs.PolicyTable.{Q as Qₚ}
 use Rattle.lent.proofs.Asked.{counts-read, finds-ike, reads-ike, changes-ike, asks-policy}
 use Rattle.host.proofs.handler.unmavreth_handle.Proof.Callees.{Known, known}
 use Rattle.host.proofs.handler.unmavreth_handle.Proof.Parameters.{stayed, goes, pair-vals, spelled, told}
@@ -88,16 +89,18 @@ reply-vals = LL.vals Z.the-type Z′.the-laws
 
 module _ {M : Type 1} (𝓤 : URA M) (H : Heap 𝓤) (A : Atoms 𝓤) (W : Given 𝓤 H A) (at-mem : Memory → SProp 𝓤)
     (run : Routine → Fun 𝓤)
-    (κs : Lfts 8) (qs : Shares 8) (ike : RefT (List IkeRecord)) (ipsec : RefT (List IpsecRecord)) (policy : RefT Policy)
+    (κs : Lfts 8) (qs : Shares 8) (ike : RefT (List IkeRecord)) (ipsec : RefT (List IpsecRecord)) (policies : RefT (List Policy))
     (spi id : ℕ) (pair : Pair) (nat-source nat-destination cookie : RefT (List ℕ)) (check-id first : ℕ)
-    (body out : RefT (List ℕ)) (ipsec-room : Room Rᵢ (length (ipsec .now))) (spi-fits : spi < 2 ^ 64)
+    (body out : RefT (List ℕ)) (op : ℕ) (ipsec-room : Room Rᵢ (length (ipsec .now))) (spi-fits : spi < 2 ^ 64)
     (id-fits : id < 2 ^ 32) (pair-is : Is P.the-row pair (pair-vals pair))
     (source-room : Room u8 (length (nat-source .now))) (destination-room : Room u8 (length (nat-destination .now)))
     (cookie-room : Room u8 (length (cookie .now))) (check-id-fits : check-id < 2 ^ 32) (first-fits : first < 2 ^ 8)
-    (body-room : Room u8 (length (body .now))) (out-room : Room u8 (length (out .now))) where
+    (body-room : Room u8 (length (body .now))) (out-room : Room u8 (length (out .now)))
+    (op-fits : op < 2 ^ 8) where
   abbrev a : Args f.signature κs
   a =
-      ike & ipsec & policy & spi & id & pair & nat-source & nat-destination & cookie & check-id & first & body & out & tt
+      ike & ipsec & policies & spi & id & pair & nat-source & nat-destination & cookie & check-id & first & body & out
+      & op & tt
 
   abbrev vals : Vals f.signature κs
   vals = valss (typesAt (f.signature .params) κs) (spelled κs) a
@@ -120,7 +123,7 @@ module _ {M : Type 1} (𝓤 : URA M) (H : Heap 𝓤) (A : Atoms 𝓤) (W : Given
   packet = packetOf spi id pair first check
 
   abbrev q : Request
-  q = requestBy packet (nat-source .now) (nat-destination .now) (body .now) (length (out .now))
+  q = requestBy packet (nat-source .now) (nat-destination .now) (body .now) (length (out .now)) op
 
   abbrev size : ℕ
   size = length (ipsec .now)
@@ -138,27 +141,27 @@ module _ {M : Type 1} (𝓤 : URA M) (H : Heap 𝓤) (A : Atoms 𝓤) (W : Given
   received = receivedAt looked q
 
   abbrev c : CoreAnswer
-  c = handledAt (accepts (policy .now) q) looked q
+  c = handledAt (accepts (policies .now) q) looked q
 
   abbrev new : IkeRecord
   new = changedBy c pair check (body .now) old
 
   abbrev response : List ℕ
-  response = placed (out .now) 0 (responseAt (accepts (policy .now) q) looked q)
+  response = placed (out .now) 0 (responseAt (accepts (policies .now) q) looked q)
 
   -- what is answered and stored is what the contract says
   abbrev Said : List IkeRecord → List ℕ → Type 0
-  Said = HandledAs (policy .now) (ike .now) (ipsec .now) q (out .now) (c .reply)
+  Said = HandledAs (policies .now) (ike .now) (ipsec .now) q (out .now) (c .reply)
 
   all-said : length (ike .now) ≡ ikePlaces → (zs : List IkeRecord) (ws : List ℕ) → zs ≡ set (ike .now) place new
       → ws ≡ response → Said zs ws
   all-said long zs ws e₁ e₂ =
-      let h = handled-so (policy .now) (ike .now) (ipsec .now) q long in
+      let h = handled-so (policies .now) (ike .now) (ipsec .now) q long in
       record {
         reply = h .reply;
         records = rw e₁ (h .ike-after);
         output = rw e₂ (ap (placed (out .now) 0) (h .octets));
-        counts = rw (h .reply) (payloads-counted (policy .now) (ike .now) (ipsec .now) q);
+        counts = rw (h .reply) (payloads-counted (policies .now) (ike .now) (ipsec .now) q);
       }
 
   abbrev End : List IkeRecord → List ℕ → List (Item 𝓤)
@@ -173,9 +176,9 @@ module _ {M : Type 1} (𝓤 : URA M) (H : Heap 𝓤) (A : Atoms 𝓤) (W : Given
       qed W (End zs ws) ∵
       suffices ! _ (ends-at 𝓤 H A f.ended stayed (f.clauses 𝓤 H A at-mem run) W ((κs, qs, tt, a, vals), tt)
       (LL.val Z.the-type Z′.the-laws (c .reply)) (c .reply)
-      (zs & tt & tt & tt & tt & tt & tt & tt & tt & tt & tt & tt & ws & tt)
-      (tt & tt & tt & tt & tt & tt & tt & tt & tt & tt & tt & tt & l & tt)) $ says ! e $ move ! (1 ∷ 2 ∷ []) $ join ! $
-      frame ! $ nothing ! $ move ! (2 ∷ 0 ∷ []) $ fjoin ! $ nothing ! $ fjoin ! $ nothing ! $ fjoin ! $ nothing ! $
+      (zs & tt & tt & tt & tt & tt & tt & tt & tt & tt & tt & tt & ws & tt & tt)
+      (tt & tt & tt & tt & tt & tt & tt & tt & tt & tt & tt & tt & l & tt & tt)) $ says ! e $ move ! (1 ∷ 2 ∷ []) $ join ! $
+      frame ! $ nothing ! $ nothing ! $ fjoin ! $ move ! (2 ∷ 0 ∷ []) $ fjoin ! $ nothing ! $ fjoin ! $ nothing ! $ fjoin ! $ nothing ! $
       fjoin ! $ nothing ! $ fjoin ! $ nothing ! $ fjoin ! $ nothing ! $ fjoin ! $ nothing ! $ fjoin ! $ nothing ! $
       fjoin ! $ nothing ! $ fjoin ! $ nothing ! $ fjoin ! $ nothing ! $ fjoin ! $ move ! (1 ∷ 0 ∷ []) $ fjoin ! $
       frame ! $ owned ! Z.the-row (Is Z.the-row) (LL.makes Z.the-type Z′.the-plain 𝓤 H A) (c .reply) _ is $ done !
@@ -189,25 +192,25 @@ module _ {M : Type 1} (𝓤 : URA M) (H : Heap 𝓤) (A : Atoms 𝓤) (W : Given
       -- what the locals hold: the parameters, what was looked up, and the check
       abbrev given : List (Option Val)
       given =
-          none ∷ some (only (ptr-vals ike)) ∷ some (only (slice-vals ipsec)) ∷ some (only (ptr-vals policy))
+          none ∷ some (only (ptr-vals ike)) ∷ some (only (slice-vals ipsec)) ∷ some (only (ptr-vals policies))
           ∷ some (vint w64 spi) ∷ some (vint w32 id) ∷ some (only (pair-vals pair))
           ∷ some (only (slice-vals nat-source)) ∷ some (only (slice-vals nat-destination))
           ∷ some (only (slice-vals cookie)) ∷ some (vint w32 check-id) ∷ some (vint w8 first)
-          ∷ some (only (slice-vals body)) ∷ some (only (slice-vals out)) ∷ some (vint w64 size) ∷ some (vint w64 place)
+          ∷ some (only (slice-vals body)) ∷ some (only (slice-vals out)) ∷ some (vint w8 op) ∷ some (vint w64 size) ∷ some (vint w64 place)
           ∷ some (only (rec-vals old)) ∷ some (only (looked-vals looked)) ∷ some (only (check-vals check)) ∷ []
 
       -- the packet, what was received, whether the policy accepts the pair, and what the request comes to
       abbrev decided : List (Option Val)
       decided =
           given ++ (some (only (packet-vals packet)) ∷ some (only (received-vals received))
-          ∷ some (vbool (received .asks && accepts (policy .now) q)) ∷ some (only (answer-vals c)) ∷ [])
+          ∷ some (vbool (received .asks && accepts (policies .now) q)) ∷ some (only (answer-vals c)) ∷ [])
 
-      -- The table, the policy and the body.
+      -- The table, the policies and the body.
       abbrev its-table : Item 𝓤
       its-table = ‵ (MutRef erased (κs .0) Q .own ike (ptr-vals ike))
 
-      abbrev its-policy : Item 𝓤
-      its-policy = ‵ (ShrRef erased (κs .1 .1 .0) Rₚ .own policy (ptr-vals policy))
+      abbrev its-policies : Item 𝓤
+      its-policies = ‵ (ShrRef erased (κs .1 .1 .0) Qₚ .own policies (ptr-vals policies))
 
       abbrev its-body : Fml
       its-body = ShrSlice erased (κs .1 .1 .1 .1 .1 .1 .0) u8 .own body (slice-vals body)
@@ -223,7 +226,7 @@ module _ {M : Type 1} (𝓤 : URA M) (H : Heap 𝓤) (A : Atoms 𝓤) (W : Given
       leaves : length (ike .now) ≡ ikePlaces → place < 2 ^ 64 → Is N.the-row check (check-vals check)
           → Is D.the-row c (answer-vals c) → (ws : List ℕ) → ws ≡ response → length ws ≡ length (out .now)
           → Sq W (‵ (finally u8 (out .name) ws) ∷ tokens 𝓤 4 κₛ qₛ ∷ ‵ its-body ∷ kept decided)
-          (runs C Λ En mir′.t-16 (atRet En Post))
+          (runs C Λ En mir′.t-17 (atRet En Post))
       leaves long place-fits check-is is ws e₂ l =
           move ! (1 ∷ []) $ split ! $ move ! (1 ∷ []) $ split ! $ move ! (1 ∷ []) $ split ! $
           move ! (9 ∷ 10 ∷ 5 ∷ 0 ∷ []) $
@@ -246,7 +249,7 @@ module _ {M : Type 1} (𝓤 : URA M) (H : Heap 𝓤) (A : Atoms 𝓤) (W : Given
       -- The packet is made, and the request received and handled; in between the policy is asked.
       answers : length (ike .now) ≡ ikePlaces → place < 2 ^ 64 → Is L.the-row looked (looked-vals looked)
           → Is N.the-row check (check-vals check)
-          → Sq W (Strings κₛ qₛ nat-source nat-destination body out (its-policy ∷ kept given))
+          → Sq W (Strings κₛ qₛ nat-source nat-destination body out (its-policies ∷ kept given))
           (runs C Λ En mir′.t-8 (atRet En Post))
       answers long place-fits looked-is check-is =
           plainly ! (u64 ∷ u32 ∷ P.the-row ∷ u8 ∷ N.the-row ∷ [])
@@ -272,14 +275,17 @@ module _ {M : Type 1} (𝓤 : URA M) (H : Heap 𝓤) (A : Atoms 𝓤) (W : Given
           sets ! (agg ! (and-then ! (value ! refl) (and-then ! (part ! refl (sub ! 1 refl (whole !))) (no-more !))))
           refl (tt, (tt, (record { fits = out-room .0 }, tt))) $
           receives ! fm at-mem run κₛ qₛ nat-source nat-destination body out looked looked-is
-          packet packet-is received refl (known .receives) out-room
+          packet packet-is op op-fits received refl (known .receives) out-room
           (λ h i j k l. and-then ! (value ! refl) (and-then ! (value ! refl) (and-then ! (value ! refl)
-          (and-then ! (value ! refl) (and-then ! (value ! refl) (and-then ! (value ! refl) (no-more !)))))))
+          (and-then ! (value ! refl) (and-then ! (value ! refl) (and-then ! (value ! refl) (and-then ! (value ! refl)
+          (no-more !))))))))
           (λ received-is.
           lands-in ! refl (LL.lawful Rc.the-type Rc′.the-laws 𝓤 H A W .typed received _ received-is .0) $
-          move ! (5 ∷ 6 ∷ []) $ asks-policy ! fm at-mem run policy (known .asks) (received .asks) pair pair-is
-          (λ i j. and-then ! (value ! refl) (and-then ! (part ! refl (sub ! 1 refl (whole !)))
-          (and-then ! (value ! refl) (no-more !)))) $ lands-in ! refl (tt, tt) $ drop ! $
+          sets ! (un ! (value ! refl) (record { fits = op-wide })) refl (tt, record { fits = op-wide }) $
+          move ! (5 ∷ 6 ∷ []) $
+          asks-policy ! fm at-mem run policies (known .asks) op op-wide (received .asks) pair pair-is
+          (λ i j. and-then ! (value ! refl) (and-then ! (value ! refl) (and-then ! (part ! refl
+          (sub ! 1 refl (whole !))) (and-then ! (value ! refl) (no-more !))))) $ lands-in ! refl (tt, tt) $ drop ! $
           move ! (1 ∷ 2 ∷ 3 ∷ 4 ∷ 5 ∷ []) $
           -- [the strings and their tokens; the tokens of the policy, the list and the cookie; the table; its token; the
           -- locals]
@@ -287,14 +293,17 @@ module _ {M : Type 1} (𝓤 : URA M) (H : Heap 𝓤) (A : Atoms 𝓤) (W : Given
           sets ! (agg ! (and-then ! (value ! refl) (and-then ! (part ! refl (sub ! 1 refl (whole !))) (no-more !))))
           refl (tt, (tt, (record { fits = out-room .0 }, tt))) $
           handles ! fm at-mem run κₛ qₛ nat-source nat-destination body out looked looked-is
-          packet packet-is received refl (known .handles) (received .asks && accepts (policy .now) q) received-is c
-          (asked-alike looked q (accepts (policy .now) q) .0) (responseAt (accepts (policy .now) q) looked q)
-          (asked-alike looked q (accepts (policy .now) q) .1)
+          packet packet-is op op-fits received refl (known .handles) (received .asks && accepts (policies .now) q) received-is c
+          (asked-alike looked q (accepts (policies .now) q) .0) (responseAt (accepts (policies .now) q) looked q)
+          (asked-alike looked q (accepts (policies .now) q) .1)
           (λ i j. and-then ! (value ! refl) (and-then ! (value ! refl) (and-then ! (value ! refl)
           (and-then ! (value ! refl) (and-then ! (value ! refl) (and-then ! (value ! refl) (and-then ! (value ! refl)
-          (and-then ! (value ! refl) (no-more !)))))))))
+          (and-then ! (value ! refl) (and-then ! (value ! refl) (no-more !))))))))))
           (λ is ws e₂ l. lands-in ! refl (LL.lawful D.the-type D′.the-laws 𝓤 H A W .typed c _ is .0) $
-          rests ! En 23 refl $ leaves long place-fits check-is is ws e₂ l)))
+          rests ! En 24 refl $ leaves long place-fits check-is is ws e₂ l)))
+        where
+          op-wide : op < 2 ^ 64
+          op-wide = omega (arith, op-fits)
 
     walk : ent 𝓤 (onEntry 𝓤 H A f.signature κs qs a vals)
         (WpFn 𝓤 H C Λ code.function (flat (typesAt (f.signature .params) κs) vals) Post)
@@ -310,7 +319,7 @@ module _ {M : Type 1} (𝓤 : URA M) (H : Heap 𝓤) (A : Atoms 𝓤) (W : Given
         passed ! refl (tt, (tt, (record { fits = cookie-room .0 }, tt))) $
         passed ! refl (tt, record { fits = check-id-fits }) $ passed ! refl (tt, record { fits = first-fits }) $
         passed ! refl (tt, (tt, (record { fits = body-room .0 }, tt))) $ passed ! refl
-        (tt, (tt, (record { fits = out-room .0 }, tt))) $ pass0 ! $ given-first ! $ move ! (1 ∷ []) $ fsplit ! $
+        (tt, (tt, (record { fits = out-room .0 }, tt))) $ passed ! refl (tt, record { fits = op-fits }) $ pass0 ! $ given-first ! $ move ! (1 ∷ []) $ fsplit ! $
         move ! (1 ∷ []) $ fsplit ! $ move ! (1 ∷ []) $ fsplit ! $ move ! (4 ∷ []) $ split ! $ move ! (1 ∷ []) $
         split ! $ move ! (1 ∷ []) $ split ! $ move ! (6 ∷ 2 ∷ 7 ∷ 3 ∷ 4 ∷ 0 ∷ 1 ∷ 5 ∷ []) $
         -- [the list; its token; the table; its token; the policy; its token; the other tokens; what the other
@@ -358,7 +367,7 @@ module _ {M : Type 1} (𝓤 : URA M) (H : Heap 𝓤) (A : Atoms 𝓤) (W : Given
         (LL.tells N.the-type N′.the-laws) check (λ r ws. id⊢ 𝓤 _)
         (λ check-is. no-token ! $
         lands-in ! refl (LL.lawful N.the-type N′.the-laws 𝓤 H A W .typed check _ check-is .0) $
-        move ! (5 ∷ 4 ∷ 3 ∷ 2 ∷ 1 ∷ 9 ∷ 10 ∷ 8 ∷ 0 ∷ []) $ rests ! (En l) 19 refl $
+        move ! (5 ∷ 4 ∷ 3 ∷ 2 ∷ 1 ∷ 9 ∷ 10 ∷ 8 ∷ 0 ∷ []) $ rests ! (En l) 20 refl $
         answers l long place-fits looked-is check-is)))))
 
 pub unmavreth-handle-spec : {M : Type 1} → stated.statement M
@@ -373,9 +382,10 @@ unmavreth-handle-spec 𝓤 H 𝓜 𝓖 𝓡 =
     (a .1 .1 .0) (a .1 .1 .1 .0) (a .1 .1 .1 .1 .0) (a .1 .1 .1 .1 .1 .0) (a .1 .1 .1 .1 .1 .1 .0)
     (a .1 .1 .1 .1 .1 .1 .1 .0) (a .1 .1 .1 .1 .1 .1 .1 .1 .0) (a .1 .1 .1 .1 .1 .1 .1 .1 .1 .0)
     (a .1 .1 .1 .1 .1 .1 .1 .1 .1 .1 .0) (a .1 .1 .1 .1 .1 .1 .1 .1 .1 .1 .1 .0)
-    (a .1 .1 .1 .1 .1 .1 .1 .1 .1 .1 .1 .1 .0) (are .1 .0 .0 .1) (are .1 .1 .1 .0 .1) (are .1 .1 .1 .1 .0 .1)
+    (a .1 .1 .1 .1 .1 .1 .1 .1 .1 .1 .1 .1 .0) (a .1 .1 .1 .1 .1 .1 .1 .1 .1 .1 .1 .1 .1 .0) (are .1 .0 .0 .1) (are .1 .1 .1 .0 .1) (are .1 .1 .1 .1 .0 .1)
     (are .1 .1 .1 .1 .1 .0) (are .1 .1 .1 .1 .1 .1 .0 .0 .1) (are .1 .1 .1 .1 .1 .1 .1 .0 .0 .1)
     (are .1 .1 .1 .1 .1 .1 .1 .1 .0 .0 .1) (are .1 .1 .1 .1 .1 .1 .1 .1 .1 .0 .1)
     (are .1 .1 .1 .1 .1 .1 .1 .1 .1 .1 .0 .1) (are .1 .1 .1 .1 .1 .1 .1 .1 .1 .1 .1 .0 .0 .1)
-    (are .1 .1 .1 .1 .1 .1 .1 .1 .1 .1 .1 .1 .0 .0 .1) (Ts .C) (Ts .Λ) (fmOf 𝓤 H (W .laws) (tablesOf 𝓤 H 𝓜 Ts))
+    (are .1 .1 .1 .1 .1 .1 .1 .1 .1 .1 .1 .1 .0 .0 .1)
+    (are .1 .1 .1 .1 .1 .1 .1 .1 .1 .1 .1 .1 .1 .0 .1) (Ts .C) (Ts .Λ) (fmOf 𝓤 H (W .laws) (tablesOf 𝓤 H 𝓜 Ts))
     (known 𝓤 H 𝓜 𝓖 𝓡)))

@@ -17,7 +17,7 @@ use Rattle.responder.proofs.handle.handle_at.Tie as tie
 abbrev asked : tie.Start → Request
 asked s =
     let a = s .args in
-    requestBy (a .packet) (a .nat-source .now) (a .nat-destination .now) (a .body .now) (length (a .out .now))
+    requestBy (a .packet) (a .nat-source .now) (a .nat-destination .now) (a .body .now) (length (a .out .now)) (a .operator)
 
 told : (s : tie.Start) → s .args .received .number ≡ earlyNumberAt (s .args .looked) (asked s)
 told s = ap (λ (x : Received). x .number) (s .pre) ∙ received-number (s .args .looked) (asked s)

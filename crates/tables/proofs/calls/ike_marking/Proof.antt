@@ -14,10 +14,14 @@ ike-marking-spec =
     (λ c κs. search needs)
     (λ c κs. search needs)
     (λ c κs. search needs)
+    (λ c κs. search needs)
+    (λ c κs. search needs)
     (λ c.
     rw (
       c .mark-deletion .ensures,
       c .before .place-if .ensures,
       c .before .before .number-of .ensures,
       c .before .before .before .closing-number .ensures,
+      c .before .before .before .before .is-own .ensures,
+      c .before .before .before .before .before .is-bad-marking .ensures,
     )))

@@ -15,11 +15,13 @@ ipsec-closing-spec =
     (λ c κs. search needs)
     (λ c κs. search needs)
     (λ c κs. search needs)
+    (λ c κs. search needs)
     (λ c.
     rw (
-      c .place-if .ensures,
-      c .before .no-ipsec .ensures,
+      c .no-ipsec .ensures,
+      c .before .place-if .ensures,
       c .before .before .number-of .ensures,
       c .before .before .before .closing-number .ensures,
-      c .before .before .before .before .is-bad-list .ensures,
+      c .before .before .before .before .is-own-child .ensures,
+      c .before .before .before .before .before .is-bad-closing .ensures,
     )))

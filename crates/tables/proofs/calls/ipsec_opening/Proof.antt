@@ -14,10 +14,12 @@ ipsec-opening-spec =
     (λ c κs. search needs)
     (λ c κs. search needs)
     (λ c κs. search needs)
+    (λ c κs. search needs)
     (λ c.
     rw (
       c .place-if .ensures,
       c .before .before .number-of .ensures,
       c .before .before .before .adding-number .ensures,
-      c .before .before .before .before .is-bad-adding .ensures,
+      c .before .before .before .before .is-own .ensures,
+      c .before .before .before .before .before .is-bad-adding .ensures,
     )))

@@ -29,28 +29,28 @@ const RULE: &[Field] = &[Family, Address, Address, Number, Number];
 
 /// The word, the kind and the fields of each call.
 pub const CALLS: [(&str, Kind, &[Field]); 9] = [
-    // SPI, MOBIKE agreed, pair, IPsec SPI, peer, cloning agreed
-    ("open", Kind::OpenBoth, &[Number, Number, PAIR, Number, Number, Number]),
-    // SPI, owner's SPI
-    ("add", Kind::AddIpsec, &[Number, Number]),
-    // SPI
-    ("close", Kind::CloseIke, &[Number]),
-    // SPI
-    ("close-ipsec", Kind::CloseIpsec, &[Number]),
-    // SPI, message ID, pair, both NAT values, first type, body, cookie and message ID of a check
+    // SPI, MOBIKE agreed, pair, IPsec SPI, peer, cloning agreed, operator
+    ("open", Kind::OpenBoth, &[Number, Number, PAIR, Number, Number, Number, Number]),
+    // SPI, owner's SPI, operator
+    ("add", Kind::AddIpsec, &[Number, Number, Number]),
+    // SPI, operator
+    ("close", Kind::CloseIke, &[Number, Number]),
+    // SPI, operator
+    ("close-ipsec", Kind::CloseIpsec, &[Number, Number]),
+    // SPI, message ID, pair, both NAT values, first type, body, cookie and message ID of a check, operator
     (
         "request",
         Kind::Request,
-        &[Number, Number, PAIR, String, String, Number, String, String, Number],
+        &[Number, Number, PAIR, String, String, Number, String, String, Number, Number],
     ),
-    // rules
-    ("policy", Kind::Policy, &[List(RULE)]),
-    // SPI, message ID, first type, body
-    ("check-response", Kind::CheckResponse, &[Number, Number, Number, String]),
-    // SPI, new SPI, first type, body
-    ("clone", Kind::Clone, &[Number, Number, Number, String]),
-    // SPI
-    ("mark-deletion", Kind::MarkDeletion, &[Number]),
+    // rules, operator
+    ("policy", Kind::Policy, &[List(RULE), Number]),
+    // SPI, message ID, first type, body, operator
+    ("check-response", Kind::CheckResponse, &[Number, Number, Number, String, Number]),
+    // SPI, new SPI, first type, body, operator
+    ("clone", Kind::Clone, &[Number, Number, Number, String, Number]),
+    // SPI, operator
+    ("mark-deletion", Kind::MarkDeletion, &[Number, Number]),
 ];
 
 /// How many slots these fields have.

@@ -24,6 +24,9 @@ pub fn to_trace(text: &[u8]) -> Turned {
     Turned { octets, fault: None }
 }
 
+/// What is said of a line of which the library refuses something with 22.
+const TOO_LARGE: &str = "22: something is too large for its field";
+
 /// The octets of a line's entry; none, if there is only a comment or nothing.
 fn entry(line: &str) -> Result<Vec<u8>, String> {
     let call = line.split('#').next().unwrap_or_default();
@@ -39,7 +42,7 @@ fn entry(line: &str) -> Result<Vec<u8>, String> {
     let mut out = [0; ENTRY_MOST];
     match write_slots(*kind, &said.slots, &said.source, &mut out) {
         Ok(length) => Ok(out[..length].to_vec()),
-        Err(Number::TooLarge) => Err("22: something is too large for its field".to_string()),
+        Err(Number::TooLarge) => Err(TOO_LARGE.to_string()),
         Err(number) => Err(format!("{}: not written", u8::from(number))),
     }
 }
@@ -78,15 +81,14 @@ impl Said<'_> {
         }
     }
 
-    /// Of a list that is too long no item is looked at: the library refuses its count.
+    /// A list that is too long is refused by its count, as the library would, and no item is looked at.
     fn list(&mut self, fields: &[Field]) -> Result<(), String> {
         let count = self.number()?;
         let behind = self.next + LIST_PLACES * width(fields);
-        if count <= LIST_PLACES as u64 {
-            (0..count).try_for_each(|_| self.each(fields))?;
-        } else {
-            self.words = "".split_ascii_whitespace();
+        if count > LIST_PLACES as u64 {
+            return Err(TOO_LARGE.to_string());
         }
+        (0..count).try_for_each(|_| self.each(fields))?;
         self.next = behind;
         Ok(())
     }

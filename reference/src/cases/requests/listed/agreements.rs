@@ -3,6 +3,7 @@
 use super::super::super::tables::agreements::YES;
 use super::setting::{self, each_effect, moving};
 use super::Case;
+use crate::operator::OPERATORS;
 use crate::policy::Policy;
 use crate::request::Request;
 use crate::tables::Tables;
@@ -43,7 +44,7 @@ fn effects() -> Vec<Case> {
     let mut cases = Vec::new();
     for octet in YES.into_iter().chain([0]) {
         let open = tables(octet);
-        let closed = Tables { policy: Policy::EMPTY, ..open.clone() };
+        let closed = Tables { policies: [Policy::EMPTY; OPERATORS], ..open.clone() };
         for tables in [open, closed] {
             let case = |request| Case { tables: tables.clone(), request };
             cases.extend(each_effect().into_iter().map(case));

@@ -48,6 +48,6 @@ fn tables() -> Vec<Tables> {
     let mut empty = with(0, 0, 0);
     empty.ike_mut()[setting::PLACE].addresses = [Address::ZERO; MAX_KEPT];
     let mut closed = with(3, 6, 6);
-    closed.policy.count = 0;
+    closed.policies[0].count = 0;
     vec![empty, with(16, 6, 8), with(65535, 8, 6), with(1, 6, 6), closed]
 }

@@ -4,6 +4,7 @@ use super::setting::{self, cookie, list, packet, request, unknown, update};
 use super::Case;
 use crate::notifications::no_nats_data;
 use crate::notify::NotifyType;
+use crate::operator::OPERATORS;
 use crate::policy::Policy;
 use crate::request::Request;
 use crate::tables::Tables;
@@ -20,7 +21,7 @@ pub fn all() -> Vec<Case> {
             let tables = setting::tables_with(|record| {
                 (record.update_mark, record.list_mark) = marks;
             });
-            let closed = Tables { policy: Policy::EMPTY, ..tables.clone() };
+            let closed = Tables { policies: [Policy::EMPTY; OPERATORS], ..tables.clone() };
             for request in requests() {
                 cases.push(Case { tables: tables.clone(), request: request.clone() });
                 cases.push(Case { tables: closed.clone(), request });

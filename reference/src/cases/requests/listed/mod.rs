@@ -6,6 +6,7 @@ mod lengths;
 mod lists;
 mod marks;
 mod no_nats;
+mod operators;
 mod pending;
 mod records;
 pub(in crate::cases) mod responses;
@@ -13,10 +14,11 @@ mod rows;
 pub(in crate::cases) mod setting;
 mod tallies;
 
+use super::super::operators::of_ike;
 use super::Case;
 
 pub fn all() -> Vec<Case> {
-    [
+    let mut cases = [
         rows::all(),
         checks::all(),
         marks::all(),
@@ -30,5 +32,9 @@ pub fn all() -> Vec<Case> {
         lengths::all(),
         agreements::all(),
     ]
-    .concat()
+    .concat();
+    for Case { tables, request } in &mut cases {
+        request.operator = of_ike(tables, request.spi).unwrap_or(0);
+    }
+    [operators::all(), cases].concat()
 }

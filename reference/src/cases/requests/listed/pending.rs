@@ -1,6 +1,7 @@
 // The check that an update leaves pending, over none, others and such as no call leaves, with each effect.
 use super::setting::{self, each_effect, lent_cookie, tables_with};
 use super::Case;
+use crate::operator::OPERATORS;
 use crate::pending::PendingCheck;
 use crate::policy::Policy;
 use crate::request::Request;
@@ -18,7 +19,7 @@ fn older() -> Vec<Case> {
             let open = tables_with(|record| {
                 record.check = PendingCheck { length, octets: [past; 64], id: 5 };
             });
-            let closed = Tables { policy: Policy::EMPTY, ..open.clone() };
+            let closed = Tables { policies: [Policy::EMPTY; OPERATORS], ..open.clone() };
             for tables in [open, closed] {
                 for size in [8, 64] {
                     let with_cookie = |request| Request { cookie: lent_cookie(size), ..request };

@@ -124,8 +124,8 @@ fn policies() -> Vec<Case> {
         for place in [0, 1, 14, 15] {
             for rule in [all, too_long, Rule { family: 4, ..all }, Rule { family: 5, ..all }] {
                 let mut tables = served();
-                tables.policy = Policy { count, ..Policy::EMPTY };
-                tables.policy.rules[place] = rule;
+                tables.policies = [Policy { count, ..Policy::EMPTY }, Policy::EMPTY];
+                tables.policies[0].rules[place] = rule;
                 cases.push(Case { tables, request: moving(setting::spi()) });
             }
         }

@@ -5,11 +5,12 @@ use super::super::super::tables::spis;
 use super::super::{starts, Case};
 use crate::address::AddressPair;
 use crate::notify::NotifyType;
+use crate::operator::OPERATORS;
 use crate::policy::Policy;
 use crate::request::Request;
 use crate::tables::{IkeRecord, Tables, IKE_PLACES};
 
-/// The place of the record that is meant; place 0 has an SPI with the same low 32 bits.
+/// The place of the record that is meant, which is A's; place 0 has an SPI with the same low 32 bits.
 pub const PLACE: usize = 1;
 
 /// The marks of that record tell this message ID.
@@ -40,7 +41,7 @@ pub fn tables() -> Tables {
 
 fn made_tables() -> Tables {
     let mut tables = contents::full();
-    starts::open(&mut tables.policy);
+    tables.policies.iter_mut().for_each(starts::open);
     let record = &mut tables.ike_mut()[PLACE];
     record.unknown = 9;
     (record.update_mark, record.list_mark) = (u64::from(MARKED_ID) + 1, u64::from(MARKED_ID) + 1);
@@ -49,7 +50,7 @@ fn made_tables() -> Tables {
 
 /// The same, but that nothing is acceptable.
 pub fn closed_tables() -> Tables {
-    Tables { policy: Policy::EMPTY, ..tables() }
+    Tables { policies: [Policy::EMPTY; OPERATORS], ..tables() }
 }
 
 /// The same, with this done to the record that is meant.
@@ -80,6 +81,7 @@ pub fn request(payloads: &[Draft]) -> Request {
         nat_destination: (0x60..0x74).collect(),
         cookie: lent_cookie(11),
         check_id: CHECK_ID,
+        operator: contents::operator(PLACE),
         first: chain.first,
         body: chain.body,
         output: (0..=255).chain(0..44).collect(),

@@ -5,13 +5,15 @@ use super::super::{spis, Case};
 use super::contents::{self, ipv4_pair, open_both, NEW_IKE, NEW_IPSEC};
 use crate::agreed::Agreed;
 use crate::calls::Call;
+use crate::opening::Adding;
 use crate::opening_both::Opening;
+use crate::operator::other;
 use crate::tables::{IkeRecord, Tables, IKE_PLACES};
 
 pub fn all() -> Vec<Case> {
     let of_octet = |octet: u8| {
         let peer = peers::FEW[usize::from(octet) % peers::FEW.len()];
-        let with = |mobike, cloning| Agreed { mobike, cloning, peer };
+        let with = |mobike, cloning| Agreed { mobike, cloning, operator: octet % 2, peer };
         let given = [with(octet, 1), with(1, octet), with(octet, 0), with(0, octet)].map(given);
         let found = [with(octet, 1), with(1, octet), with(octet, !octet)];
         given.into_iter().chain(found.map(|agreed| found_with(agreed, octet)))
@@ -27,13 +29,14 @@ fn opening(agreed: Agreed) -> Call {
 /// Opened, refused with another octet, closed, and opened with that one.
 fn given(agreed: Agreed) -> Case {
     let tables = contents::with_free(&[3, 9], &[7, 40]);
-    let Agreed { mobike, cloning, peer } = agreed;
-    let other = opening(Agreed { mobike: !mobike, cloning: !cloning, peer: !peer });
+    let Agreed { mobike, cloning, operator, peer } = agreed;
+    let operator = other(operator);
+    let other = opening(Agreed { mobike: !mobike, cloning: !cloning, operator, peer: !peer });
     let calls = vec![
         opening(agreed),
-        Call::MarkDeletion { spi: NEW_IKE },
+        Call::MarkDeletion { spi: NEW_IKE, operator },
         other.clone(),
-        Call::CloseIke { spi: NEW_IKE },
+        Call::CloseIke { spi: NEW_IKE, operator },
         other,
     ];
     Case { tables, calls }
@@ -47,11 +50,11 @@ fn found_with(agreed: Agreed, deleting: u8) -> Case {
     let calls = vec![
         open_both(spi, ipv4_pair(), NEW_IPSEC),
         open_both(NEW_IKE, ipv4_pair(), child),
-        Call::OpenIpsec { spi: NEW_IPSEC - 1, owner: spi },
+        Call::OpenIpsec(Adding { spi: NEW_IPSEC - 1, owner: spi, operator: 0 }),
         opening(agreed),
-        Call::CloseIpsec { spi: child },
-        Call::MarkDeletion { spi },
-        Call::CloseIke { spi },
+        Call::CloseIpsec { spi: child, operator: 0 },
+        Call::MarkDeletion { spi, operator: 0 },
+        Call::CloseIke { spi, operator: 0 },
     ];
     Case { tables, calls }
 }
@@ -59,7 +62,8 @@ fn found_with(agreed: Agreed, deleting: u8) -> Case {
 /// Marks: each octet that may stand there, every place, twins, leftovers, SPIs that look alike, IPsec lists of other
 /// lengths, and twice in a row.
 fn markings() -> Vec<Case> {
-    let mark = |spi| Call::MarkDeletion { spi };
+    let mark = |spi| Call::MarkDeletion { spi, operator: 0 };
+    let close = |spi| Call::CloseIke { spi, operator: 0 };
     let mut cases = Vec::new();
     for octet in 0..=255 {
         let mut tables = contents::full();
@@ -70,10 +74,10 @@ fn markings() -> Vec<Case> {
         let spi = spis::ike(place);
         let mut tables = contents::full();
         tables.ike_mut()[place].deleting = 0;
-        let calls = vec![mark(spi), Call::CloseIke { spi }, mark(spi)];
+        let calls = vec![mark(spi), close(spi), mark(spi)];
         cases.push(Case { tables: tables.clone(), calls });
         tables.ike_mut()[IKE_PLACES - 1].spi = spi;
-        cases.push(Case { tables, calls: vec![mark(spi), Call::CloseIke { spi }, mark(spi)] });
+        cases.push(Case { tables, calls: vec![mark(spi), close(spi), mark(spi)] });
     }
     for there in spis::FEW_IKE {
         let mut tables = contents::leftovers();

@@ -1,5 +1,6 @@
 // Openings of both records: every family and tail, every set of failing checks, and what may be in
 // the tables besides.
+use super::super::super::operators::divide;
 use super::super::{spis, Case};
 use super::contents::{
     self, ike_record, ipsec_record, ipv4_pair, open_both, AGREED, NEW_IKE, NEW_IPSEC,
@@ -8,6 +9,7 @@ use crate::address::AddressPair;
 use crate::agreed::Agreed;
 use crate::calls::Call;
 use crate::opening_both::Opening;
+use crate::shares::Held;
 use crate::tables::{Tables, IKE_PLACES, IPSEC_PLACES};
 use std::rc::Rc;
 
@@ -61,13 +63,28 @@ fn tails() -> Vec<Case> {
     (0..16).map(case).collect()
 }
 
-/// Each table empty, full, full but for two places, and nothing but leftovers, with each of the other.
+/// Each table empty, full, full but for two places, nothing but leftovers, and the last but one and the full one with
+/// so many records of A that it is at its share, with each of the other, and the list with orphans too.
 fn tables_to_open_in() -> Vec<Tables> {
     let free_at_ends = contents::with_free(&[0, 31], &[0, 127]);
+    let at_share = |mut tables: Tables| {
+        divide(tables.ike_mut(), 21);
+        // Of the first place in which there is always a record of A.
+        tables.ipsec_mut().iter_mut().for_each(|record| record.owner = spis::ike(1));
+        tables
+    };
+    let shares = [contents::full(), free_at_ends.clone()].map(at_share);
     let each = [Tables::empty(), contents::full(), free_at_ends, contents::leftovers()];
+    let each = [&each[..], &shares].concat();
+    let orphans = [1, 2].map(|place| {
+        let mut tables = each[place].clone();
+        tables.ipsec_mut().iter_mut().for_each(|record| record.owner = NEW_IKE - 1);
+        tables
+    });
+    let lists = [&each[..], &orphans].concat();
     let with =
         |ike: &Tables, ipsec: &Tables| Tables { ipsec: Rc::clone(&ipsec.ipsec), ..ike.clone() };
-    each.iter().flat_map(|ike| each.iter().map(move |ipsec| with(ike, ipsec))).collect()
+    each.iter().flat_map(|ike| lists.iter().map(|ipsec| with(ike, ipsec))).collect()
 }
 
 /// 0, in use or not according to the tables, and one that no record has.
@@ -90,15 +107,21 @@ fn pairs() -> [AddressPair; 5] {
     [ipv4_pair(), contents::pair(99), bad_family, bad_source, bad_destination]
 }
 
-/// Every set of failing checks but that of the list's length.
+/// Every set of failing checks but that of the list's length; with fewer pairs where an operator is at its share.
 fn checks() -> Vec<Case> {
     let mut cases = Vec::new();
     for tables in tables_to_open_in() {
+        let Held { ikes, ipsecs, .. } = Held::of(&tables, 0);
+        let some: &[usize] = if ikes < 20 && ipsecs < 80 { &[0, 1, 2, 3, 4] } else { &[0, 2] };
         for spi in ike_spis() {
             for child in children() {
-                for (pair, mobike) in pairs().into_iter().zip([1, 0, 255, 2, 0]) {
-                    let opening = Opening { spi, agreed: Agreed { mobike, ..AGREED }, pair, child };
-                    let calls = vec![Call::OpenBoth(opening)];
+                for &number in some {
+                    let (pair, mobike) = (pairs()[number], [1, 0, 255, 2, 0][number]);
+                    let agreed = Agreed { mobike, ..AGREED };
+                    let of_none = Agreed { operator: 2 + (cases.len() % 254) as u8, ..agreed };
+                    let calls = [of_none, agreed]
+                        .map(|agreed| Call::OpenBoth(Opening { spi, agreed, pair, child }))
+                        .to_vec();
                     cases.push(Case { tables: tables.clone(), calls });
                 }
             }
@@ -107,17 +130,23 @@ fn checks() -> Vec<Case> {
     cases
 }
 
-/// The same with lists of other lengths; a sound pair, and one that isn't.
+/// The same with lists of other lengths, of which nothing is opened; a sound pair, and one that isn't.
 fn checks_with_other_lists() -> Vec<Case> {
     let [sound, .., unsound] = pairs();
+    let mut calls = Vec::new();
+    for (spi, pair) in ike_spis().into_iter().flat_map(|it| [(it, sound), (it, unsound)]) {
+        for child in children() {
+            let call = open_both(spi, pair, child);
+            let mut of_none = call.clone();
+            *of_none.operator_mut() = 255;
+            calls.extend([of_none, call]);
+        }
+    }
     let mut cases = Vec::new();
     for tables in tables_to_open_in() {
         for length in [0, 127, 129] {
             let tables = tables.with_ipsec_length(length);
-            for (spi, pair) in ike_spis().into_iter().flat_map(|it| [(it, sound), (it, unsound)]) {
-                let calls = children().into_iter().map(|child| open_both(spi, pair, child));
-                cases.push(Case { tables: tables.clone(), calls: calls.collect() });
-            }
+            cases.push(Case { tables, calls: calls.clone() });
         }
     }
     cases
@@ -148,8 +177,8 @@ fn neither_stays() -> Vec<Case> {
             vec![opening.clone(), opening.clone(), freeing, opening.clone(), opening.clone()];
         Case { tables, calls }
     };
-    let ipsec = |place| Call::CloseIpsec { spi: spis::ipsec(place) };
-    let ike = |place| Call::CloseIke { spi: spis::ike(place) };
+    let ipsec = |place| Call::CloseIpsec { spi: spis::ipsec(place), operator: 0 };
+    let ike = |place| Call::CloseIke { spi: spis::ike(place), operator: 0 };
     let mut cases = Vec::new();
     for (ike_place, ipsec_place) in [(0, 0), (0, 127), (31, 0), (31, 127), (9, 40)] {
         cases.push(case(&[ike_place], &[], ipsec(ipsec_place)));
@@ -175,7 +204,8 @@ fn twins() -> Vec<Case> {
         tables.ipsec_mut()[high].spi = child;
         let with_ike_twins = open_both(spi, ipv4_pair(), NEW_IPSEC);
         let with_child_twins = open_both(NEW_IKE, ipv4_pair(), child);
-        let (close_ike, close_child) = (Call::CloseIke { spi }, Call::CloseIpsec { spi: child });
+        let (close_ike, close_child) =
+            (Call::CloseIke { spi, operator: 0 }, Call::CloseIpsec { spi: child, operator: 0 });
         let calls = vec![
             with_ike_twins.clone(),
             with_child_twins.clone(),
@@ -205,7 +235,7 @@ fn orphans() -> Vec<Case> {
         let calls = vec![
             open_both(NEW_IKE, ipv4_pair(), NEW_IPSEC),
             open_both(NEW_IKE - 1, contents::pair(70), NEW_IPSEC - 1),
-            Call::CloseIke { spi: NEW_IKE },
+            Call::CloseIke { spi: NEW_IKE, operator: 0 },
             open_both(NEW_IKE, contents::pair(71), NEW_IPSEC),
         ];
         Case { tables, calls }
@@ -229,7 +259,7 @@ fn orphans_in_each_place() -> Vec<Case> {
         let calls = vec![
             open_both(NEW_IKE, ipv4_pair(), spis::ipsec(0)),
             open_both(NEW_IKE, ipv4_pair(), NEW_IPSEC),
-            Call::CloseIke { spi: NEW_IKE },
+            Call::CloseIke { spi: NEW_IKE, operator: 0 },
         ];
         Case { tables, calls }
     };
@@ -261,7 +291,7 @@ fn policies() -> Vec<Case> {
             for mobike in [1, 0] {
                 let agreed = Agreed { mobike, ..AGREED };
                 let opening = Opening { spi: NEW_IKE, agreed, pair, child: NEW_IPSEC };
-                let calls = vec![Call::OpenBoth(opening), Call::Acceptable { pair }];
+                let calls = vec![Call::OpenBoth(opening), Call::Acceptable { pair, operator: 0 }];
                 cases.push(Case { tables: tables.clone(), calls });
             }
         }

@@ -2,6 +2,7 @@
 use super::super::{spis, Case};
 use super::contents::{self, ike_record, ipsec_record, ipv4_pair, open_both, NEW_IKE, NEW_IPSEC};
 use crate::calls::Call;
+use crate::opening::Adding;
 use crate::tables::{Tables, IKE_PLACES, IPSEC_PLACES};
 
 pub fn all() -> Vec<Case> {
@@ -66,9 +67,9 @@ fn ike_look_alikes() -> Vec<Case> {
             tables.ike_mut()[1] = ike_record(1, there);
             tables.ipsec_mut()[1] = ipsec_record(1, 9, there);
             let calls = vec![
-                Call::OpenIpsec { spi: NEW_IPSEC, owner: given },
+                Call::OpenIpsec(Adding { spi: NEW_IPSEC, owner: given, operator: 0 }),
                 open_both(given, ipv4_pair(), NEW_IPSEC - 1),
-                Call::CloseIke { spi: given },
+                Call::CloseIke { spi: given, operator: 0 },
                 open_both(there, ipv4_pair(), NEW_IPSEC - 2),
             ];
             cases.push(Case { tables, calls });
@@ -81,21 +82,27 @@ fn ipsec_look_alikes() -> Vec<Case> {
     contents::of_like_ipsec_spis(|there, given| {
         vec![
             open_both(NEW_IKE, ipv4_pair(), given),
-            Call::CloseIpsec { spi: given },
+            Call::CloseIpsec { spi: given, operator: 0 },
             open_both(NEW_IKE - 1, ipv4_pair(), there),
         ]
     })
 }
 
-/// From empty tables: the display of a number, as in a row of IKE_AUTH exchanges.
+/// From empty tables: the display of a number, as in a row of IKE_AUTH exchanges, of either operator in turn.
 fn display(number: usize) -> Call {
-    open_both(spis::ike(number), contents::pair(number), spis::ipsec(number))
+    let mut call = open_both(spis::ike(number), contents::pair(number), spis::ipsec(number));
+    *call.operator_mut() = (number % 2) as u8;
+    call
+}
+
+fn adding(number: usize, owner: usize) -> Call {
+    let (spi, owner) = (spis::ipsec(number), spis::ike(owner));
+    Call::OpenIpsec(Adding { spi, owner, operator: 0 })
 }
 
 /// Places closed and taken again, from empty tables.
 fn reused_places() -> Vec<Case> {
-    let ipsec =
-        |number, owner| Call::OpenIpsec { spi: spis::ipsec(number), owner: spis::ike(owner) };
+    let ipsec = adding;
     let calls = vec![
         display(0),
         display(1),
@@ -103,10 +110,10 @@ fn reused_places() -> Vec<Case> {
         ipsec(10, 1),
         ipsec(11, 0),
         ipsec(12, 1),
-        Call::CloseIke { spi: spis::ike(1) },
+        Call::CloseIke { spi: spis::ike(1), operator: 0 },
         display(3),
         ipsec(13, 3),
-        Call::CloseIpsec { spi: spis::ipsec(11) },
+        Call::CloseIpsec { spi: spis::ipsec(11), operator: 0 },
         display(1),
         ipsec(11, 2),
         ipsec(10, 0),
@@ -117,13 +124,17 @@ fn reused_places() -> Vec<Case> {
 
 /// Each table filled from empty, and one opening more; then a place is freed, and it is made again.
 fn filled_tables() -> Vec<Case> {
-    let ipsec = |number| Call::OpenIpsec { spi: spis::ipsec(number), owner: spis::ike(0) };
+    let ipsec = |number| adding(number, number % 2);
+    let by_one = |number| adding(number, 0);
     let again = |freeing: Call| [display(200), freeing, display(200), display(201)];
     let ike_full = (0..=IKE_PLACES).map(display);
-    let ike_full = ike_full.chain(again(Call::CloseIke { spi: spis::ike(9) })).collect();
+    let ike_full =
+        ike_full.chain(again(Call::CloseIke { spi: spis::ike(9), operator: 0 })).collect();
     let list_full = [display(0), display(1)].into_iter().chain((2..=IPSEC_PLACES).map(ipsec));
-    let list_full = list_full.chain(again(Call::CloseIpsec { spi: spis::ipsec(9) })).collect();
-    let all_by_one = [display(0), display(1)].into_iter().chain((2..=IPSEC_PLACES).map(ipsec));
-    let all_by_one = all_by_one.chain(again(Call::CloseIke { spi: spis::ike(0) })).collect();
+    let list_full =
+        list_full.chain(again(Call::CloseIpsec { spi: spis::ipsec(9), operator: 0 })).collect();
+    let all_by_one = [display(0), display(1)].into_iter().chain((2..=IPSEC_PLACES).map(by_one));
+    let all_by_one =
+        all_by_one.chain(again(Call::CloseIke { spi: spis::ike(0), operator: 0 })).collect();
     [ike_full, list_full, all_by_one].map(|calls| Case { tables: Tables::empty(), calls }).to_vec()
 }

@@ -2,6 +2,7 @@
 use super::super::{spis, Case};
 use super::contents::{self, ike_record, ipsec_record, NEW_IPSEC};
 use crate::calls::Call;
+use crate::opening::Adding;
 use crate::tables::{Tables, IKE_PLACES, IPSEC_PLACES};
 
 pub fn all() -> Vec<Case> {
@@ -20,7 +21,8 @@ pub fn all() -> Vec<Case> {
 }
 
 fn zero_spis() -> Vec<Case> {
-    let calls = vec![Call::CloseIke { spi: 0 }, Call::CloseIpsec { spi: 0 }];
+    let calls =
+        vec![Call::CloseIke { spi: 0, operator: 0 }, Call::CloseIpsec { spi: 0, operator: 0 }];
     [Tables::empty(), contents::full(), contents::leftovers()]
         .map(|tables| Case { tables, calls: calls.clone() })
         .to_vec()
@@ -29,7 +31,7 @@ fn zero_spis() -> Vec<Case> {
 /// Each IKE record of full tables, closed twice.
 fn ike_places() -> Vec<Case> {
     let case = |place| {
-        let closing = Call::CloseIke { spi: spis::ike(place) };
+        let closing = Call::CloseIke { spi: spis::ike(place), operator: 0 };
         Case { tables: contents::full(), calls: vec![closing.clone(), closing] }
     };
     (0..IKE_PLACES).map(case).collect()
@@ -39,7 +41,8 @@ fn ike_places() -> Vec<Case> {
 fn ipsec_places() -> Vec<Case> {
     let case = |eight: usize| {
         let places = (8 * eight..8 * eight + 8).chain([8 * eight + 7]);
-        let calls = places.map(|place| Call::CloseIpsec { spi: spis::ipsec(place) }).collect();
+        let calls =
+            places.map(|place| Call::CloseIpsec { spi: spis::ipsec(place), operator: 0 }).collect();
         Case { tables: contents::full(), calls }
     };
     (0..IPSEC_PLACES / 8).map(case).collect()
@@ -53,7 +56,7 @@ fn owned_places() -> Vec<Case> {
         for (place, record) in tables.ipsec_mut().iter_mut().enumerate() {
             record.owner = if owned(place) { closed } else { other };
         }
-        Case { tables, calls: vec![Call::CloseIke { spi: closed }] }
+        Case { tables, calls: vec![Call::CloseIke { spi: closed, operator: 0 }] }
     };
     let single = (0..IPSEC_PLACES).map(|place| case(&|other_place| other_place == place));
     single.chain([case(&|_| true), case(&|_| false)]).collect()
@@ -70,9 +73,9 @@ fn free_places_with_owner() -> Vec<Case> {
             }
         }
         let calls = vec![
-            Call::CloseIke { spi: spis::ike(0) },
-            Call::OpenIpsec { spi: NEW_IPSEC, owner: spis::ike(1) },
-            Call::CloseIke { spi: spis::ike(1) },
+            Call::CloseIke { spi: spis::ike(0), operator: 0 },
+            Call::OpenIpsec(Adding { spi: NEW_IPSEC, owner: spis::ike(1), operator: 0 }),
+            Call::CloseIke { spi: spis::ike(1), operator: 0 },
         ];
         Case { tables, calls }
     };
@@ -86,8 +89,8 @@ fn ike_twins() -> Vec<Case> {
         let spi = tables.ike.records[low].spi;
         let twin = &mut tables.ike_mut()[high];
         (twin.spi, twin.agreed.mobike) = (spi, 0);
-        let closing = Call::CloseIke { spi };
-        let opening = Call::OpenIpsec { spi: NEW_IPSEC, owner: spi };
+        let closing = Call::CloseIke { spi, operator: 0 };
+        let opening = Call::OpenIpsec(Adding { spi: NEW_IPSEC, owner: spi, operator: 0 });
         let calls = vec![opening.clone(), closing.clone(), opening, closing.clone(), closing];
         Case { tables, calls }
     };
@@ -101,9 +104,9 @@ fn ipsec_twins() -> Vec<Case> {
         let mut tables = contents::full();
         let record = tables.ipsec.records[low];
         tables.ipsec_mut()[high].spi = record.spi;
-        let by_spi = vec![Call::CloseIpsec { spi: record.spi }; 3];
+        let by_spi = vec![Call::CloseIpsec { spi: record.spi, operator: 0 }; 3];
         cases.push(Case { tables: tables.clone(), calls: by_spi });
-        let with_owner = vec![Call::CloseIke { spi: record.owner }];
+        let with_owner = vec![Call::CloseIke { spi: record.owner, operator: 0 }];
         cases.push(Case { tables: tables.clone(), calls: with_owner.clone() });
         tables.ipsec_mut()[high].owner = record.owner;
         cases.push(Case { tables, calls: with_owner });
@@ -122,15 +125,15 @@ fn orphans() -> Vec<Case> {
     let mut with_leftover = tables.clone();
     with_leftover.ike_mut()[0] = ike_record(0, 0);
     let calls = vec![
-        Call::CloseIke { spi: owner },
-        Call::OpenIpsec { spi: spis::ipsec(64), owner },
-        Call::OpenIpsec { spi: spis::ipsec(64), owner: spis::ike(3) },
-        Call::CloseIpsec { spi: spis::ipsec(64) },
-        Call::CloseIke { spi: spis::ike(3) },
+        Call::CloseIke { spi: owner, operator: 0 },
+        Call::OpenIpsec(Adding { spi: spis::ipsec(64), owner, operator: 0 }),
+        Call::OpenIpsec(Adding { spi: spis::ipsec(64), owner: spis::ike(3), operator: 0 }),
+        Call::CloseIpsec { spi: spis::ipsec(64), operator: 0 },
+        Call::CloseIke { spi: spis::ike(3), operator: 0 },
         contents::open_both(owner, contents::pair(50), spis::ipsec(127)),
         contents::open_both(owner, contents::pair(50), spis::ipsec(65)),
-        Call::OpenIpsec { spi: spis::ipsec(64), owner },
-        Call::CloseIke { spi: owner },
+        Call::OpenIpsec(Adding { spi: spis::ipsec(64), owner, operator: 0 }),
+        Call::CloseIke { spi: owner, operator: 0 },
     ];
     [tables, with_leftover].map(|tables| Case { tables, calls: calls.clone() }).to_vec()
 }
@@ -140,6 +143,6 @@ fn shared_pair() -> Vec<Case> {
     let mut tables = contents::full();
     tables.ike_mut().iter_mut().for_each(|record| record.pair = contents::pair(0));
     tables.ipsec_mut().iter_mut().for_each(|record| record.pair = contents::pair(0));
-    let calls = [3, 30].map(|place| Call::CloseIke { spi: spis::ike(place) }).to_vec();
+    let calls = [3, 30].map(|place| Call::CloseIke { spi: spis::ike(place), operator: 0 }).to_vec();
     vec![Case { tables, calls }]
 }

@@ -1,4 +1,4 @@
-// Tables for the listed cases: in every place no field is 0 but the SPI of a free one.
+// Tables for the listed cases: in every place no field is 0 but the SPI of a free one, and the octet that names A.
 use super::super::agreements::YES;
 use super::super::{spis, Case};
 use crate::address::{Address, AddressPair};
@@ -18,7 +18,7 @@ pub const NEW_IKE: u64 = u64::MAX - 1;
 pub const NEW_IPSEC: u32 = u32::MAX - 1;
 
 /// What an opening gives, where a case doesn't say it.
-pub const AGREED: Agreed = Agreed { mobike: 1, cloning: 2, peer: 0x0102_0304 };
+pub const AGREED: Agreed = Agreed { mobike: 1, cloning: 2, operator: 0, peer: 0x0102_0304 };
 
 /// Opens both, with MOBIKE agreed.
 pub fn open_both(spi: u64, pair: AddressPair, child: u32) -> Call {
@@ -52,7 +52,12 @@ pub fn ike_record(place: usize, spi: u64) -> IkeRecord {
     let address = |number| Address { family: 6, octets: octets(place + number) };
     IkeRecord {
         spi,
-        agreed: Agreed { mobike: yes(place), cloning: yes(place + 3), peer: !(place as u32) },
+        agreed: Agreed {
+            mobike: yes(place),
+            cloning: yes(place + 3),
+            operator: operator(place),
+            peer: !(place as u32),
+        },
         pair: pair(place),
         update_mark: u64::MAX - place as u64,
         list_mark: 1 + place as u64,
@@ -62,6 +67,11 @@ pub fn ike_record(place: usize, spi: u64) -> IkeRecord {
         check: pending(place),
         deleting: yes(place + 5),
     }
+}
+
+/// Of the records in an odd place A, of the others B, so that each has half of full tables.
+pub fn operator(place: usize) -> u8 {
+    1 - (place % 2) as u8
 }
 
 /// Octets that say yes, in turn.
@@ -79,16 +89,16 @@ pub fn ipsec_record(place: usize, spi: u32, owner: u64) -> IpsecRecord {
     IpsecRecord { spi, owner, pair: pair(place) }
 }
 
-/// Rules that are sound but for some lengths, and a count that no list can be set with.
-fn policy() -> Policy {
+/// Rules that are sound but for some lengths, and a count that no list can be set with; others for each operator.
+fn policy(operator: usize) -> Policy {
     let rule = |place| Rule {
         family: 6,
-        source: octets(place),
-        destination: octets(place + 1),
+        source: octets(place + 20 * operator),
+        destination: octets(place + 20 * operator + 1),
         source_length: 120 + place as u8,
         destination_length: 121 + place as u8,
     };
-    Policy { count: 20, rules: array::from_fn(rule) }
+    Policy { count: 20 + operator as u16, rules: array::from_fn(rule) }
 }
 
 /// The tables whose places have these SPIs; the IPsec records' owners are the IKE SPIs in turn.
@@ -98,7 +108,7 @@ fn tables(ike_spi: impl Fn(usize) -> u64, ipsec_spi: impl Fn(usize) -> u32) -> T
     Tables {
         ike: Rc::new(IkeTable { records: array::from_fn(ike) }),
         ipsec: Rc::new(IpsecTable { records: (0..IPSEC_PLACES).map(ipsec).collect() }),
-        policy: policy(),
+        policies: array::from_fn(policy),
     }
 }
 

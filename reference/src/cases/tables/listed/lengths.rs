@@ -2,6 +2,7 @@
 use super::super::{lengths, spis, Case};
 use super::contents::{self, NEW_IKE, NEW_IPSEC};
 use crate::calls::Call;
+use crate::opening::Adding;
 use crate::tables::{Tables, IPSEC_PLACES};
 
 pub fn all() -> Vec<Case> {
@@ -41,11 +42,13 @@ fn calls() -> Vec<Call> {
     }
     for spi in [NEW_IPSEC, 0, spis::ipsec(0), last] {
         for owner in [spis::ike(0), 0, NEW_IKE - 1] {
-            calls.push(Call::OpenIpsec { spi, owner });
+            calls.push(Call::OpenIpsec(Adding { spi, owner, operator: 0 }));
         }
     }
-    calls.extend([last, 0, spis::ipsec(0), NEW_IPSEC - 1].map(|spi| Call::CloseIpsec { spi }));
-    calls.extend([spis::ike(0), 0, NEW_IKE - 1].map(|spi| Call::MarkDeletion { spi }));
-    calls.extend([spis::ike(0), 0, NEW_IKE - 1].map(|spi| Call::CloseIke { spi }));
+    calls.extend(
+        [last, 0, spis::ipsec(0), NEW_IPSEC - 1].map(|spi| Call::CloseIpsec { spi, operator: 0 }),
+    );
+    calls.extend([spis::ike(0), 0, NEW_IKE - 1].map(|spi| Call::MarkDeletion { spi, operator: 0 }));
+    calls.extend([spis::ike(0), 0, NEW_IKE - 1].map(|spi| Call::CloseIke { spi, operator: 0 }));
     calls
 }

@@ -6,13 +6,15 @@ mod closings;
 pub(in crate::cases) mod contents;
 mod lengths;
 mod openings;
+mod operators;
 mod policies;
 mod prefixes;
 
+use super::super::operators::suit_calls;
 use super::Case;
 
 pub fn all() -> Vec<Case> {
-    [
+    let mut cases = [
         both_checks::all(),
         both_places::all(),
         agreements::all(),
@@ -22,5 +24,7 @@ pub fn all() -> Vec<Case> {
         prefixes::all(),
         lengths::all(),
     ]
-    .concat()
+    .concat();
+    cases.iter_mut().for_each(|Case { tables, calls }| suit_calls(tables, calls));
+    [operators::all(), cases].concat()
 }

@@ -2,6 +2,7 @@
 use super::super::{spis, Case};
 use super::contents::{self, NEW_IKE, NEW_IPSEC};
 use crate::calls::Call;
+use crate::opening::Adding;
 use crate::tables::{Tables, IPSEC_PLACES};
 
 pub fn all() -> Vec<Case> {
@@ -13,7 +14,7 @@ fn checks() -> Vec<Case> {
     for tables in tables_to_open_in() {
         for spi in [0, spis::ipsec(1), spis::ipsec(127), NEW_IPSEC] {
             for owner in [0, spis::ike(0), spis::ike(1), spis::ike(31), NEW_IKE] {
-                let calls = vec![Call::OpenIpsec { spi, owner }];
+                let calls = vec![Call::OpenIpsec(Adding { spi, owner, operator: 0 })];
                 cases.push(Case { tables: tables.clone(), calls });
             }
         }
@@ -43,7 +44,7 @@ fn owners() -> Vec<Case> {
     records[12].spi = u64::from(NEW_IPSEC);
     let opening = |number, place: usize| {
         let owner = tables.ike.records[place].spi;
-        Call::OpenIpsec { spi: NEW_IPSEC - number, owner }
+        Call::OpenIpsec(Adding { spi: NEW_IPSEC - number, owner, operator: 0 })
     };
     let calls = [9, 10, 11, 12].into_iter().zip(0..).map(|(place, number)| opening(number, place));
     vec![
@@ -55,7 +56,9 @@ fn owners() -> Vec<Case> {
 /// One place free or two; the third opening finds none.
 fn places() -> Vec<Case> {
     let case = |places: &[usize]| {
-        let opening = |number| Call::OpenIpsec { spi: NEW_IPSEC - number, owner: spis::ike(3) };
+        let opening = |number| {
+            Call::OpenIpsec(Adding { spi: NEW_IPSEC - number, owner: spis::ike(3), operator: 0 })
+        };
         Case { tables: contents::with_free_ipsec(places), calls: (0..3).map(opening).collect() }
     };
     let lows = 0..IPSEC_PLACES;
@@ -65,9 +68,9 @@ fn places() -> Vec<Case> {
 fn look_alikes() -> Vec<Case> {
     contents::of_like_ipsec_spis(|there, given| {
         vec![
-            Call::OpenIpsec { spi: given, owner: spis::ike(1) },
-            Call::CloseIpsec { spi: given },
-            Call::CloseIpsec { spi: there },
+            Call::OpenIpsec(Adding { spi: given, owner: spis::ike(1), operator: 0 }),
+            Call::CloseIpsec { spi: given, operator: 0 },
+            Call::CloseIpsec { spi: there, operator: 0 },
         ]
     })
 }

@@ -35,13 +35,17 @@ impl Flaw {
     }
 }
 
-/// Every list is set over one that no call could have set.
+/// Every list is set over one that no call could have set, for either operator in turn.
 pub fn all() -> Vec<Case> {
     let tables = contents::leftovers();
     [counts(), single_flaws(), two_flaws(), lengths(), families(), tails(), replaced()]
         .concat()
         .into_iter()
-        .map(|calls| Case { tables: tables.clone(), calls })
+        .zip([0, 1].into_iter().cycle())
+        .map(|(mut calls, operator)| {
+            calls.iter_mut().for_each(|call| *call.operator_mut() = operator);
+            Case { tables: tables.clone(), calls }
+        })
         .collect()
 }
 
@@ -63,7 +67,7 @@ fn sound_list() -> RuleList {
 }
 
 fn setting(count: u16, list: RuleList) -> Call {
-    Call::SetPolicy { count, rules: Box::new(list) }
+    Call::SetPolicy { count, rules: Box::new(list), operator: 0 }
 }
 
 /// Every count, with sound rules in all places, and with an unsound one in the last.
@@ -162,7 +166,7 @@ fn replaced() -> Vec<Vec<Call>> {
         destination: rule.destination,
         ..AddressPair::ZERO
     };
-    let acceptable = Call::Acceptable { pair };
+    let acceptable = Call::Acceptable { pair, operator: 0 };
     let mut calls = Vec::new();
     for count in [16, 10, 9, 17, 12, 0, 10] {
         calls.extend([setting(count, sound_list()), acceptable.clone()]);

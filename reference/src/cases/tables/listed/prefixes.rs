@@ -20,7 +20,13 @@ pub fn all() -> Vec<Case> {
     [bits(), two_lengths(), counts_and_places(), families(), two_rules()]
         .concat()
         .into_iter()
-        .map(|(policy, calls)| Case { tables: Tables { policy, ..empty.clone() }, calls })
+        .zip([0, 1].into_iter().cycle())
+        .map(|((policy, mut calls), operator)| {
+            let mut tables = empty.clone();
+            tables.policies[usize::from(operator)] = policy;
+            calls.iter_mut().for_each(|call| *call.operator_mut() = operator);
+            Case { tables, calls }
+        })
         .collect()
 }
 
@@ -42,7 +48,7 @@ fn pair(family: u8, in_source: u128, in_destination: u128) -> AddressPair {
 }
 
 fn acceptable(pair: AddressPair) -> Call {
-    Call::Acceptable { pair }
+    Call::Acceptable { pair, operator: 0 }
 }
 
 /// Only this rule is in force, and it stands first.

@@ -9,7 +9,7 @@ use Rattle.walks.proofs.Kit.{_≡_, refl, sym, ap, _∙_, ℕ, Bool, List, [], 
 use Rattle.walks.proofs.Kit.{erased, Val, SProp, seq, call, nothing, Body}
 use Rattle.walks.proofs.Kit.{emp, id⊢, Lft, Lfts, Share, Shares, Fml, Memory, Routine, Heap, Env, Calls, Loops, Atoms}
 use Rattle.walks.proofs.Kit.{Fun, FmC, Goal, Post, Given, Item, ‵, _⊛_, Seq, Step, step, _$_, move, drop, split, join}
-use Rattle.walks.proofs.Kit.{fsplit, fjoin, feqL, use1, Is, bool, bool-makes, bool-vals, vbool, u8, only, owned}
+use Rattle.walks.proofs.Kit.{_<_, _^_, w8, vint, uint-makes, uint-vals, fsplit, fjoin, feqL, use1, Is, bool, bool-makes, bool-vals, vbool, u8, only, owned}
 use Rattle.walks.proofs.Kit.{RefT, MutSlice, ShrSlice, Room, slice-vals, finally, Triple, Opds, runs, lands, Place}
 use mir.Syntax.{Opd as Operand}
 use base.Logic.{mono∗}
@@ -62,9 +62,9 @@ Strings {𝓤 = 𝓤} κs qs nat-source nat-destination body out Γ =
     ∷ ‵ (MutSlice erased (κs .1 .1 .1 .0) u8 .own out (slice-vals out)) ∷ tokens 𝓤 4 κs qs ∷ Γ
 
 -- the request that they are of
-abbrev requested : Packet → (nat-source nat-destination body out : RefT (List ℕ)) → Request
-requested packet nat-source nat-destination body out =
-    requestBy packet (nat-source .now) (nat-destination .now) (body .now) (length (out .now))
+abbrev requested : Packet → (nat-source nat-destination body out : RefT (List ℕ)) → ℕ → Request
+requested packet nat-source nat-destination body out op =
+    requestBy packet (nat-source .now) (nat-destination .now) (body .now) (length (out .now)) op
 
 -- a `&κ [u8]` is Copy
 copies : {M : Type 1} {𝓤 : URA M} {H : Heap 𝓤} {A : Atoms 𝓤} {K : Type 0} {W : Given 𝓤 H A} {Γ : List (Item 𝓤)}
@@ -78,13 +78,14 @@ module _ {M : Type 1} {𝓤 : URA M} {H : Heap 𝓤} {A : Atoms 𝓤} {K : Type 
     {E : Env 𝓤 H} {C : Calls 𝓤 H} {Λ : Loops 𝓤 H} {p : Post 𝓤 H} {d : Place} {ops : List Operand} {rest : Body} (t : K)
     (fm : FmC 𝓤 H (W .laws) C) (at-mem : Memory → SProp 𝓤) (run : Routine → Fun 𝓤) (κs : Lfts 4) (qs : Shares 4)
     (nat-source nat-destination body out : RefT (List ℕ)) (looked : Looked) (looked-is : Is L.the-row looked
-    (looked-vals looked)) (packet : Packet) (packet-is : Is G.the-row packet (packet-vals packet)) (received : Received)
-    (comes : received ≡ receivedAt looked (requested packet nat-source nat-destination body out)) where
+    (looked-vals looked)) (packet : Packet) (packet-is : Is G.the-row packet (packet-vals packet)) (op : ℕ)
+    (op-fits : op < 2 ^ 8) (received : Received)
+    (comes : received ≡ receivedAt looked (requested packet nat-source nat-destination body out op)) where
   pub receives : Triple 𝓤 (C receive-def.name) (Told 𝓤 H A receive.ended (receive.clauses 𝓤 H A at-mem run))
       → Room u8 (length (out .now))
       → ((h i j k l : Item 𝓤) → Opds K W (h ∷ i ∷ j ∷ k ∷ l ∷ Γ) E ops (only (looked-vals looked)
       ∷ only (packet-vals packet) ∷ only (slice-vals nat-source) ∷ only (slice-vals nat-destination)
-      ∷ only (slice-vals body) ∷ only (slice-vals out) ∷ []))
+      ∷ only (slice-vals body) ∷ only (slice-vals out) ∷ vint w8 op ∷ []))
       → (Is Rc.the-row received (received-vals received)
       → Seq K W (Strings κs qs nat-source nat-destination body out Γ)
       (lands C Λ E d (only (received-vals received)) rest p))
@@ -94,7 +95,7 @@ module _ {M : Type 1} {𝓤 : URA M} {H : Heap 𝓤} {A : Atoms 𝓤} {K : Type 
       move t (4 ∷ []) $ split t $ move t (1 ∷ []) $ split t $ move t (1 ∷ []) $ split t $ move t (1 ∷ []) $
       no-token t $ move t (7 ∷ 0 ∷ []) $
       -- [the output; the tokens, the last first; the two values and the body]
-      lent-list t tt u8 out [] tt tt tt tt (λ ν δ. move t (3 ∷ 0 ∷ []) $ join t $ move t (3 ∷ 0 ∷ []) $ join t $
+      lent-list t tt u8 out (u8 ∷ []) (uint-makes 𝓤 H A W w8, tt) (op, tt) (uint-vals w8 op, tt) ((refl, op-fits), tt) (λ ν δ. move t (3 ∷ 0 ∷ []) $ join t $ move t (3 ∷ 0 ∷ []) $ join t $
       move t (3 ∷ 0 ∷ []) $ join t $
       -- [the tokens; the lent output; what its holder keeps; the two values and the body]
       move t (5 ∷ []) $ copies t body $ move t (0 ∷ 3 ∷ []) $ fjoin t $ move t (5 ∷ []) $ copies t nat-destination $
@@ -106,9 +107,9 @@ module _ {M : Type 1} {𝓤 : URA M} {H : Heap 𝓤} {A : Atoms 𝓤} {K : Type 
           (κs .0 & κs .1 .0 & κs .1 .1 .0 & (ν ∷ []) & tt),
           (qs .0 & qs .1 .0 & qs .1 .1 .0 & fullShare & tt),
           tt,
-          (looked & packet & nat-source & nat-destination & body & renamed δ out & tt),
+          (looked & packet & nat-source & nat-destination & body & renamed δ out & op & tt),
           (looked-vals looked & packet-vals packet & slice-vals nat-source & slice-vals nat-destination
-              & slice-vals body & slice-vals out & tt),
+              & slice-vals body & slice-vals out & uint-vals w8 op & tt),
         ),
         tt,
       ) (id⊢ 𝓤 _) (os _ _ _ _ _) received-vals (LL.tells Rc.the-type Rc′.the-laws) received
@@ -121,12 +122,12 @@ module _ {M : Type 1} {𝓤 : URA M} {H : Heap 𝓤} {A : Atoms 𝓤} {K : Type 
 
   pub handles : Triple 𝓤 (C handle-def.name) (Told 𝓤 H A handle.ended (handle.clauses 𝓤 H A at-mem run))
       → (accepted : Bool) → Is Rc.the-row received (received-vals received)
-      → (c : CoreAnswer) → handledAt accepted looked (requested packet nat-source nat-destination body out) ≡ c
+      → (c : CoreAnswer) → handledAt accepted looked (requested packet nat-source nat-destination body out op) ≡ c
       → (response : List ℕ)
-      → responseAt accepted looked (requested packet nat-source nat-destination body out) ≡ response
+      → responseAt accepted looked (requested packet nat-source nat-destination body out op) ≡ response
       → ((i j : Item 𝓤) → Opds K W (i ∷ j ∷ Γ) E ops (vbool accepted ∷ only (looked-vals looked)
       ∷ only (packet-vals packet) ∷ only (received-vals received) ∷ only (slice-vals nat-source)
-      ∷ only (slice-vals nat-destination) ∷ only (slice-vals body) ∷ only (slice-vals out) ∷ []))
+      ∷ only (slice-vals nat-destination) ∷ only (slice-vals body) ∷ only (slice-vals out) ∷ vint w8 op ∷ []))
       → (Is D.the-row c (answer-vals c) → (ws : List ℕ) → ws ≡ placed (out .now) 0 response
       → length ws ≡ length (out .now)
       → Seq K W (‵ (finally u8 (out .name) ws) ∷ tokens 𝓤 4 κs qs ∷ ‵ (Octets (κs .1 .1 .0) body) ∷ Γ)
@@ -134,7 +135,8 @@ module _ {M : Type 1} {𝓤 : URA M} {H : Heap 𝓤} {A : Atoms 𝓤} {K : Type 
       → Seq K W (Strings κs qs nat-source nat-destination body out Γ)
       (runs C Λ E (seq (call handle-def.name ops d) rest) p)
   handles known accepted received-is c answers response writes os s =
-      move t (2 ∷ []) $ copies t body $ nothing t $ move t (5 ∷ 0 ∷ []) $ fjoin t $ move t (1 ∷ 0 ∷ []) $ fjoin t $
+      move t (2 ∷ []) $ copies t body $ nothing t $ owned t u8 (Is u8) (uint-makes 𝓤 H A W w8) op _ (refl, op-fits) $ fjoin t $
+      move t (5 ∷ 0 ∷ []) $ fjoin t $ move t (1 ∷ 0 ∷ []) $ fjoin t $
       move t (3 ∷ 0 ∷ []) $ fjoin t $ move t (2 ∷ 0 ∷ []) $ fjoin t $
       owned t Rc.the-row (Is Rc.the-row) (LL.makes Rc.the-type Rc′.the-plain 𝓤 H A) received _ received-is $
       fjoin t $ owned t G.the-row (Is G.the-row) (LL.makes G.the-type G′.the-plain 𝓤 H A) packet _ packet-is $
@@ -146,9 +148,9 @@ module _ {M : Type 1} {𝓤 : URA M} {H : Heap 𝓤} {A : Atoms 𝓤} {K : Type 
           κs,
           qs,
           tt,
-          (accepted & looked & packet & received & nat-source & nat-destination & body & out & tt),
+          (accepted & looked & packet & received & nat-source & nat-destination & body & out & op & tt),
           (bool-vals accepted & looked-vals looked & packet-vals packet & received-vals received
-              & slice-vals nat-source & slice-vals nat-destination & slice-vals body & slice-vals out & tt),
+              & slice-vals nat-source & slice-vals nat-destination & slice-vals body & slice-vals out & uint-vals w8 op & tt),
         ),
         tt,
       ) (factI 𝓤 _ (emp 𝓤) comes) (os _ _) answer-vals (LL.tells D.the-type D′.the-laws) c

@@ -1,0 +1,3 @@
+pub mod State
+pub mod Reached
+pub mod Changes
