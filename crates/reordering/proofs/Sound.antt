@@ -1,9 +1,9 @@
 -- What a sound request does to its record: nothing is refused, so it is what steps 1 to 3 make of it.
 use Prim.Native.Nat.{ℕ}
-use mathlib.Core.Path.{_≡_}
+use mathlib.Core.Path.{_≡_, refl}
 use mathlib.Core.Logic.{⊎-elim}
 use mathlib.Core.List.{List}
-use mathlib.Core.Bool.{true, _&&_, _||_, not, false≢true}
+use mathlib.Core.Bool.{Bool, true, false, _&&_, _||_, not, false≢true}
 use borrow.Author.Tests.{eqb-true}
 use lib.Dec.{eqb, leb}
 use Rattle.octets.proofs.Small.{both}
@@ -16,11 +16,12 @@ use Rattle.records.specs.declared.ike.IkeRecord.{IkeRecord}
 use Rattle.verdict.specs.Verdict.{isAccepted, verdict}
 use Rattle.answering.specs.Core.{decisionOn}
 use Rattle.checking.specs.Checks.{Request}
+use Rattle.checking.proofs.Checks.{passed}
 use Rattle.responder.specs.Handle.{accepts, seenIn}
 use Rattle.numbers.specs.Numbers.{stepped}
 use Rattle.numbers.proofs.Decisions.{Decides, done, refused, decides}
 use Rattle.numbers.proofs.Cores.{core-decided}
-use Rattle.reordering.specs.Requests.{soundRequest}
+use Rattle.reordering.specs.Requests.{soundRequest, OthersUnsound}
 use Rattle.reordering.proofs.Steps.{early, core}
 
 abbrev pub idIn : Request → ℕ
@@ -59,3 +60,10 @@ sound-parts policies t q e =
         fine = λ u. rw u at (y .1);
       },
     )
+
+pub others-unsound : OthersUnsound
+others-unsound policies t q other = go (soundRequest policies t q) refl
+  where
+    go : (b : Bool) → soundRequest policies t q ≡ b → b ≡ false
+    go false e = refl
+    go true e = absurd (other (passed _ _ _ q (sound-parts policies t q e .0) .own))

@@ -1,15 +1,16 @@
 -- Trusted. One request, in the terms that demand 3 speaks in: what it gets, and whether it is sound.
 --   RequestAnswer, requestAnswer      all that is given back but the tables
---   soundRequest                      01's term
+--   soundRequest                      01's term; `OthersUnsound`: one that names another operator than its record is not
 use mathlib.Core.List.{List}
-use mathlib.Core.Bool.{Bool, _&&_, _||_, not}
+use mathlib.Core.Path.{_≡_}
+use mathlib.Core.Bool.{Bool, false, _&&_, _||_, not}
 use lib.Dec.{eqb}
 use Prim.Native.Nat.{ℕ}
 use Rattle.values.specs.Values.{partOf, noNatsSeen}
 use Rattle.findings.specs.declared.seen.Seen.{Seen}
 use Rattle.policy.specs.declared.rules.Policy.{Policy}
 use Rattle.reader.specs.Chain.{reading}
-use Rattle.tables.specs.Tables.{Tables}
+use Rattle.tables.specs.Tables.{Tables, meant}
 use Rattle.verdict.specs.Verdict.{isAccepted, verdict}
 use Rattle.checking.specs.Checks.{Request}
 use Rattle.responder.specs.Handle.{accepts, earlyNumber, handled, handledResponse, seenIn}
@@ -40,3 +41,10 @@ soundRequest policies t q =
     && (eqb (reading (q .asks .first) (q .asks .body) .number) 0
     && (not (seenIn q .update)
     || isAccepted (verdict (accepts policies q) (noNatsSeen (q .asks .body) (seenIn q)) (q .asks .pair))))
+
+-- So a request that names another operator than the record that its SPI means is not sound: it belongs to its SPI all
+-- the same, and its SPI is not freed.
+abbrev pub OthersUnsound : Type 0
+OthersUnsound =
+    (policies : List Policy) (t : Tables) (q : Request) → (meant (t .ike) (q .spi) .agreed .operator ≡ q .operator → ⊥)
+    → soundRequest policies t q ≡ false
