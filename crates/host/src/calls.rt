@@ -10,7 +10,7 @@ use lent_ipsec::places::ipsec_at;
 use lent_ipsec::places::ipsec_count;
 use lent_ipsec::places::ipsec_place;
 use lent_ipsec::places::ipsec_store;
-use lent_policy::rules::policy_of;
+use lent_policy::rules::accepts;
 use lent_policy::rules::policy_store;
 use lent_policy::rules::rules_of;
 use lent_shares::shares::ipsec_count_of;
@@ -19,7 +19,6 @@ use octets::limits::OPERATORS;
 use octets::limits::RULES_MOST;
 use policy::rules::Policy;
 use policy::rules::Rule;
-use policy::rules::accepts;
 use policy::rules::set_policy;
 use records::ike::IkeRecord;
 use records::ipsec::IpsecRecord;
@@ -181,6 +180,5 @@ pub extern "C" fn unmavreth_set_policy(
 pub extern "C" fn unmavreth_acceptable(policy: &Policy, pair: Pair) -> bool
     ensures { λ r. ⌜ r ≡ acceptable (now (policy .entry)) pair ⌝ }
 {
-    let copy = policy_of(policy);
-    accepts(copy, pair)
+    accepts(policy, pair)
 }

@@ -1,9 +1,9 @@
 -- The lent policies, one an operator, as the walks have them: their type and their parameter's slot, a policy taken out
--- of them, and a place within them or past the end.
+-- of them and put back, and a place within them or past the end.
 use Rattle.walks.proofs.Kit.{ℕ, _<_, _≤_, _*_, _^_, _≡_, arith, not, List, _∷_, T, ltb, ltb→lt, nltb→le, length, getD}
 use Rattle.walks.proofs.Kit.{URA, Share, Heap, Atoms, Goal, Given, Item, ‵, Seq, RattleType, Is, shows, mem, shares, row}
-use Rattle.walks.proofs.Kit.{elem-out, Array, ArrayOf, Slot, plain}
-use denote.Index.{place as element, others}
+use Rattle.walks.proofs.Kit.{elem-out, partAt, step, use2, _$_, Step, Array, ArrayOf, Slot, plain}
+use denote.Index.{place as element, others, puts-back}
 use denote.Memory.{cellAt}
 use denote.Struct.Laws as LL
 use Rattle.octets.specs.Limits.{operators}
@@ -30,6 +30,15 @@ module _ {M : Type 1} {𝓤 : URA M} {H : Heap 𝓤} {A : Atoms 𝓤} {K : Type 
       → Seq K W (‵ (row R q xs b o) ∷ Γ) G
   policy-out t q xs i b o l k =
       elem-out t R (Is R) (shows 𝓤 H A R) policy-vals (LL.tells Y.the-type Y′.the-laws) q xs i noPolicy b o l k
+
+-- it is put back, whole
+module _ {M : Type 1} {𝓤 : URA M} {H : Heap 𝓤} {A : Atoms 𝓤} {K : Type 0} {W : Given 𝓤 H A} {Γ : List
+    (Item 𝓤)} {G : Goal 𝓤 H} where
+  pub policy-back : K → (q : Share) (ps : List Policy) (i b o : ℕ) → i < length ps
+      → Step K W (‵ (row R q ps b o) ∷ Γ) G
+      (‵ (partAt R q (getD ps i noPolicy) b (element (mem R .size) o i)) ∷ ‵ (others (shares R) q ps i b o) ∷ Γ) G
+  policy-back t q ps i b o l = step (λ s.
+      use2 W (‵ (row R q ps b o)) (puts-back (shares R) q 𝓤 H A W ps i noPolicy b o l) $ s)
 
 module _ (i : ℕ) where
   pub at-fits : T (ltb i operators) → i * mem R .size < 2 ^ 64

@@ -1,19 +1,19 @@
 -- The rules of a policy asked one after the other.
 --     Left             the rules behind the first i that the count reaches decide
 --     all-left         at first these are all of the policy's rules
---     none-left        no rule is left, by the count or by the places, and nothing is acceptable
+--     none-left, past-all      no rule is left, and nothing is acceptable
 --     hit, miss        rule i accepts the pair; it does not, and the rules behind it decide
-use Prim.Native.Nat.{ℕ, _+_, _<_, _≤_}
-use mathlib.Core.Path.{_≡_, refl, sym, _∙_}
-use mathlib.Core.Logic.{_⊎_, inl, inr}
-use mathlib.Core.Bool.{Bool, true, false, _||_}
+use Prim.Native.Nat.{ℕ, _+_, _<_}
+use mathlib.Core.Path.{_≡_, refl, sym}
+use mathlib.Core.Bool.{Bool, true, false, not, _||_}
 use native.Mathlib.Omega.{arith}
+use lib.Dec.{T, leb, ltb, leb→le, nleb→lt, nltb→le}
 use lib.ListN.{length, getD, drop, take}
 use Rattle.octets.specs.Limits.{rulesMost}
 use Rattle.octets.specs.Lists.{any}
 use Rattle.octets.proofs.Tests.{front-any-step, front-any-end}
 use Rattle.address.specs.declared.pair.Pair.{Pair}
-use Rattle.policy.specs.Policy.{ruleMatches, acceptable}
+use Rattle.policy.specs.Policy.{ruleMatches, acceptable, noRule}
 use Rattle.policy.specs.declared.rules.Policy.{Policy}
 use Rattle.policy.specs.declared.rules.Rule.{Rule}
 
@@ -28,20 +28,33 @@ unfolding acceptable
 all-left p g = refl
 
 module _ (p : Policy) (g : Pair) (i : ℕ) (long : length (p .rules) ≡ rulesMost) where
-  pub none-left : (p .count ≤ i) ⊎ (rulesMost ≤ i) → Left p g i ≡ false
-  none-left (inl h) = front-any-end (accepts g) (p .rules) (p .count) i (omega (arith, long))
-  none-left (inr h) = front-any-end (accepts g) (p .rules) (p .count) i (omega (arith, long))
+  pub none-left : T (leb (p .count) i) → false ≡ Left p g i
+  none-left h =
+      let l = leb→le (p .count) i h in
+      sym (front-any-end (accepts g) (p .rules) (p .count) i (omega (arith, long)))
 
-  -- `d` stands for a rule past the end, which is never asked
-  module _ (d : Rule) (within : i < p .count) (less : i < rulesMost) where
-    abbrev yields : Bool
-    yields = ruleMatches (getD (p .rules) i d) g
+  pub past-all : T (not (ltb i rulesMost)) → false ≡ Left p g i
+  past-all h =
+      let l = nltb→le i rulesMost h in
+      sym (front-any-end (accepts g) (p .rules) (p .count) i (omega (arith, long)))
 
-    one-step : Left p g i ≡ yields || Left p g (i + 1)
-    one-step = front-any-step (accepts g) (p .rules) (p .count) i d within (omega (arith, long))
+  abbrev yields : Bool
+  yields = ruleMatches (getD (p .rules) i noRule) g
 
-    pub hit : yields ≡ true → Left p g i ≡ true
-    hit e = one-step ∙ rw e
+  one-step : T (not (leb (p .count) i)) → i < rulesMost → Left p g i ≡ yields || Left p g (i + 1)
+  one-step h l =
+      front-any-step (accepts g) (p .rules) (p .count) i noRule (nleb→lt (p .count) i h) (omega (arith, long))
 
-    pub miss : yields ≡ false → Left p g i ≡ Left p g (i + 1)
-    miss e = one-step ∙ rw e
+  pub hit : T (not (leb (p .count) i)) → i < rulesMost → T yields → true ≡ Left p g i
+  hit h l = go yields (Left p g (i + 1)) (one-step h l)
+    where
+      go : (y z : Bool) → Left p g i ≡ y || z → T y → true ≡ Left p g i
+      go true z e m = sym e
+      go false z e m = absurd m
+
+  pub miss : T (not (leb (p .count) i)) → i < rulesMost → T (not yields) → Left p g i ≡ Left p g (i + 1)
+  miss h l = go yields (Left p g (i + 1)) (one-step h l)
+    where
+      go : (y z : Bool) → Left p g i ≡ y || z → T (not y) → Left p g i ≡ z
+      go true z e m = absurd m
+      go false z e m = e

@@ -17,7 +17,7 @@ ghost use Rattle.octets.specs.Checks.{firstFailed};
 ghost use Rattle.octets.specs.Limits.{rulesMost};
 ghost use Rattle.octets.specs.Lists.{all};
 ghost use Rattle.octets.specs.Numbers.{numberOf};
-ghost use Rattle.policy.specs.Policy.{ruleFits, lengthsFit, ruleMatches, acceptable};
+ghost use Rattle.policy.specs.Policy.{ruleFits, lengthsFit, ruleMatches};
 ghost use Rattle.policy.specs.Policy.{kept, policyChecks};
 ghost use Rattle.policy.specs.Change.{policySetting};
 
@@ -88,25 +88,6 @@ pub fn rule_matches(rule: Rule, pair: Pair) -> bool
     } else {
         false
     }
-}
-
-// Whether some rule of the policy accepts the pair.
-pub fn accepts(policy: Policy, pair: Pair) -> bool
-    ensures { λ r. ⌜ r ≡ acceptable policy pair ⌝ }
-{
-    let count = policy.count as usize;
-    let mut i = 0;
-    while i < RULES_MOST {
-        if count <= i {
-            return false;
-        }
-        let rule = policy.rules[i];
-        if rule_matches(rule, pair) {
-            return true;
-        }
-        i += 1;
-    }
-    false
 }
 
 // Whether a rule passes one of the two tests: of its lengths, or of its addresses.

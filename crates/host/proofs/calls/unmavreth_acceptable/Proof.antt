@@ -1,11 +1,11 @@
--- `host::calls::unmavreth_acceptable` meets its contract: a walk of its MIR, by hand. `policy_of` copies the lent policy,
--- and the covered `accepts` asks its rules.
+-- `host::calls::unmavreth_acceptable` meets its contract: a walk of its MIR, by hand. `accepts` asks the policy where it is
+-- lent.
 -- Assumes nothing.
-use Rattle.walks.proofs.Kit.{refl, [], _∷_, List, URA, named, Val, vbool, SProp, ent, emp, via, id⊢, fst∗, flft, Memory}
+use Rattle.walks.proofs.Kit.{refl, [], _∷_, List, URA, named, Val, vbool, SProp, ent, emp, via, fst∗, flft, Memory}
 use Rattle.walks.proofs.Kit.{Routine, Heap, Calls, Loops, WpFn, Atoms, Lfts, Shares, Fun, givenOf, tables, tablesOf}
 use Rattle.walks.proofs.Kit.{Given, ‵, ⋆, _$_, _∵_, !, qed, by, move, drop, join, keep, fsplit, fjoin, suffices, frame}
 use Rattle.walks.proofs.Kit.{done, and-then, no-more, enter, params1, pass0, FmC, fmOf, owns, flat, Is, Spells, valss}
-use Rattle.walks.proofs.Kit.{bool-makes, bool-vals, bool-tells, bool, RefT, ptr-vals, shr-tells, plain, shrRefTo}
+use Rattle.walks.proofs.Kit.{bool-makes, bool, RefT, ptr-vals, shr-tells, plain, shrRefTo}
 use Rattle.walks.proofs.Kit.{typesAt, owned, nothing, Triple, Args, Vals, onEntry, cited, says, Stays, stay-dropped}
 use Rattle.walks.proofs.Kit.{walkOf, goes-dropped, ends-at, yes}
 use denote.Struct.Laws as LL
@@ -16,17 +16,12 @@ use Rattle.policy.specs.Policy.{acceptable}
 use Rattle.policy.specs.declared.rules.Policy.{Policy}
 use Rattle.walks.proofs.Walk.{closes}
 use Rattle.walks.proofs.Locals.{allocates, passed, given-first, value, lands-in, hands, ends}
-use Rattle.walks.proofs.Calls.{_&_, tokens, Told, no-token, plainly, calls-for}
-use Rattle.policy.proofs.rules.Policy as Y
-use Rattle.policy.proofs.rules.Policy.Laws as Y′
-use Rattle.policy.proofs.rules.accepts as ask
-use Rattle.policy.proofs.rules.accepts.Symbol as ask-def
-use Rattle.policy.proofs.rules.accepts.Met as ask-thm
-use Rattle.lent.proofs.Asked.{reads-policy}
-use Rattle.lent_policy.proofs.PolicyTypes.{R, policy-vals, typed}
-use Rattle.lent_policy.proofs.rules.policy_of as read
-use Rattle.lent_policy.proofs.rules.policy_of.Symbol as read-def
-use Rattle.lent_policy.proofs.rules.policy_of.Met as read-thm
+use Rattle.walks.proofs.Calls.{tokens, Told, no-token}
+use Rattle.lent.proofs.Asked.{asks-one}
+use Rattle.lent_policy.proofs.PolicyTypes.{R}
+use Rattle.lent_policy.proofs.rules.accepts as ask
+use Rattle.lent_policy.proofs.rules.accepts.Symbol as ask-def
+use Rattle.lent_policy.proofs.rules.accepts.Met as ask-thm
 use Rattle.host.proofs.calls.unmavreth_acceptable.Key as key
 use Rattle.host.proofs.calls.unmavreth_acceptable as f
 use Rattle.host.proofs.calls.unmavreth_acceptable.Statement as stated
@@ -57,7 +52,6 @@ module _ {M : Type 1} (𝓤 : URA M) (H : Heap 𝓤) (A : Atoms 𝓤) (W : Given
       nothing ! $ move ! (1 ∷ 0 ∷ []) $ join ! $ frame ! $ nothing ! $ nothing ! $ fjoin ! $ nothing ! $ fjoin ! $ frame ! $ owned ! bool (Is bool) (bool-makes 𝓤 H A W) (acceptable (x .now) g) _ refl $ done !
 
   module _ (C : Calls 𝓤 H) (Λ : Loops 𝓤 H) (fm : FmC 𝓤 H (W .laws) C)
-      (known-read : Triple 𝓤 (C read-def.name) (Told 𝓤 H A read.ended (read.clauses 𝓤 H A at-mem run)))
       (known : Triple 𝓤 (C ask-def.name) (Told 𝓤 H A ask.ended (ask.clauses 𝓤 H A at-mem run))) where
     walk : ent 𝓤 (onEntry 𝓤 H A f.signature κs qs a vals)
         (WpFn 𝓤 H C Λ code.function (flat (typesAt (f.signature .params) κs) vals) Post)
@@ -68,16 +62,9 @@ module _ {M : Type 1} (𝓤 : URA M) (H : Heap 𝓤) (A : Atoms 𝓤) (W : Given
         passed ! refl (LL.lawful P.the-type P′.the-laws 𝓤 H A W .typed g _ g-is .0) $ pass0 ! $ given-first ! $
         move ! (1 ∷ []) $ fsplit ! $ move ! (1 ∷ []) $ drop ! $ move ! (1 ∷ []) $ no-token ! $ move ! (1 ∷ []) $
         -- [the policy; its token; the locals]
-        reads-policy ! fm at-mem run x known-read (λ i j. and-then ! (value ! refl) (no-more !))
-        (λ is. lands-in ! refl (typed W (x .now) is) $
-        plainly ! (R ∷ P.the-row ∷ [])
-        (LL.makes Y.the-type Y′.the-plain 𝓤 H A & LL.makes P.the-type P′.the-plain 𝓤 H A & tt) (x .now & g & tt)
-        (policy-vals (x .now) & pair-vals g & tt) (is & g-is & tt) $
-        calls-for ! fm ask.ended (ask.clauses 𝓤 H A at-mem run) known
-        ((tt, tt, tt, (x .now & g & tt), (policy-vals (x .now) & pair-vals g & tt)), tt) (id⊢ 𝓤 _)
-        (and-then ! (value ! refl) (and-then ! (value ! refl) (no-more !)))
-        bool-vals bool-tells (acceptable (x .now) g) (λ r ws. id⊢ 𝓤 _) (λ _. drop ! $
-        lands-in ! refl (tt, tt) $ hands ! refl $ ends ! refl refl $ keep ! (1 ∷ []) $ by ! exits)))
+        asks-one ! fm at-mem run x known g g-is
+        (λ i j. and-then ! (value ! refl) (and-then ! (value ! refl) (no-more !))) $
+        lands-in ! refl (tt, tt) $ hands ! refl $ ends ! refl refl $ keep ! (1 ∷ []) $ by ! exits)
 
 pub unmavreth-acceptable-spec : {M : Type 1} → stated.statement M
 unfolding code.routine tablesOf
@@ -88,7 +75,5 @@ unmavreth-acceptable-spec 𝓤 H 𝓜 𝓖 𝓡 =
     closes 𝓤 H 𝓜 𝓖 𝓡 code.env key.name code.function (code.unfolded 𝓤 H 𝓜 𝓡) f.ended stayed (f.clauses 𝓤 H A (𝓜 .mem) (𝓡 .run))
     (goes-dropped 𝓤 H A W 1 (shrRefTo (0 ∷ []) tt (plain (λ _. R))) yes (λ κs x f. refl), (goes-dropped 𝓤 H A W 1 (plain (λ _. P.the-row)) yes (λ κs x f. refl), tt)) spelled (λ κs. (shr-tells (named 0) (κs .0) R, (LL.tells P.the-type P′.the-laws, tt)))
     (λ κs qs bounds a g are. via 𝓤 _ (fst∗ 𝓤 _ (emp 𝓤)) (walk 𝓤 H A W (𝓜 .mem) (𝓡 .run) κs qs (a .0) (a .1 .0) (are .1 .0) (Ts .C) (Ts .Λ) (fmOf 𝓤 H (W .laws) (tablesOf 𝓤 H 𝓜 Ts))
-    (cited 𝓤 H (Told 𝓤 H A read.ended (read.clauses 𝓤 H A (𝓜 .mem) (𝓡 .run))) 𝓜 𝓡 code.env read-def.name
-    read-def.routine code.calls-lent-policy·rules·policy-of (read-thm.met 𝓤 H 𝓜 𝓖 𝓡))
     (cited 𝓤 H (Told 𝓤 H A ask.ended (ask.clauses 𝓤 H A (𝓜 .mem) (𝓡 .run))) 𝓜 𝓡 code.env ask-def.name
-    ask-def.routine code.calls-policy·rules·accepts (ask-thm.met 𝓤 H 𝓜 𝓖 𝓡))))
+    ask-def.routine code.calls-lent-policy·rules·accepts (ask-thm.met 𝓤 H 𝓜 𝓖 𝓡))))
