@@ -338,6 +338,7 @@ fn of_policies() {
     for length in 0..=140 {
         for bit in 0..=130u8 {
             let mut of = Asking::ipv6(0, 0);
+            of.operator = Operator::from(bit % 3 % 2);
             of.policy.count = u16::from(bit % 20);
             for rule in &mut of.policy.rules {
                 (rule.source_len, rule.destination_len) = (length, 130 - bit);

@@ -16,7 +16,7 @@ use unmavreth::limits::OPERATORS;
 use unmavreth::redirect::{Exchange, Redirect, Redirects};
 use unmavreth::{
     Assessment, CheckResponse, CloneReply, CloneRequest, Draft, IkeRecord, IpsecRecord, Number,
-    Opening, Pair, Policy, Reading, Reply, Request, Written,
+    Opening, Operator, Pair, Policy, Reading, Reply, Request, Written,
 };
 
 /// The names that callgrind is told. With a wrong one nothing is counted, which is an error.
@@ -142,8 +142,12 @@ pub fn counted_ours_assess(sent: &[u8], first: u8, body: &[u8]) -> Assessment {
 
 #[inline(never)]
 #[no_mangle]
-pub fn counted_ours_acceptable(policy: &Policy, pair: &Pair) -> bool {
-    let accepted = unmavreth::acceptable(policy, pair);
+pub fn counted_ours_acceptable(
+    policies: &[Policy; OPERATORS],
+    pair: &Pair,
+    operator: Operator,
+) -> bool {
+    let accepted = unmavreth::acceptable(policies, pair, operator);
     black_box(&accepted);
     accepted
 }

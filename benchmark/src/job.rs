@@ -1,6 +1,6 @@
 // What a row's call is given, on either side.
 use crate::chains::{self, CHECK_COOKIE, COOKIE, NAT_DESTINATION, NAT_SOURCE, NOTIFY};
-use unmavreth::limits::{IKE_SHARE, IPSEC_PLACES, IPSEC_SHARE};
+use unmavreth::limits::{IKE_SHARE, IPSEC_PLACES, IPSEC_SHARE, OPERATORS};
 use unmavreth::redirect::{Exchange, Redirects};
 use unmavreth::trace::Entry;
 use unmavreth::{
@@ -20,10 +20,11 @@ pub enum Job {
     Acceptable(Box<Asking>),
 }
 
-/// A policy, and the pair that it is asked about.
+/// A policy, the pair that it is asked about, and whose it is: A's or B's.
 pub struct Asking {
     pub policy: Policy,
     pub pair: Pair,
+    pub operator: Operator,
 }
 
 /// A REDIRECT, with the client's record that is lent for it.
@@ -209,7 +210,14 @@ impl Asking {
         let [near, far] = [0x40, 0x80];
         let rule = Rule::ipv6((ipv6(near), 127), (ipv6(far), 127));
         let pair = Pair::ipv6((ipv6(near ^ source), 4500), (ipv6(far ^ destination), 4500));
-        Asking { policy: Policy { count: 16, rules: [rule; 16] }, pair }
+        Asking { policy: Policy { count: 16, rules: [rule; 16] }, pair, operator: OPERATOR }
+    }
+
+    /// Both policies, as the library is lent them: the other operator's has no rules.
+    pub fn policies(&self) -> [Policy; OPERATORS] {
+        let mut policies = [Policy::EMPTY; OPERATORS];
+        policies[usize::from(u8::from(self.operator))] = self.policy;
+        policies
     }
 }
 

@@ -2,7 +2,7 @@
 use crate::chains::COOKIE;
 use crate::convert;
 use crate::counted::*;
-use crate::job::{Checking, Cloning, Deciding, Handling, Job, OpeningBoth};
+use crate::job::{Asking, Checking, Cloning, Deciding, Handling, Job, OpeningBoth};
 use crate::told::Told;
 use reference::tables::Tables;
 use std::hint::black_box;
@@ -30,7 +30,7 @@ pub fn told(job: &Job) -> Told {
             written(&told, out)
         }
         Job::Assess { first, body } => assessed(body, &unmavreth::assess(&COOKIE, *first, body)),
-        Job::Acceptable(of) => Told::accepted(unmavreth::acceptable(&of.policy, &of.pair)),
+        Job::Acceptable(of) => accepted(of, false),
     }
 }
 
@@ -51,11 +51,15 @@ pub fn counted(job: &Job) -> Told {
             body,
             &black_box(counted_ours_assess(black_box(&COOKIE), black_box(*first), black_box(body))),
         ),
-        Job::Acceptable(of) => Told::accepted(black_box(counted_ours_acceptable(
-            black_box(&of.policy),
-            black_box(&of.pair),
-        ))),
+        Job::Acceptable(of) => accepted(of, true),
     }
+}
+
+fn accepted(of: &Asking, count: bool) -> Told {
+    let policies = of.policies();
+    let call = if count { counted_ours_acceptable } else { unmavreth::acceptable };
+    let accepted = call(black_box(&policies), black_box(&of.pair), black_box(of.operator));
+    Told::accepted(black_box(accepted))
 }
 
 fn count_write(draft: &Draft) -> Told {

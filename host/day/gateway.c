@@ -53,7 +53,7 @@ uint8_t gateway_set_policy(gateway *g, uint16_t count, const unmavreth_rules *ru
 
 bool gateway_accepts(const gateway *g, unmavreth_pair pair)
 {
-    return unmavreth_acceptable(&g->policies.of[g->operator_id], pair);
+    return unmavreth_acceptable(&g->policies, pair, g->operator_id);
 }
 
 static bool is_filled(const uint8_t *octets, size_t length)

@@ -129,7 +129,7 @@ static void set_policy(void)
 
 static void acceptable(void)
 {
-    number = !unmavreth_acceptable(&gateway.policies.of[OURS], request.pair);
+    number = !unmavreth_acceptable(&gateway.policies, request.pair, OURS);
 }
 
 static void write_redirect(void)

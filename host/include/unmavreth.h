@@ -301,10 +301,10 @@ UNMAVRETH_MUST_USE
 uint8_t unmavreth_set_policy(unmavreth_policies *policies, uint16_t count, const unmavreth_rules *rules,
                              uint8_t operator_id);
 
-// Whether some rule of this policy matches the pair. A rule with a family or a length that is not allowed matches
-// nothing.
+// Whether some rule of the operator's policy matches the pair. A rule with a family or a length that is not allowed
+// matches nothing. An operator above 1 has no rules: no pair is acceptable.
 UNMAVRETH_MUST_USE
-bool unmavreth_acceptable(const unmavreth_policy *policy, unmavreth_pair pair);
+bool unmavreth_acceptable(const unmavreth_policies *policies, unmavreth_pair pair, uint8_t operator_id);
 
 // ------------------------------------------------------------------------------------------------------------ tables
 

@@ -139,12 +139,12 @@ static inline uint8_t unmavreth_gateway_set_policy(unmavreth_gateway *gateway, c
                                 operator_id);
 }
 
-// As unmavreth_acceptable, of the operator's policy; with an operator above 1, which has none, no pair is.
+// As unmavreth_acceptable.
 UNMAVRETH_MUST_USE
 static inline bool unmavreth_gateway_acceptable(const unmavreth_gateway *gateway, unmavreth_pair pair,
                                                 uint8_t operator_id)
 {
-    return operator_id < UNMAVRETH_OPERATORS && unmavreth_acceptable(&gateway->policies.of[operator_id], pair);
+    return unmavreth_acceptable(&gateway->policies, pair, operator_id);
 }
 
 // As unmavreth_handle.

@@ -17,7 +17,7 @@ void drop(unmavreth_gateway *g, const unmavreth_opening *opening, const unmavret
     unmavreth_mark_deletion(&g->ike, 7, 0);
     unmavreth_clone(&g->ike, 7, 8, 0, b.start, b.octets, out, 0, 0);
     unmavreth_set_policy(&g->policies, 0, rules, 0);
-    unmavreth_acceptable(&g->policies.of[0], request->pair);
+    unmavreth_acceptable(&g->policies, request->pair, 0);
     unmavreth_open(&g->ike, g->ipsec, UNMAVRETH_IPSEC_PLACES, *opening);
     unmavreth_open_ipsec(&g->ike, g->ipsec, UNMAVRETH_IPSEC_PLACES, 1, 7, 0);
     unmavreth_close_ike(&g->ike, g->ipsec, UNMAVRETH_IPSEC_PLACES, 7, 0);

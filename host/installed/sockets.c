@@ -77,8 +77,8 @@ static void try_neither(void)
     uint16_t port = 1;
     HOLDS(unmavreth_address_of((const struct sockaddr *)&local, &port).family == 0 && port == 0);
     const unmavreth_pair pair = pair_of(&local, &local);
-    static unmavreth_policy policy;
-    HOLDS(pair.family == 0 && !unmavreth_acceptable(&policy, pair));
+    static unmavreth_policies policies;
+    HOLDS(pair.family == 0 && !unmavreth_acceptable(&policies, pair, UNMAVRETH_OPERATOR_A));
     HOLDS(unmavreth_source_sockaddr(&pair, &back) == 0);
 }
 

@@ -32,7 +32,7 @@ pub enum Call {
         rules: Box<RuleList>,
         operator: u8,
     },
-    /// By the policy of A or of B.
+    /// By the operator's policy.
     Acceptable {
         pair: AddressPair,
         operator: u8,
@@ -118,8 +118,7 @@ impl Call {
                 set(&mut tables.policies, (*count, list), *operator, rules)
             }
             Call::Acceptable { pair, operator } => {
-                let policy = &mut tables.policies[usize::from(*operator)];
-                return u8::from(of_policy.asked(policy, pair));
+                return u8::from(of_policy.asked(&mut tables.policies, pair, *operator));
             }
         };
         result.map_or_else(|refusal| refusal as u8, |()| 0)

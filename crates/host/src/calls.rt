@@ -10,7 +10,7 @@ use lent_ipsec::places::ipsec_at;
 use lent_ipsec::places::ipsec_count;
 use lent_ipsec::places::ipsec_place;
 use lent_ipsec::places::ipsec_store;
-use lent_policy::rules::accepts;
+use lent_policy::rules::accepts_if;
 use lent_policy::rules::policy_store;
 use lent_policy::rules::rules_of;
 use lent_shares::shares::ipsec_count_of;
@@ -29,7 +29,7 @@ use tables::calls::ike_marking;
 use tables::calls::ipsec_closing;
 use tables::calls::ipsec_opening;
 ghost use mathlib.Core.Path.{_≡_};
-ghost use Rattle.policy.specs.Policy.{acceptable, setPolicy};
+ghost use Rattle.policy.specs.Policy.{acceptable, policyOf, setPolicy};
 ghost use Rattle.tables.specs.Calls.{openBoth, openIpsec, closeIke, closeIpsec, markDeletion};
 
 // Opens an IKE record and its first IPsec record, each at the lowest free place of its table, or neither.
@@ -175,10 +175,14 @@ pub extern "C" fn unmavreth_set_policy(
     c.number
 }
 
-// Whether some rule of the policy accepts the pair.
+// Whether some rule of the operator's policy accepts the pair. Whoever is no operator has no rules.
 #[no_mangle]
-pub extern "C" fn unmavreth_acceptable(policy: &Policy, pair: Pair) -> bool
-    ensures { λ r. ⌜ r ≡ acceptable (now (policy .entry)) pair ⌝ }
+pub extern "C" fn unmavreth_acceptable(
+    policies: &[Policy; OPERATORS],
+    pair: Pair,
+    operator: u8,
+) -> bool
+    ensures { λ r. ⌜ r ≡ acceptable (policyOf (now (policies .entry)) operator) pair ⌝ }
 {
-    accepts(policy, pair)
+    accepts_if(policies, operator as usize, true, pair)
 }

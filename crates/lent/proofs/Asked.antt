@@ -8,7 +8,7 @@
 --     counts-ipsecs    both, the table and the list, to `ipsec_count_of`: at the head stands behind what the table's
 --                      reference owns and its token the same of the list's, and while the operands are read three items
 --     counts-beside    the same with a `&[IkeRecord; IKE_PLACES]`, which stays
---     asks-one         a `&Policy` to `accepts`.        asks-policy      a `&[Policy; 2]` to `accepts_if`
+--     asks-policy      a `&[Policy; 2]` to `accepts_if`
 --     stores-policy    a `&mut [Policy; 2]` for good to `policy_store`.        reads-rules      a `&[Rule; 16]` to
 --                      `rules_of`
 -- Assumes `Given`, and that the table of calls is monotone under a frame.
@@ -71,8 +71,6 @@ use Rattle.lent_ipsec.proofs.places.ipsec_store as store
 use Rattle.lent_ipsec.proofs.places.ipsec_store.Symbol as store-def
 use Rattle.lent_policy.proofs.rules.accepts_if as ask
 use Rattle.lent_policy.proofs.rules.accepts_if.Symbol as ask-def
-use Rattle.lent_policy.proofs.rules.accepts as one
-use Rattle.lent_policy.proofs.rules.accepts.Symbol as one-def
 use Rattle.lent_policy.proofs.rules.policy_store as keep
 use Rattle.lent_policy.proofs.rules.policy_store.Symbol as keep-def
 use Rattle.lent_policy.proofs.rules.rules_of as list
@@ -314,23 +312,6 @@ module _ {M : Type 1} {𝓤 : URA M} {H : Heap 𝓤} {A : Atoms 𝓤} {K : Type 
         (λ ws. ws .0 ≡ set (x .now) i (changedBy c pair check (body .now) (getD (x .now) i noIke))) (λ r ws. id⊢ 𝓤 _)
         (λ ws e. fsplit t $ move t (1 ∷ []) $ drop t $ move t (1 ∷ []) $ split t $ move t (1 ∷ []) $ no-token t $
         move t (2 ∷ 1 ∷ []) $ s (ws .0) e)
-
-  pub asks-one : {κ : Lft} {q : Share} (x : RefT Policy)
-      → Triple 𝓤 (C one-def.name) (Told 𝓤 H A one.ended (one.clauses 𝓤 H A at-mem run)) → (pair : Pair)
-      → Is P.the-row pair (LL.vals P.the-type P′.the-laws pair)
-      → ((i j : Item 𝓤) → Opds K W (i ∷ j ∷ Γ) E ops (vptr (x .ptr .0) (x .ptr .1)
-      ∷ only (LL.vals P.the-type P′.the-laws pair) ∷ []))
-      → Step K W (‵ (ShrRef erased κ Kept.R .own x (ptr-vals x)) ∷ ‵ (flft κ q) ∷ Γ)
-      (lands C Λ E d (vbool (acceptable (x .now) pair)) rest p)
-      (‵ (ShrRef erased κ Kept.R .own x (ptr-vals x)) ∷ ‵ (flft κ q) ∷ Γ)
-      (runs C Λ E (seq (call one-def.name ops d) rest) p)
-  asks-one {κ} {q} x known pair pair-is os = step (λ s.
-      copies-ref t tt Kept.R x (P.the-row ∷ []) (LL.makes P.the-type P′.the-plain 𝓤 H A & tt) (pair, tt)
-      (LL.vals P.the-type P′.the-laws pair, tt) (pair-is, tt) $
-      calls-for t fm one.ended (one.clauses 𝓤 H A at-mem run) known
-      (((κ, tt), (q, tt), tt, (x, (pair, tt)), (ptr-vals x, (LL.vals P.the-type P′.the-laws pair, tt))), tt)
-      (id⊢ 𝓤 _) (os _ _) bool-vals bool-tells (acceptable (x .now) pair) (λ r ws. id⊢ 𝓤 _)
-      (λ is. no-token t $ move t (1 ∷ []) $ s))
 
   module _ {κ : Lft} {q : Share} (x : RefT (List Policy)) where
     pub asks-policy : Triple 𝓤 (C ask-def.name) (Told 𝓤 H A ask.ended (ask.clauses 𝓤 H A at-mem run)) → (k : ℕ)

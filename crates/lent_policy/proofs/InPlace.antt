@@ -3,8 +3,7 @@
 -- whose values are tuples, and `Is` of a tuple is `Is` of the rule.
 --     rules-apart      a looked-into policy as the row of its rules, with all that was set aside
 --     rule-out         one rule is taken out of the row.        rule-back        it is put back
---     rules-whole      the policy is whole again.        rules-shut       and its reference is shut, and the token comes
---                      back
+--     rules-whole      the policy is whole again
 -- Assumes `Given`.
 use Rattle.walks.proofs.Kit.{_≡_, refl, subst, ℕ, _+_, _<_, List, [], _∷_, map, length, getD, URA, Val, T, WT, hasTy}
 use Rattle.walks.proofs.Kit.{Lft, Share, flft, fobor, Heap, Atoms, Goal, Soaks, Given, Item, ‵, raw, _⊛_, Seq, Step}
@@ -12,7 +11,6 @@ use Rattle.walks.proofs.Kit.{step, _$_, move, drop, use1, split, join, rewrite,
 use Rattle.walks.proofs.Kit.{Is, shows, mem, shares, partAt, Array, row, elem-out, elem-back, arr-parts}
 use lib.ListN.{List·getD-map}
 use types.Kit.{fpack}
-use types.Tokens.{obor-close}
 use base.Fml.{fsep}
 use denote.ArrayMemory.{array-apart, array-whole}
 use denote.Builtin.{u16}
@@ -125,10 +123,3 @@ module _ {M : Type 1} {𝓤 : URA M} {H : Heap 𝓤} {A : Atoms 𝓤} {K : Type 
 
     pub rule-back : Step K W (‵ (row E q (elems p) b (behind-count o)) ∷ Γ) G (Taken q p b o i Γ) G
     rule-back = elem-back t E q (elems p) i none (rule-vals (rule-at p i)) b (behind-count o) inside
-
-module _ {M : Type 1} {𝓤 : URA M} {H : Heap 𝓤} {A : Atoms 𝓤} {K : Type 0} {W : Given 𝓤 H A} {Γ : List (Item 𝓤)}
-    {G : Goal 𝓤 H} (t : K) (q : Share) (p : Policy) (b o : ℕ) where
-  pub rules-shut : Soaks G → {κ : Lft} {s : Share} → length (elems p) ≡ rulesMost
-      → Step K W (‵ (flft κ s) ∷ Γ) G
-      (‵ (row E q (elems p) b (behind-count o)) ∷ Aside 𝓤 H A q p b o ∷ ‵ (fobor κ s (partAt R q p b o)) ∷ Γ) G
-  rules-shut z long = step (λ s. rules-whole t q p b o long $ move t (1 ∷ []) $ obor-close t z $ drop t $ s)

@@ -26,25 +26,6 @@ pub fn rules_of(rules: &[Rule; RULES_MOST]) -> [Rule; RULES_MOST]
     *rules
 }
 
-// Whether some rule of the policy accepts the pair. The policy is read where it is lent.
-pub fn accepts(policy: &Policy, pair: Pair) -> bool
-    ensures { λ r. ⌜ r ≡ acceptable (now (policy .entry)) pair ⌝ }
-{
-    let count = policy.count as usize;
-    let mut i = 0;
-    while i < RULES_MOST {
-        if count <= i {
-            return false;
-        }
-        let rule = policy.rules[i];
-        if rule_matches(rule, pair) {
-            return true;
-        }
-        i += 1;
-    }
-    false
-}
-
 // Whether it is asked, and some rule of the policy at the place accepts the pair; past the end none does. Both policies
 // are lent, and the one is read where it lies.
 pub fn accepts_if(policies: &[Policy; OPERATORS], place: usize, asked: bool, pair: Pair) -> bool

@@ -63,12 +63,10 @@ impl Gateway {
         crate::set_policy(&mut self.policies, count, &places, operator)
     }
 
-    /// As [`acceptable`](crate::acceptable), by the operator's policy; one that is neither has none, and
-    /// accepts nothing.
+    /// As [`acceptable`](crate::acceptable).
     #[must_use]
     pub fn acceptable(&self, pair: &Pair, operator: Operator) -> bool {
-        let policy = self.policies.get(usize::from(u8::from(operator)));
-        policy.is_some_and(|policy| crate::acceptable(policy, pair))
+        crate::acceptable(&self.policies, pair, operator)
     }
 
     /// As [`handle`](crate::handle).

@@ -22,10 +22,11 @@ pub fn set_policy(
     unsafe { raw::unmavreth_set_policy(policies, count, rules, operator) }.into()
 }
 
-/// Whether some rule of this policy accepts the pair.
+/// Whether some rule of the operator's policy, of both that are lent, accepts the pair. An operator that is
+/// neither has no rules: no pair is acceptable.
 #[must_use]
 #[inline]
-pub fn acceptable(policy: &Policy, pair: &Pair) -> bool {
-    // SAFETY: the policy is lent for the call; the pair goes by value, and any may be given.
-    unsafe { raw::unmavreth_acceptable(policy, *pair) != 0 }
+pub fn acceptable(policies: &[Policy; OPERATORS], pair: &Pair, operator: Operator) -> bool {
+    // SAFETY: the policies are lent for the call; the pair and the operator go by value, and any may be given.
+    unsafe { raw::unmavreth_acceptable(policies, *pair, operator) != 0 }
 }

@@ -128,7 +128,11 @@ extern "C" {
     ) -> u8;
 
     /// A `bool` in C, taken as the octet that it is.
-    pub(crate) fn unmavreth_acceptable(policy: *const Policy, pair: Pair) -> u8;
+    pub(crate) fn unmavreth_acceptable(
+        policies: *const [Policy; OPERATORS],
+        pair: Pair,
+        operator: Operator,
+    ) -> u8;
 
     pub(crate) fn unmavreth_handle(
         ike: *mut [IkeRecord; IKE_PLACES],

@@ -4,8 +4,8 @@ mod common;
 use common::*;
 use unmavreth::{
     acceptable, addresses, no_nats, write, Address, Agreed, Ask, Draft, Effect, Flag, Gateway,
-    IkeRecord, IpsecRecord, Number, Opening, Outcome, Pair, PendingCheck, Policy, Request, Rule,
-    Seen,
+    IkeRecord, IpsecRecord, Number, Opening, Operator, Outcome, Pair, PendingCheck, Policy,
+    Request, Rule, Seen,
 };
 
 /// Octets that are all different.
@@ -75,13 +75,24 @@ fn each_of_sixteen_addresses_is_written() {
     assert_eq!(written(&draft), chain(&listed).1);
 }
 
-/// Only rule `place` of a policy matters, its prefixes taken whole.
+/// Only rule `place` of a policy matters, its prefixes taken whole; the same for either operator.
 fn accepts_at(place: usize, rule: Rule, pair: &Pair) -> bool {
     let mut policy = Policy { count: place as u16 + 1, ..Policy::EMPTY };
     policy.rules[place] = rule;
-    let accepted = acceptable(&policy, pair);
+    let accepted = accepts(policy, pair);
     policy.count -= 1;
-    assert!(!acceptable(&policy, pair), "a rule past the count");
+    assert!(!accepts(policy, pair), "a rule past the count");
+    accepted
+}
+
+/// The policy as A's and as B's; the other and one that is neither have no rules.
+fn accepts(policy: Policy, pair: &Pair) -> bool {
+    let of_a = [policy, Policy::EMPTY];
+    let of_b = [Policy::EMPTY, policy];
+    let accepted = acceptable(&of_a, pair, A);
+    assert_eq!(acceptable(&of_b, pair, B), accepted);
+    assert!(!acceptable(&of_a, pair, B) && !acceptable(&of_b, pair, A));
+    assert!(!acceptable(&[policy; 2], pair, Operator::from(2)));
     accepted
 }
 

@@ -53,6 +53,18 @@ pub const FAULTS: &[Row<dyn PolicyRules>] = &[
         &AskedCountCut,
     ),
     (
+        Kind::Tables,
+        "asked-of-other",
+        "Whether a pair is acceptable is asked of the other operator's policy.",
+        &AskedFor(|operator| if operator > 1 { operator } else { other(operator) }),
+    ),
+    (
+        Kind::Tables,
+        "asked-by-neither",
+        "Whether a pair is acceptable to an operator that there isn't goes by its lowest bit.",
+        &AskedFor(|operator| operator & 1),
+    ),
+    (
         Kind::Requests,
         "policy-of-other",
         "An update is judged by the other operator's policy.",
@@ -185,9 +197,18 @@ impl PolicyRules for HalvesAddUp {
 
 struct AskedCountCut;
 impl PolicyRules for AskedCountCut {
-    fn asked(&self, policy: &mut Policy, pair: &AddressPair) -> bool {
-        policy.count = policy.count.min(RULE_PLACES as u16);
-        Plain.accepts(policy, pair)
+    fn asked(&self, lent: &mut [Policy; OPERATORS], pair: &AddressPair, operator: u8) -> bool {
+        if let Some(policy) = lent.get_mut(usize::from(operator)) {
+            policy.count = policy.count.min(RULE_PLACES as u16);
+        }
+        Plain.asked(lent, pair, operator)
+    }
+}
+
+struct AskedFor(fn(u8) -> u8);
+impl PolicyRules for AskedFor {
+    fn asked(&self, lent: &mut [Policy; OPERATORS], pair: &AddressPair, operator: u8) -> bool {
+        Plain.asked(lent, pair, self.0(operator))
     }
 }
 

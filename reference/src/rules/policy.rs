@@ -41,9 +41,10 @@ pub trait PolicyRules {
         rules.any(|rule| self.matches_pair(rule, pair))
     }
 
-    /// The same of a policy that is lent to be asked; only "Setting replaces the whole list".
-    fn asked(&self, policy: &mut Policy, pair: &AddressPair) -> bool {
-        self.accepts(policy, pair)
+    /// The same of the operator's of the policies that are lent to be asked; only "Setting replaces the whole list".
+    /// An octet that is neither's has no rules, by decision.
+    fn asked(&self, lent: &mut [Policy; OPERATORS], pair: &AddressPair, operator: u8) -> bool {
+        lent.get(usize::from(operator)).is_some_and(|policy| self.accepts(policy, pair))
     }
 
     /// E9: "Policies .. are per operator": the one that an update of this operator's records is judged by.

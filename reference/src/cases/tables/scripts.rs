@@ -70,8 +70,8 @@ fn call(rng: &mut Rng, tables: &Tables) -> Call {
             Call::SetPolicy { count, rules: Box::new(rules), operator: operators::drawn(rng, None) }
         }
         Making::Acceptable => {
-            let operator = operators::one(rng);
-            let policy = &tables.policies[usize::from(operator)];
+            let operator = operators::drawn(rng, None);
+            let policy = &tables.policies[usize::from(operator & 1)];
             Call::Acceptable { pair: rules::pair_near(rng, policy), operator }
         }
     }

@@ -68,8 +68,12 @@ extern "C" {
         rules: *const RuleList,
         operator: u8,
     ) -> u8;
-    /// Of one policy; given back as an octet, so that any value may be looked at.
-    fn unmavreth_acceptable(policy: *const Policy, pair: AddressPair) -> u8;
+    /// Given back as an octet, so that any value may be looked at.
+    fn unmavreth_acceptable(
+        policies: *const [Policy; OPERATORS],
+        pair: AddressPair,
+        operator: u8,
+    ) -> u8;
 }
 
 /// Makes the call on the tables by the library; what it gives back is as for `Call::make`, with
@@ -136,10 +140,8 @@ fn make_on(call: &Call, lent: &mut LentTables, rules: *const RuleList) -> u8 {
             unsafe { unmavreth_set_policy(policies, count, rules, operator) }
         }
         Call::Acceptable { pair, operator } => {
-            let place = usize::from(operator);
-            assert!(place < OPERATORS, "A's policy or B's");
-            // SAFETY: as above; the start of a policy is that of one of the two.
-            unsafe { unmavreth_acceptable(policies.cast::<Policy>().add(place), pair) }
+            // SAFETY: as above.
+            unsafe { unmavreth_acceptable(policies, pair, operator) }
         }
     }
 }

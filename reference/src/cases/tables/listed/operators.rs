@@ -39,6 +39,10 @@ fn add(spi: u32, owner: u64, operator: u8) -> Call {
     Call::OpenIpsec(Adding { spi, owner, operator })
 }
 
+fn asking(operator: u8) -> Call {
+    Call::Acceptable { pair: ipv4_pair(), operator }
+}
+
 /// Every call that means the record of a place, or opens another.
 fn each_call(place: usize, operator: u8) -> Vec<Call> {
     let (spi, ipsec) = (spis::ike(place), spis::ipsec(place));
@@ -71,6 +75,8 @@ fn octets() -> Vec<Case> {
         let closed = [0, 1].map(|operator| Call::CloseIke { spi: spis::ike(9), operator });
         let own = Call::CloseIpsec { spi: spis::ipsec(9), operator: octet };
         cases.push(Case { tables: with(octet), calls: [&[own], &closed[..]].concat() });
+        let set = [0, 1].map(|operator| setting(1, any_ipv4(), operator));
+        cases.push(Case { tables: Tables::empty(), calls: [&set[..], &[asking(octet)]].concat() });
     }
     for its in OCTETS {
         for operator in OCTETS {
@@ -431,9 +437,18 @@ fn reached_shares() -> Vec<Case> {
     cases
 }
 
-/// Policies set for each operator and for none, sound or flawed, with any count; then both are asked.
+/// Rules that match every IPv4 pair.
+fn any_ipv4() -> RuleList {
+    RuleList { rules: [Rule { family: 4, ..Rule::ZERO }; RULE_PLACES] }
+}
+
+fn setting(count: u16, list: RuleList, operator: u8) -> Call {
+    Call::SetPolicy { count, rules: Box::new(list), operator }
+}
+
+/// Policies set for each operator and for none, sound or flawed, with any count; then both are asked, and for none.
 fn policies() -> Vec<Case> {
-    let sound = RuleList { rules: [Rule { family: 4, ..Rule::ZERO }; RULE_PLACES] };
+    let sound = any_ipv4();
     let (mut unsound, mut long) = (sound, sound);
     unsound.rules[0].family = 5;
     long.rules[0].source_length = 33;
@@ -441,10 +456,10 @@ fn policies() -> Vec<Case> {
     for operator in [0, 1, 2, 3, 128, 255] {
         for list in [sound, unsound, long] {
             for count in [0, 1, 16, 17, 65535] {
-                let setting = Call::SetPolicy { count, rules: Box::new(list), operator };
-                let asked = [0, 1].map(|operator| Call::Acceptable { pair: ipv4_pair(), operator });
+                let set = setting(count, list, operator);
+                let asked = OCTETS.map(asking);
                 for tables in [Tables::empty(), contents::full()] {
-                    let calls = [setting.clone()].into_iter().chain(asked.clone()).collect();
+                    let calls = [set.clone()].into_iter().chain(asked.clone()).collect();
                     cases.push(Case { tables, calls });
                 }
             }
