@@ -2,9 +2,9 @@
 --     counts, finds-ipsec, reads-ipsec, stores-ipsec      a `&mut [IpsecRecord]` to `ipsec_count`, to `ipsec_place`, to
 --                      `ipsec_at`, and for good to `ipsec_store`.        counts-read      a `&[IpsecRecord]` for good to
 --                      `ipsec_count`
---     finds-ike, counts-ikes, counts-peers, asks-owner, reads-ike, stores-ike       a `&mut [IkeRecord; IKE_PLACES]` to
---                      `ike_place`, to `ike_count`, to `ike_peers`, to `ike_owns`, to `ike_at`, and for good to
---                      `ike_store`.        changes-ike      the same to `ike_change`, beside a `&[u8]`
+--     finds-ike, counts-ikes, counts-peers, reads-ike, stores-ike       a `&mut [IkeRecord; IKE_PLACES]` to `ike_place`,
+--                      to `ike_count`, to `ike_peers`, to `ike_at`, and for good to `ike_store`.        changes-ike
+--                      the same to `ike_change`, beside a `&[u8]`
 --     counts-ipsecs    both, the table and the list, to `ipsec_count_of`: at the head stands behind what the table's
 --                      reference owns and its token the same of the list's, and while the operands are read three items
 --     counts-beside    the same with a `&[IkeRecord; IKE_PLACES]`, which stays
@@ -42,7 +42,7 @@ use Rattle.replying.specs.Change.{changedBy}
 use Rattle.replying.specs.declared.reply.CoreAnswer.{CoreAnswer}
 use Rattle.replying.proofs.reply.CoreAnswer as D
 use Rattle.replying.proofs.reply.CoreAnswer.Laws as D′
-use Rattle.tables.specs.Calls.{owns, ipsecsOf}
+use Rattle.tables.specs.Calls.{ipsecsOf}
 use Rattle.walks.proofs.Calls.{_&_, Told, token, no-token, list-last, ref-last, gives, calls-for, calls-to}
 use Rattle.walks.proofs.Loans.{renamed, lent-list, list-over, lent-array, lent-ref, ref-over, copies-ref}
 use Rattle.lent_ike.proofs.IkeTable as Ike
@@ -75,8 +75,6 @@ use Rattle.lent_policy.proofs.rules.policy_store as keep
 use Rattle.lent_policy.proofs.rules.policy_store.Symbol as keep-def
 use Rattle.lent_policy.proofs.rules.rules_of as list
 use Rattle.lent_policy.proofs.rules.rules_of.Symbol as list-def
-use Rattle.lent_shares.proofs.shares.ike_owns as own
-use Rattle.lent_shares.proofs.shares.ike_owns.Symbol as own-def
 use Rattle.lent_shares.proofs.shares.ipsec_count_of as ipsecs
 use Rattle.lent_shares.proofs.shares.ipsec_count_of.Symbol as ipsecs-def
 
@@ -173,29 +171,6 @@ module _ {M : Type 1} {𝓤 : URA M} {H : Heap 𝓤} {A : Atoms 𝓤} {K : Type 
         )
         (id⊢ 𝓤 _) (os _ _) (uint-vals w64) (uint-tells w64) (howMany (ofPeer op k) (x .now)) (λ r ws. id⊢ 𝓤 _)
         (λ is. ref-over t tt Ike.Q x $ s (is .1)))
-
-    pub asks-owner : Triple 𝓤 (C own-def.name) (Told 𝓤 H A own.ended (own.clauses 𝓤 H A at-mem run)) → (op k : ℕ)
-        → op < 2 ^ 8 → k < 2 ^ 64
-        → ((i j : Item 𝓤) → Opds K W (i ∷ j ∷ Γ) E ops (only (ptr-vals x) ∷ vint w8 op ∷ vint w64 k ∷ []))
-        → Step K W (‵ (MutRef erased κ Ike.Q .own x (ptr-vals x)) ∷ ‵ (flft κ q) ∷ Γ)
-        (lands C Λ E d (vbool (owns op k (x .now))) rest p)
-        (‵ (MutRef erased κ Ike.Q .own x (ptr-vals x)) ∷ ‵ (flft κ q) ∷ Γ)
-        (runs C Λ E (seq (call own-def.name ops d) rest) p)
-    asks-owner known op k op-fits k-fits os = step (λ s.
-        lent-ref t tt Ike.Q x (u8 ∷ u64 ∷ []) (uint-makes 𝓤 H A W w8 & uint-makes 𝓤 H A W w64 & tt) (op & k & tt)
-        (uint-vals w8 op & uint-vals w64 k & tt) ((refl, op-fits) & (refl, k-fits) & tt)
-        (λ ν δ. calls-for t fm own.ended (own.clauses 𝓤 H A at-mem run) known (
-          (
-            (ν ∷ [], tt),
-            (fullShare, tt),
-            tt,
-            (renamed δ x & op & k & tt),
-            (ptr-vals x & uint-vals w8 op & uint-vals w64 k & tt),
-          ),
-          tt,
-        )
-        (id⊢ 𝓤 _) (os _ _) bool-vals bool-tells (owns op k (x .now)) (λ r ws. id⊢ 𝓤 _)
-        (λ _. ref-over t tt Ike.Q x $ s)))
 
     -- each is lent for a lifetime of its own, and both come back
     pub counts-ipsecs : Triple 𝓤 (C ipsecs-def.name) (Told 𝓤 H A ipsecs.ended (ipsecs.clauses 𝓤 H A at-mem run))
