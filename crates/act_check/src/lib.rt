@@ -1,4 +1,6 @@
 // The entry of a response to a return routability check.
+#![tactic(auto)]
+
 ghost use Rattle.acts.specs.Performed.{Performs, checked_by};
 
 use calling::response_in;

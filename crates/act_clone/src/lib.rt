@@ -1,4 +1,6 @@
 // The entry of a clone request.
+#![tactic(auto)]
+
 ghost use Rattle.std.specs.Prelude.{length};
 ghost use Rattle.acts.specs.Performed.{Performs, cloned_by};
 

@@ -1,4 +1,6 @@
 // The entry that sets an operator's policy.
+#![tactic(auto)]
+
 ghost use Rattle.acts.specs.Performed.{Performs, policy_set_by};
 
 use given::outcome::{Outcome, numbered};

@@ -1,4 +1,6 @@
 // A record that is shown, once a trace is at its end.
+#![tactic(auto)]
+
 ghost use Rattle.acts.specs.Performed.{Performs, ike_shown_by, ipsec_shown_by};
 
 use calling::place_in;

@@ -1,5 +1,7 @@
 // The entries that open and close records and mark one: each is passed on to the call that a host links, with its
 // operator.
+#![tactic(auto)]
+
 ghost use Rattle.acts.specs.Performed.{Performs, opened_by, added_by, closed_by, child_closed_by, marked_by};
 
 use calling::{adder_in, child_in, closer_in, opening_in, owner_in, spi_in};

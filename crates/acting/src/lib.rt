@@ -1,4 +1,6 @@
 // Whatever an entry stands for, by the number of its kind.
+#![tactic(auto)]
+
 ghost use Rattle.std.specs.Prelude.{length};
 ghost use Rattle.acts.specs.Performed.{Performs, performed};
 

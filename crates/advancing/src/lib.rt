@@ -1,5 +1,7 @@
 // What a turn of the replay does with standard input and output: reads behind what the window holds, and prints its
 // line. No contract can say what is read or written: it is some octets, and how many is known.
+#![tactic(auto)]
+
 ghost use Rattle.std.specs.Prelude.{◌≡◌, ◌≤◌, length};
 ghost use Rattle.replaying.specs.Turns.{after};
 ghost use Rattle.replaying.specs.Held.{Reads, Advances};

@@ -1,4 +1,6 @@
 // What the slots of an entry give to its call, a call's arguments each.
+#![tactic(auto)]
+
 ghost use Rattle.std.specs.Prelude.{◌≡◌};
 ghost use Rattle.calling.specs.Calling.{pair_in, opening_in, spi_in, child_in, owner_in, request_in, response_in};
 ghost use Rattle.calling.specs.Calling.{clone_in, closer_in, adder_in};

@@ -1,4 +1,6 @@
 // A clone request by what was looked up for it: checked, read, answered. The table around it is `lent`'s.
+#![tactic(auto)]
+
 ghost use Rattle.core.specs.Prelude.{◌≡◌, ◌≤◌, length};
 ghost use Rattle.octets.specs.Limits.{response_room};
 ghost use Rattle.writing.specs.Notify.{placed};

@@ -1,4 +1,6 @@
 // The number of a clone request: its checks before the chain is read, then those by the chain and behind it.
+#![tactic(auto)]
+
 ghost use Rattle.std.specs.Prelude.{◌≡◌, ltb};
 ghost use Rattle.octets.specs.Checks.{first_failed};
 ghost use Rattle.octets.specs.Limits.{ike_places};

@@ -1,4 +1,6 @@
 // What closing comes to, given what was looked up, of an IKE record or an IPsec record; and the mark for being deleted.
+#![tactic(auto)]
+
 ghost use Rattle.std.specs.Prelude.{◌≡◌};
 ghost use Rattle.octets.specs.Numbers.{number_of};
 ghost use Rattle.tables.specs.Changes.{is_own_child, bad_closing, bad_marking, closing_number};

@@ -1,2 +1,4 @@
 // The decision on one record, by its marks.
+#![tactic(auto)]
+
 pub mod decide;

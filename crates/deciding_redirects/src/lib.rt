@@ -1,5 +1,7 @@
 // The decision on a REDIRECT: by its data, the exchange that it came in, the nonce sent, the time, and the times of
 // those accepted before.
+#![tactic(auto)]
+
 ghost use Rattle.std.specs.Prelude.{◌≡◌};
 ghost use Rattle.octets.specs.Checks.{first_failed};
 ghost use Rattle.initiator.specs.Response.{same};

@@ -1,4 +1,6 @@
 // What a replay starts with: empty tables, policies with no rule, and buffers.
+#![tactic(auto)]
+
 ghost use Rattle.std.specs.Prelude.{◌≡◌, ◌≤◌, length, replicate};
 ghost use Rattle.octets.specs.Limits.{ike_places, ipsec_places, operators};
 ghost use Rattle.policy.specs.Policy.{no_policy};

@@ -1,4 +1,6 @@
 // Entries of a trace: their kinds, and what reading and writing one come to.
+#![tactic(auto)]
+
 pub mod kind;
 pub mod step;
 pub mod written;

@@ -1,1 +1,2 @@
 // Laws of entries: both round trips, and how much of a trace decides one. Definitions and proofs and no code.
+#![tactic(auto)]

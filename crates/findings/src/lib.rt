@@ -1,3 +1,5 @@
 // What a chain's payloads say, gathered one by one.
+#![tactic(auto)]
+
 pub mod seen;
 pub mod state;

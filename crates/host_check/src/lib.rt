@@ -1,4 +1,6 @@
 // The call that takes the response to a return routability check of ours, on lent tables (RFC 4555, 3.7).
+#![tactic(auto)]
+
 ghost use Rattle.routability.specs.Routability.{check_response, CheckedAs};
 
 use initiator::response::Assessment;

@@ -1,4 +1,6 @@
 // The call that clones an IKE SA at its peer's request, on the lent IKE table (RFC 7791).
+#![tactic(auto)]
+
 ghost use Rattle.std.specs.Prelude.{length};
 ghost use Rattle.cloning.specs.Clone.{clone_request, ClonedAs};
 

@@ -1,5 +1,7 @@
 // The calls that open and close an IKE record, with the IPsec records that it owns, and mark one. The tables are lent:
 // each call looks up, decides on what was found, and stores; a refusal changes nothing.
+#![tactic(auto)]
+
 ghost use Rattle.std.specs.Prelude.{◌≡◌};
 ghost use Rattle.tables.specs.Calls.{open_both, close_ike, mark_deletion};
 

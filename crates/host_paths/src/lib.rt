@@ -1,5 +1,7 @@
 // The calls on paths that a host links: samples of round trips, losses, and which path is quickest now. The state is
 // the host's, lent as a column for each thing that is kept of eight paths (`paths/specs/Columns.antt`).
+#![tactic(auto)]
+
 ghost use Rattle.std.specs.Prelude.{◌≡◌, List, ℕ, Float};
 ghost use Rattle.paths.specs.Calls.{answer};
 ghost use Rattle.paths.specs.Choice.{choice};

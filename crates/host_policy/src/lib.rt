@@ -1,4 +1,6 @@
 // The calls that set an operator's policy and ask it. The policies are lent; a refusal changes nothing.
+#![tactic(auto)]
+
 ghost use Rattle.std.specs.Prelude.{◌≡◌};
 ghost use Rattle.policy.specs.Policy.{acceptable, policy_of, set_policy};
 

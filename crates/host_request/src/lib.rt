@@ -1,6 +1,8 @@
 // The call that handles a request, on lent tables: what it goes by is looked up, the request received by that, the
 // operator's lent policy asked where its word counts, and the request handled; what changes in the record is stored. What the record
 // owns follows only after the check that is kept then: see `unmavreth_check`.
+#![tactic(auto)]
+
 ghost use Rattle.std.specs.Prelude.{length};
 ghost use Rattle.records.specs.Pending.{check_of};
 ghost use Rattle.answering.specs.Core.{asked};

@@ -1,5 +1,7 @@
 // Numbers of a trace: groups of seven bits, lowest group first, the top bit set on all but the last, in the shortest
 // form and up to 64 bits.
+#![tactic(auto)]
+
 ghost use Rattle.std.specs.Prelude.{◌≡◌, ◌+◌, ◌≤◌, length, drop};
 ghost use Rattle.writing.specs.Notify.{placed};
 ghost use Rattle.leb128.specs.Leb128.{decoded_at, octets_of};

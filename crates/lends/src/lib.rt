@@ -1,1 +1,2 @@
 // Steps of walks whose locals are lent for a call; no code.
+#![tactic(auto)]

@@ -1,2 +1,4 @@
 // The lent policies and rules.
+#![tactic(auto)]
+
 pub mod rules;

@@ -1,4 +1,6 @@
 // What the window says of the next turn.
+#![tactic(auto)]
+
 ghost use Rattle.std.specs.Prelude.{◌≡◌, ◌≤◌, length};
 ghost use Rattle.replaying.specs.Turns.{looked, turning, show_ike, no_slots, slots_for};
 ghost use Rattle.replaying.specs.Standing.{Standing};

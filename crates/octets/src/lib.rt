@@ -1,4 +1,6 @@
 // Octets and big-endian numbers: what every layer above reads and writes with.
+#![tactic(auto)]
+
 pub mod flag;
 pub mod limits;
 pub mod number;

@@ -1,4 +1,6 @@
 // What opening comes to, given what was looked up: an IKE record with its first IPsec record, or another IPsec record.
+#![tactic(auto)]
+
 ghost use Rattle.std.specs.Prelude.{◌≡◌};
 ghost use Rattle.octets.specs.Numbers.{number_of};
 ghost use Rattle.tables.specs.Opening.{ike_of, child_of};

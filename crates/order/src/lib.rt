@@ -1,1 +1,2 @@
 // Lists of requests in another order: definitions and theorems, no code.
+#![tactic(auto)]

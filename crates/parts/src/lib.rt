@@ -1,4 +1,6 @@
 // A thin payload reader: the lent body and an offset in it; what stands there comes back as a part of the body.
+#![tactic(auto)]
+
 ghost use Rattle.std.specs.Prelude.{◌≡◌};
 ghost use Rattle.octets.specs.Limits.{nat_octets};
 ghost use Rattle.values.specs.Values.{PartOf};

@@ -1,2 +1,4 @@
 // The payload chain of a decrypted message: any first type and any octets are read to an end.
+#![tactic(auto)]
+
 pub mod read;

@@ -1,4 +1,6 @@
 // One entry, read at an offset of a lent buffer. Its values go to lent slots, in the order of its fields.
+#![tactic(auto)]
+
 ghost use Rattle.std.specs.Prelude.{◌≡◌, ◌≤◌, length};
 ghost use Rattle.writing.specs.Notify.{placed};
 ghost use Rattle.fields.specs.Reading.{slots_of};

@@ -1,4 +1,6 @@
 // One field, read at an offset of a lent buffer. What is read goes to lent slots, from `slot` on.
+#![tactic(auto)]
+
 pub mod filling;
 
 ghost use Rattle.std.specs.Prelude.{◌≡◌, ◌+◌, ◌≤◌, length};

@@ -1,4 +1,6 @@
 // The fields of a kind of entry, read at an offset of a lent buffer. What is read goes to lent slots.
+#![tactic(auto)]
+
 pub mod tables;
 
 ghost use Rattle.std.specs.Prelude.{◌≤◌, length};

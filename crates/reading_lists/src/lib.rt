@@ -1,4 +1,6 @@
 // A list of what a table says, read at an offset of a lent buffer. What is read goes to lent slots, from `slot` on.
+#![tactic(auto)]
+
 ghost use Rattle.std.specs.Prelude.{◌≡◌, ◌+◌, ◌≤◌, length};
 ghost use Rattle.fields.specs.Fields.{list_of, ◌then◌};
 ghost use Rattle.fields.specs.Slots.{width};

@@ -1,4 +1,6 @@
 // The data of each redirect notification read: what is told of it, and the identity and the nonce as parts of it.
+#![tactic(auto)]
+
 ghost use Rattle.std.specs.Prelude.{◌≡◌, not, ◌||◌, [], ◌∷◌};
 ghost use Rattle.octets.specs.declared.number.Number.TheVariants.{BadRedirect};
 ghost use Rattle.octets.specs.Checks.{◌gives◌, first_failed};

@@ -1,4 +1,6 @@
 // A table of fields, read at an offset of a lent buffer. What is read goes to lent slots, from `slot` on.
+#![tactic(auto)]
+
 ghost use Rattle.std.specs.Prelude.{◌+◌, ◌≤◌, length};
 ghost use Rattle.fields.specs.Slots.{width};
 ghost use Rattle.fields.specs.Codes.{run_from, table_of, ReadsTo};

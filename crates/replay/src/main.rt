@@ -1,5 +1,7 @@
 // Replays a trace from standard input, however long it is: makes each entry's call on tables and policies that are
 // empty at first, and prints a line for each; at the end each record's pair, or where the trace is refused.
+#![tactic(auto)]
+
 use acting::perform;
 use advancing::{advance, report};
 use empty::{no_ikes, no_ipsecs, no_policies, no_response, no_window};

@@ -1,2 +1,4 @@
 // The response payloads.
+#![tactic(auto)]
+
 pub mod respond;

@@ -1,1 +1,2 @@
 // The rows of the requirements, with definitions and proofs and no code.
+#![tactic(auto)]

@@ -12,6 +12,8 @@
 //     payload ORDINAL at offset OFFSET: WHAT IS WRONG (NUMBER)
 // Instead of the last line: "read whole: COUNT payloads (0)"; "behind COUNT payloads at offset OFFSET: .. (65)";
 // "the body has COUNT octets, at most 4096 are allowed (3)".
+#![tactic(auto)]
+
 mod answer;
 mod fields;
 mod given;

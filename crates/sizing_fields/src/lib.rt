@@ -1,5 +1,7 @@
 // What a field leaves of the room of an output, before anything is written: a value that does not fit its
 // field is told before an output that is too short.
+#![tactic(auto)]
+
 ghost use Rattle.std.specs.Prelude.{◌≡◌, ◌+◌, ◌≤◌, leb, length, drop};
 ghost use Rattle.fields.specs.Fields.{up_to, address, string};
 ghost use Rattle.fields.specs.Slots.{width};

@@ -1,4 +1,6 @@
 // What the fields of a kind of entry leave of the room of an output.
+#![tactic(auto)]
+
 ghost use Rattle.std.specs.Prelude.{◌≡◌, ◌≤◌, length};
 ghost use Rattle.fields.specs.Writing.{room_in};
 ghost use Rattle.entries.specs.Kinds.{fields_of};

@@ -1,5 +1,7 @@
 // What a table of fields leaves of the room of an output, before anything is written: a value that does not fit its
 // field is told before an output that is too short.
+#![tactic(auto)]
+
 ghost use Rattle.std.specs.Prelude.{◌≡◌, ◌+◌, ◌≤◌, length, drop};
 ghost use Rattle.fields.specs.Fields.{list_of, ◌then◌};
 ghost use Rattle.fields.specs.Slots.{width};

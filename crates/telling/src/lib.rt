@@ -1,4 +1,6 @@
 // What a turn of a replay prints.
+#![tactic(auto)]
+
 ghost use Rattle.std.specs.Prelude.{◌≡◌, ◌≤◌, length};
 ghost use Rattle.writing.specs.Notify.{placed};
 ghost use Rattle.printing.specs.Lines.{line_room};

@@ -1,1 +1,2 @@
 // Whole traces: what reading one comes to, and both round trips. Definitions and proofs and no code.
+#![tactic(auto)]

@@ -1,4 +1,6 @@
 // Where a replay stands after a turn.
+#![tactic(auto)]
+
 ghost use Rattle.std.specs.Prelude.{◌≡◌, ◌≤◌};
 ghost use Rattle.replaying.specs.Turns.{place_after, to_show, after, after_call, after_show};
 ghost use Rattle.replaying.specs.Standing.{Standing};

@@ -1,4 +1,6 @@
 // The values that a reading hands out: parts of the lent body, and the addresses in it.
+#![tactic(auto)]
+
 ghost use Rattle.std.specs.Prelude.{◌≡◌, ◌+◌, ◌≤◌, min, length};
 ghost use Rattle.octets.specs.Limits.{addresses_most, port_size};
 ghost use Rattle.values.specs.Values.{part_of, PartOf, address_at, additional_of, addresses_in};

@@ -1,2 +1,4 @@
 // The verdict on an update that is not stale.
+#![tactic(auto)]
+
 pub mod update;

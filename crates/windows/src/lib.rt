@@ -1,5 +1,7 @@
 // Entries of a trace that comes in pieces, read through a window: a buffer with the octets that were read and not yet
 // used.
+#![tactic(auto)]
+
 ghost use Rattle.std.specs.Prelude.{◌≡◌, ◌≤◌, length};
 ghost use Rattle.writing.specs.Notify.{placed};
 ghost use Rattle.fields.specs.Reading.{slots_of};

@@ -1,4 +1,6 @@
 // Writing payloads: octets copied into a buffer from an offset on, and a Notify payload laid out there.
+#![tactic(auto)]
+
 ghost use Rattle.std.specs.Prelude.{◌≡◌, ◌+◌, ◌≤◌, length, take};
 ghost use Rattle.octets.specs.Limits.{notify_header, cookie_most};
 ghost use Rattle.writing.specs.Notify.{placed, notify_octets};

@@ -1,5 +1,7 @@
 // One entry, written into an output. Its values come in slots, in the order of its fields; its addresses and strings
 // are parts of what is lent beside them.
+#![tactic(auto)]
+
 ghost use Rattle.std.specs.Prelude.{◌≡◌, ◌≤◌, length};
 ghost use Rattle.entries.specs.Slots.{entry_slots};
 ghost use Rattle.entries.specs.Writing.{written_step, written_out};

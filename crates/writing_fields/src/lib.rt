@@ -1,4 +1,6 @@
 // One field, written into an output from an offset on. The values fit, and there is room (`sizing_fields`).
+#![tactic(auto)]
+
 ghost use Rattle.std.specs.Prelude.{◌≡◌, ◌+◌, ◌≤◌, length, take, drop};
 ghost use Rattle.fields.specs.Codes.{field_of, Ready, Puts};
 ghost use Rattle.fields.specs.Writing.{octets_in};

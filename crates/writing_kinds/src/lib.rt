@@ -1,5 +1,7 @@
 // The fields of a kind of entry, written into an output from an offset on. The values fit, and there is room
 // (`sizing_kinds`).
+#![tactic(auto)]
+
 ghost use Rattle.fields.specs.Codes.{Ready, Puts};
 ghost use Rattle.fields.specs.Writing.{octets_in};
 ghost use Rattle.entries.specs.Kinds.{fields_of};

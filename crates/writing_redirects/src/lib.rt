@@ -1,4 +1,6 @@
 // The data of each redirect notification written to the start of an output.
+#![tactic(auto)]
+
 ghost use Rattle.std.specs.Prelude.{◌≡◌, true, false, [], ◌+◌, ◌≤◌, length};
 ghost use Rattle.octets.specs.Checks.{first_failed};
 ghost use Rattle.writing.specs.Notify.{placed};

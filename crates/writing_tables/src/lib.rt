@@ -1,4 +1,6 @@
 // A table of fields, written into an output from an offset on. The values fit, and there is room (`sizing_tables`).
+#![tactic(auto)]
+
 ghost use Rattle.std.specs.Prelude.{◌≡◌, ◌+◌, ◌≤◌, length, drop};
 ghost use Rattle.fields.specs.Fields.{list_of, ◌then◌};
 ghost use Rattle.fields.specs.Slots.{width};
