@@ -8,7 +8,7 @@ ghost use Rattle.address.specs.Address.{address_fits, both_fit};
 use octets::limits::{ADDRESS_OCTETS, ADDRESSES_MOST, IP4_OCTETS, IP6_OCTETS};
 
 #[repr(C)]
-#[derive(Drop)]
+#[derive(Clone, Copy)]
 pub struct Address {
     pub family: u8,
     pub octets: [u8; ADDRESS_OCTETS],

@@ -6,7 +6,7 @@ use crate::address::both_fit;
 use octets::limits::ADDRESS_OCTETS;
 
 #[repr(C)]
-#[derive(Drop)]
+#[derive(Clone, Copy)]
 pub struct Pair {
     pub family: u8,
     pub source: [u8; ADDRESS_OCTETS],

@@ -1,5 +1,5 @@
 -- How long the cookie of a chain is.
-use Rattle.core.specs.Prelude.{◌≡◌, ℕ, ◌≤◌, List, length}
+use Rattle.std.specs.Prelude.{◌≡◌, ℕ, ◌≤◌, List, length}
 use native.Mathlib.Omega.{arith}
 use Rattle.octets.specs.Limits.{cookie_most}
 use Rattle.findings.specs.declared.seen.Seen.{Seen}

@@ -1,5 +1,5 @@
 -- The core's two ways out, in terms of what its callees gave.
-use Rattle.core.specs.Prelude.{◌≡◌, ℕ, Bool, List}
+use Rattle.std.specs.Prelude.{◌≡◌, ℕ, Bool, List}
 use borrow.Author.Tests.{eq-eqb, ne_eqb}
 use Rattle.writing.specs.Notify.{Notification, chained}
 use Rattle.values.specs.Values.{no_nats_seen}

@@ -9,7 +9,7 @@
 --   core_notifies      the response, as notifications; `core_response` its octets
 --   core_answer        what is told, and what changes in the record: `whole_answer` or `broken_answer`
 --   core_result        what is told, and the record after it
-use Rattle.core.specs.Prelude.{ℕ, Bool, cond, List, [], ◌∷◌, ◌==◌}
+use Rattle.std.specs.Prelude.{ℕ, Bool, cond, List, [], ◌∷◌, ◌==◌}
 use Rattle.octets.specs.Numbers.{number_of}
 use Rattle.octets.specs.declared.number.Number.TheVariants.{Done, UnknownCritical}
 use Rattle.octets.specs.Wire.{invalid_syntax, unsupported_critical_payload}

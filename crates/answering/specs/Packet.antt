@@ -1,6 +1,6 @@
 -- Inner. What a request asks as the code hands it on: its packet, the two lent NAT values, its body. `asked_by` is
 -- `asked` of `Core` with the packet's parts.
-use Rattle.core.specs.Prelude.{ℕ, List}
+use Rattle.std.specs.Prelude.{ℕ, List}
 use Rattle.address.specs.declared.pair.Pair.{Pair}
 use Rattle.records.specs.declared.check.PendingCheck.{PendingCheck}
 use Rattle.answering.specs.Core.{Asked, asked}

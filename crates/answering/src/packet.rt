@@ -1,12 +1,12 @@
 // What came with a request's body: the SPI that it means, its message ID, addresses and ports of the packet, the type
 // of the first payload, and the check of ours that is kept if it moves the record.
-ghost use Rattle.core.specs.Prelude.{◌≡◌};
+ghost use Rattle.std.specs.Prelude.{◌≡◌};
 ghost use Rattle.answering.specs.Packet.{packet_of};
 
 use address::pair::Pair;
 use records::check::PendingCheck;
 
-#[derive(Drop)]
+#[derive(Clone, Copy)]
 pub struct Packet {
     pub spi: u64,
     pub id: u32,

@@ -5,7 +5,7 @@ ghost use Rattle.asking.specs.Ask.{ask_of, clone_ask_of};
 use octets::flag::is_yes;
 
 // Which notifications, and how many of the additional addresses.
-#[derive(Drop)]
+#[derive(Clone, Copy)]
 pub struct Ask {
     pub update: bool,
     pub no_nats: bool,
@@ -16,7 +16,7 @@ pub struct Ask {
 }
 
 // Which of the two notifications of a clone (RFC 7791): CLONE_IKE_SA_SUPPORTED, CLONE_IKE_SA.
-#[derive(Drop)]
+#[derive(Clone, Copy)]
 pub struct CloneAsk {
     pub supported: bool,
     pub clone: bool,
@@ -24,7 +24,7 @@ pub struct CloneAsk {
 
 // The same as a host gives it: yes or no is an octet.
 #[repr(C)]
-#[derive(Drop)]
+#[derive(Clone, Copy)]
 pub struct AskOctets {
     pub update: u8,
     pub no_nats: u8,

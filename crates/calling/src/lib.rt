@@ -11,7 +11,7 @@ use records::ike::Agreed;
 use tables::calls::Opening;
 
 // A request as an entry gives it.
-#[derive(Drop)]
+#[derive(Clone, Copy)]
 pub struct Given {
     pub spi: u64,
     pub id: u32,
@@ -28,7 +28,7 @@ pub struct Given {
 }
 
 // The response to a check, as an entry gives it.
-#[derive(Drop)]
+#[derive(Clone, Copy)]
 pub struct GivenResponse {
     pub spi: u64,
     pub id: u32,
@@ -38,7 +38,7 @@ pub struct GivenResponse {
 }
 
 // A clone request, as an entry gives it.
-#[derive(Drop)]
+#[derive(Clone, Copy)]
 pub struct GivenClone {
     pub spi: u64,
     pub new_spi: u64,

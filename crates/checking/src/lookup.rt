@@ -5,7 +5,7 @@ ghost use Rattle.checking.specs.Lookup.{looked_up};
 use records::ike::{IkeRecord, Marks, marks_of};
 
 // How many IPsec records are lent, the lowest place with the SPI, and the marks of the record there.
-#[derive(Drop)]
+#[derive(Clone, Copy)]
 pub struct Looked {
     pub size: usize,
     pub place: usize,

@@ -1,14 +1,14 @@
 // A clone request by what was looked up for it: checked, read, answered. The table around it is `lent`'s.
 #![tactic(auto)]
 
-ghost use Rattle.core.specs.Prelude.{◌≡◌, ◌≤◌, length};
+ghost use Rattle.std.specs.Prelude.{◌≡◌, ◌≤◌, length};
 ghost use Rattle.octets.specs.Limits.{response_room};
 ghost use Rattle.writing.specs.Notify.{placed};
 ghost use Rattle.responding.specs.Put.{Responds};
 ghost use Rattle.cloning.specs.Clone.{clone_request, clone_notify, clone_notifies, not_cloned};
 ghost use Rattle.cloning.specs.Looked.{clone_at, octets_at};
 
-use answering::core::put_chain_error;
+use answering::core_answer::put_chain_error;
 use clone_chain::read::read_clone;
 use clone_checks::{early_clone, late_clone};
 use cloning::clone::{CloneAnswer, CloneReply};

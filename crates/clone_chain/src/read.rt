@@ -16,7 +16,7 @@ use payload::payload::{LENGTH, NOTIFY_TYPE, SPI_SIZE};
 use reader::read::{Reading, read_short, refuse};
 
 // What reading a clone request gives: the reading of its chain, and which of the two stand in it.
-#[derive(Drop)]
+#[derive(Clone, Copy)]
 pub struct CloneReading {
     pub reading: Reading,
     pub supported: bool,
@@ -25,7 +25,7 @@ pub struct CloneReading {
 
 // What looking for the two gives: the first of them that is malformed, by its number (0: none), its offset and how many
 // payloads stand before it; and which of them were found up to there.
-#[derive(Drop)]
+#[derive(Clone, Copy)]
 pub struct Look {
     pub number: u8,
     pub offset: u16,

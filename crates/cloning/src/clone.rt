@@ -3,7 +3,7 @@ use records::ike::IkeRecord;
 
 // All that is told of a clone request, as the host gets it.
 #[repr(C)]
-#[derive(Drop)]
+#[derive(Clone, Copy)]
 pub struct CloneReply {
     pub number: u8,
     // The type of the response's first payload; 0: nothing was written.
@@ -16,7 +16,7 @@ pub struct CloneReply {
 }
 
 // What is told, and the record to store with its place; past the table's end, where nothing is stored, with a refusal.
-#[derive(Drop)]
+#[derive(Clone, Copy)]
 pub struct CloneAnswer {
     pub reply: CloneReply,
     pub place: usize,

@@ -12,7 +12,7 @@ use records::ike::Marks;
 use verdict::update::{Verdict, is_accepted, verdict_seen};
 
 // What became of an update or a list: 01's none, applied or replaced, stale.
-#[derive(Drop)]
+#[derive(Clone, Copy)]
 pub enum Effect {
     None,
     Done,
@@ -21,7 +21,7 @@ pub enum Effect {
 
 // The decision: the verdict on the update (accepted where there is none to refuse), what became of the update and of
 // the list, how many addresses were left off, and the marks after it.
-#[derive(Drop)]
+#[derive(Clone, Copy)]
 pub struct Decision {
     pub verdict: Verdict,
     pub update: Effect,

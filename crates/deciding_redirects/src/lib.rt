@@ -17,7 +17,7 @@ use redirecting::times::{Accepted, keep_time, time_number};
 
 // What is told of a REDIRECT; with a refusal all but the number is 0.
 #[repr(C)]
-#[derive(Drop)]
+#[derive(Clone, Copy)]
 pub struct RedirectDecision {
     pub number: u8,
     pub identity_type: u8,

@@ -3,7 +3,7 @@ ghost use Rattle.std.specs.Prelude.{◌≡◌};
 ghost use Rattle.entries.specs.Kinds.{kind_number};
 ghost use Rattle.entries.specs.Entries.{kind_of};
 
-#[derive(Drop)]
+#[derive(Clone, Copy)]
 pub enum Kind {
     OpenBoth,
     AddIpsec,
@@ -16,7 +16,7 @@ pub enum Kind {
     MarkDeletion,
 }
 
-#[derive(Drop)]
+#[derive(Clone, Copy)]
 pub enum Known {
     Is(Kind),
     Unknown,

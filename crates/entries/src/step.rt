@@ -2,7 +2,7 @@
 use crate::kind::Kind;
 use fields::refusal::Refusal;
 
-#[derive(Drop)]
+#[derive(Clone, Copy)]
 pub enum EntryStep {
     // its kind, and the offset after it
     Entry(Kind, usize),

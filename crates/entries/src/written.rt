@@ -1,6 +1,6 @@
 // What writing an entry comes to.
 
-#[derive(Drop)]
+#[derive(Clone, Copy)]
 pub enum Written {
     // so many octets were written
     Done(usize),

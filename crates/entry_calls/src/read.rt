@@ -10,7 +10,7 @@ use fields::refusal::refusal_number;
 use reading_entries::read_entry;
 
 #[repr(C)]
-#[derive(Drop)]
+#[derive(Clone, Copy)]
 pub struct EntryRead {
     // 0, or why it is refused: 20, 21, 22, and then all else is 0.
     pub number: u8,

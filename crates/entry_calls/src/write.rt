@@ -9,7 +9,7 @@ use entries::written::Written;
 use writing_entries::write_entry;
 
 #[repr(C)]
-#[derive(Drop)]
+#[derive(Clone, Copy)]
 pub struct EntryWritten {
     // 0; or 21 unknown kind, 22 a value that does not fit its field, 2 output too short, and then nothing is written.
     pub number: u8,

@@ -2,7 +2,7 @@
 ghost use Rattle.std.specs.Prelude.{◌≡◌};
 ghost use Rattle.fields.specs.Writing.{less_by};
 
-#[derive(Drop)]
+#[derive(Clone, Copy)]
 pub enum Room {
     // so many octets are left
     Left(usize),

@@ -1,7 +1,7 @@
 // What reading a field comes to.
 use crate::refusal::Refusal;
 
-#[derive(Drop)]
+#[derive(Clone, Copy)]
 pub enum Step {
     // the offset after what was read
     At(usize),

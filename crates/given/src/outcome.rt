@@ -9,7 +9,7 @@ use records::ipsec::IpsecRecord;
 use replying::reply::Reply;
 
 // The number and the two outcomes of a call; or a record's SPI and pair, where a place was asked for.
-#[derive(Drop)]
+#[derive(Clone, Copy)]
 pub struct Outcome {
     pub number: u8,
     pub update: u8,

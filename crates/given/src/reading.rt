@@ -13,14 +13,14 @@ pub const SHOW_IKE: u8 = 254;
 pub const SHOW_IPSEC: u8 = 255;
 
 // The number of its kind, and its slots.
-#[derive(Drop)]
+#[derive(Clone, Copy)]
 pub struct Slots {
     pub kind: u8,
     pub slots: [u64; ENTRY_SLOTS],
 }
 
 // Where a string stands.
-#[derive(Drop)]
+#[derive(Clone, Copy)]
 pub struct Span {
     pub at: u64,
     pub size: u64,

@@ -11,7 +11,7 @@ use reader::read::Reading;
 use values::{NoNats, addresses_in};
 
 #[repr(C)]
-#[derive(Drop)]
+#[derive(Clone, Copy)]
 pub struct AddressList {
     pub list: [Address; ADDRESSES_MOST],
 }

@@ -12,7 +12,7 @@ use reader::read::read;
 use values::cookie;
 
 // What a response that was read whole comes to, in the words of 01.
-#[derive(Drop)]
+#[derive(Clone, Copy)]
 pub enum Outcome {
     Close,
     NatSeen,
@@ -24,7 +24,7 @@ pub enum Outcome {
 // All that is told of a response; the outcome by its number. The cookie that came back is the part of the body at
 // `cookie`.
 #[repr(C)]
-#[derive(Drop)]
+#[derive(Clone, Copy)]
 pub struct Assessment {
     pub number: u8,
     pub outcome: u8,

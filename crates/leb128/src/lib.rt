@@ -7,7 +7,7 @@ ghost use Rattle.writing.specs.Notify.{placed};
 ghost use Rattle.leb128.specs.Leb128.{decoded_at, octets_of};
 ghost use Rattle.leb128.specs.Within.{read_within, Within};
 
-#[derive(Drop)]
+#[derive(Clone, Copy)]
 pub enum Decoded {
     // the number, and the offset after it
     Is(u64, usize),

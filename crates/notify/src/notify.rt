@@ -8,14 +8,14 @@ use octets::limits::{
 };
 
 // A notify type as it stands in a Notify payload. 01: "The numbers belong to the notify type as its named constants."
-#[derive(Drop)]
+#[derive(Clone, Copy)]
 pub struct NotifyType {
     pub number: u16,
 }
 
 // What a notify type means to this gateway. The last four are not in the table of types that it reads, so they are
 // tallied as unknown; the first three of them are errors.
-#[derive(Drop)]
+#[derive(Clone, Copy)]
 pub enum NotifyKind {
     NatDetectionSource,
     NatDetectionDestination,

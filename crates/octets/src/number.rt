@@ -3,7 +3,7 @@ ghost use Rattle.std.specs.Prelude.{◌≡◌};
 ghost use Rattle.octets.specs.Numbers.{number_of};
 
 // In the order of 01's table, with 02's 61 to 65 in the place of its 6 and 02's later ones at the end.
-#[derive(Drop)]
+#[derive(Clone, Copy)]
 pub enum Number {
     Done,
     BadArgument,

@@ -9,7 +9,7 @@ use octets::limits::NAT_OCTETS;
 use values::part;
 
 // A body and the offset in it at which a payload's data begins.
-#[derive(Drop)]
+#[derive(Clone, Copy)]
 pub struct PayloadReader<'a> {
     pub body: &'a [u8],
     pub at: u16,

@@ -7,7 +7,7 @@ use octets::number::{Number, number_of};
 
 // With 50 and 52 the ordinal is 0.
 #[repr(C)]
-#[derive(Drop)]
+#[derive(Clone, Copy)]
 pub struct PathChoice {
     pub number: u8,
     pub ordinal: u32,

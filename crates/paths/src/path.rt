@@ -3,7 +3,7 @@ ghost use Rattle.std.specs.Prelude.{◌≡◌};
 ghost use Rattle.paths.specs.Update.{deviation_of, first_path, later_path, sampled_path, lost_path};
 
 // What was last heard, with its milliseconds: how long the round trip took, or how long was waited.
-#[derive(Drop)]
+#[derive(Clone, Copy)]
 pub enum LastEvent {
     Nothing,
     RoundTrip(f64),
@@ -12,7 +12,7 @@ pub enum LastEvent {
 
 // `sampled` tells whether a round trip was ever taken: neither the last event, which may be a loss, nor the two
 // numbers, which a first round trip of 0 leaves at 0, would tell.
-#[derive(Drop)]
+#[derive(Clone, Copy)]
 pub struct Path {
     pub smoothed: f64,
     pub spread: f64,

@@ -21,7 +21,7 @@ pub const SPI_SIZE: usize = 5;
 pub const NOTIFY_TYPE: usize = 6;
 
 // What can be wrong with a chain.
-#[derive(Drop)]
+#[derive(Clone, Copy)]
 pub enum Fault {
     // Fewer octets left than a header has, or a length under a header's or past the end.
     ChainLength,
@@ -38,7 +38,7 @@ pub enum Fault {
 }
 
 // What a payload is to the reader.
-#[derive(Drop)]
+#[derive(Clone, Copy)]
 pub enum Content {
     // A type that is known and of no concern here.
     Skipped,
@@ -48,7 +48,7 @@ pub enum Content {
     Notify(NotifyKind, u16, u16),
 }
 
-#[derive(Drop)]
+#[derive(Clone, Copy)]
 pub enum Found {
     // A payload of so many octets, its header counted.
     Payload(usize, Content),

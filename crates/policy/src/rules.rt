@@ -16,7 +16,7 @@ use octets::operator::not_operator;
 use prefix::prefix::prefix_matches;
 
 #[repr(C)]
-#[derive(Drop)]
+#[derive(Clone, Copy)]
 pub struct Rule {
     pub family: u8,
     pub source: [u8; ADDRESS_OCTETS],
@@ -26,7 +26,7 @@ pub struct Rule {
 }
 
 #[repr(C)]
-#[derive(Drop)]
+#[derive(Clone, Copy)]
 pub struct Policy {
     pub count: u16,
     pub rules: [Rule; RULES_MOST],
@@ -34,7 +34,7 @@ pub struct Policy {
 
 // The number that setting a policy gives, and the policy that is stored at an operator's place; past the end, where
 // nothing is stored, with any number but 0.
-#[derive(Drop)]
+#[derive(Clone, Copy)]
 pub struct PolicyChange {
     pub number: u8,
     pub place: usize,

@@ -16,7 +16,7 @@ use payload::payload::{Fault, Found, payload_at};
 // What a reading gives: its number, the offset of a fault, how many payloads stand before it, and what the payloads
 // said.
 #[repr(C)]
-#[derive(Drop)]
+#[derive(Clone, Copy)]
 pub struct Reading {
     pub number: u8,
     // The type of a payload that gives 7.

@@ -6,7 +6,7 @@ use octets::limits::{COOKIE_LEAST, COOKIE_MOST};
 
 // The cookie that our request carries, zeros behind it, and the message ID of that request. All 0 is none.
 #[repr(C)]
-#[derive(Drop)]
+#[derive(Clone, Copy)]
 pub struct PendingCheck {
     pub length: u8,
     pub octets: [u8; COOKIE_MOST],

@@ -11,7 +11,7 @@ use octets::limits::{ADDRESS_OCTETS, ADDRESSES_MOST};
 
 // What is agreed when a record is opened; no request changes it. Yes or no is an octet, 0 or any other.
 #[repr(C)]
-#[derive(Drop)]
+#[derive(Clone, Copy)]
 pub struct Agreed {
     pub mobike: u8,
     pub cloning: u8,
@@ -24,7 +24,7 @@ pub struct Agreed {
 // A place is free when its SPI is 0. A mark is the least message ID that exceeds it: 0 for none, and the ID and one for
 // an ID.
 #[repr(C)]
-#[derive(Drop)]
+#[derive(Clone, Copy)]
 pub struct IkeRecord {
     pub spi: u64,
     pub agreed: Agreed,
@@ -41,7 +41,7 @@ pub struct IkeRecord {
 
 // What a request is decided by in its record, and changes there whether it moves or not. Decisions go by these alone,
 // so that a request does not carry the record's list about.
-#[derive(Drop)]
+#[derive(Clone, Copy)]
 pub struct Marks {
     pub agreed: Agreed,
     pub update_mark: u64,

@@ -6,7 +6,7 @@ use address::pair::Pair;
 use octets::limits::ADDRESS_OCTETS;
 
 #[repr(C)]
-#[derive(Drop)]
+#[derive(Clone, Copy)]
 pub struct IpsecRecord {
     pub spi: u32,
     pub owner: u64,

@@ -2,7 +2,7 @@
 
 // What is told of a REDIRECT or a REDIRECTED_FROM; with a refusal the type is 0.
 #[repr(C)]
-#[derive(Drop)]
+#[derive(Clone, Copy)]
 pub struct GatewayRead {
     pub number: u8,
     pub identity_type: u8,
@@ -10,7 +10,7 @@ pub struct GatewayRead {
 
 // The number, and how many octets were written: none with a refusal.
 #[repr(C)]
-#[derive(Drop)]
+#[derive(Clone, Copy)]
 pub struct DataWritten {
     pub number: u8,
     pub length: usize,

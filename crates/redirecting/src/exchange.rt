@@ -2,7 +2,7 @@
 ghost use Rattle.std.specs.Prelude.{◌≡◌};
 ghost use Rattle.redirecting.specs.Exchange.{exchange_of, is_init, allows};
 
-#[derive(Drop)]
+#[derive(Clone, Copy)]
 pub enum Exchange {
     SaInit,
     FirstAuth,

@@ -10,7 +10,7 @@ use octets::number::{Number, number_of};
 // The times, oldest first, and how many of the places hold one; a count over five reads as five. A fresh record is all
 // zeros.
 #[repr(C)]
-#[derive(Drop)]
+#[derive(Clone, Copy)]
 pub struct Accepted {
     pub count: u8,
     pub times: [u64; REDIRECTS_MOST],

@@ -7,7 +7,7 @@ use entries::ENTRY_SLOTS;
 use given::reading::Slots;
 
 // What a turn is for.
-#[derive(Drop)]
+#[derive(Clone, Copy)]
 pub enum Turn {
     // more of the trace is read
     More,
@@ -19,7 +19,7 @@ pub enum Turn {
     Show,
 }
 
-#[derive(Drop)]
+#[derive(Clone, Copy)]
 pub struct State {
     // what the window holds, the first octet of it that is not used, and the offset after the entry that is looked at
     pub len: usize,

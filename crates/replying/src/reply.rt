@@ -13,7 +13,7 @@ use verdict::update::verdict_told;
 
 // All that a call gives back but the tables. The cookie is the part of the body at `cookie`.
 #[repr(C)]
-#[derive(Drop)]
+#[derive(Clone, Copy)]
 pub struct Reply {
     pub number: u8,
     pub update: u8,
@@ -30,7 +30,7 @@ pub struct Reply {
 
 // The reply, and what changes in the record: its marks; its pair and its pending check, where the reply says that the
 // update was applied; its list, where the reply says that it was replaced, by where it stands in the body.
-#[derive(Drop)]
+#[derive(Clone, Copy)]
 pub struct CoreAnswer {
     pub reply: Reply,
     pub marks: Marks,

@@ -17,7 +17,7 @@ use putting::put::{put_if, put_nats, put_no_nats, put_tail, tail_type, type_if};
 
 // The number, the type of the first payload (0: none) and the octets written.
 #[repr(C)]
-#[derive(Drop)]
+#[derive(Clone, Copy)]
 pub struct Written {
     pub number: u8,
     pub first: u8,

@@ -1,5 +1,5 @@
 -- The payload count that a reply tells is the chain's, or 0 with the numbers 1 to 5, 61 to 65 and 7.
-use Rattle.core.specs.Prelude.{◌≡◌, ℕ, true, ◌||◌, eqb, List}
+use Rattle.std.specs.Prelude.{◌≡◌, ℕ, true, ◌||◌, eqb, List}
 use mathlib.Core.Path.{refl}
 use native.Mathlib.Decide.{ℕ_discrete}
 use borrow.Author.Tests.{eq-eqb, ne_eqb}

@@ -1,6 +1,6 @@
 -- A request is handled by what is looked up for it, the answer by the marks of one record, and the change of the tables
 -- around it.
-use Rattle.core.specs.Prelude.{◌≡◌, ℕ, List, length, set}
+use Rattle.std.specs.Prelude.{◌≡◌, ℕ, List, length, set}
 use native.Mathlib.Decide.{ℕ_discrete}
 use borrow.Author.Tests.{eq-eqb, ne_eqb}
 use lib.Seq.{set-get_or}

@@ -7,7 +7,7 @@
 --   HandledAs               what the exported call promises
 --   seen_in                  what was seen in its chain
 --   after_request            both tables after it
-use Rattle.core.specs.Prelude.{◌≡◌, ℕ, Bool, cond, List, [], length, ◌==◌, slice_set}
+use Rattle.std.specs.Prelude.{◌≡◌, ℕ, Bool, cond, List, [], length, ◌==◌, slice_set}
 use Rattle.writing.specs.Notify.{placed}
 use Rattle.octets.specs.Lists.{place_of}
 use Rattle.policy.specs.Policy.{acceptable, policy_of}

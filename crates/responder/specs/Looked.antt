@@ -1,6 +1,6 @@
 -- Inner. One request by what was looked up for it, as the code handles it. `handles` in `proofs/Looked.antt` shows that
 -- this, with the tables' change around it, is `handled` of `Handle`.
-use Rattle.core.specs.Prelude.{ℕ, Bool, false, cond, ◌&&◌, List, [], ◌==◌, nat_le}
+use Rattle.std.specs.Prelude.{ℕ, Bool, false, cond, ◌&&◌, List, [], ◌==◌, nat_le}
 use Rattle.findings.specs.declared.seen.Seen.{Seen}
 use Rattle.reader.specs.Chain.{reading, refused}
 use Rattle.records.specs.declared.ike.Marks.{Marks}

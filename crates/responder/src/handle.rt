@@ -1,12 +1,12 @@
 // One request as it was received, by what was looked up for it: refused, or decided and answered. The tables around it
 // are `lent`'s.
-ghost use Rattle.core.specs.Prelude.{◌≡◌, length};
+ghost use Rattle.std.specs.Prelude.{◌≡◌, length};
 ghost use Rattle.writing.specs.Notify.{placed};
 ghost use Rattle.checking.specs.Lookup.{request_by};
 ghost use Rattle.responder.specs.Looked.{received_at, handled_at, response_at};
 
 use crate::receive::Received;
-use answering::core::respond_to;
+use answering::core_answer::respond_to;
 use answering::packet::Packet;
 use checking::lookup::Looked;
 use replying::reply::{CoreAnswer, error_reply, unchanged};

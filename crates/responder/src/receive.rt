@@ -1,6 +1,6 @@
 // One request as it comes in, by what was looked up for it: checks 1 to 5, its chain read, and whether its pair has to be
 // held against the policy. The policy itself is lent, and looked at between this and `handle`.
-ghost use Rattle.core.specs.Prelude.{◌≡◌, length};
+ghost use Rattle.std.specs.Prelude.{◌≡◌, length};
 ghost use Rattle.checking.specs.Lookup.{request_by};
 ghost use Rattle.responder.specs.Looked.{asks_policy, received_at};
 
@@ -13,7 +13,7 @@ use reader::read::{Reading, read_short, refuse};
 use records::ike::Marks;
 
 // The number of checks 1 to 5; where they pass, the chain as it was read, and whether the policy is asked.
-#[derive(Drop)]
+#[derive(Clone, Copy)]
 pub struct Received {
     pub number: u8,
     pub asks: bool,

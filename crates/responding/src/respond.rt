@@ -15,7 +15,7 @@ use verdict::update::Verdict;
 use writing::put_notify;
 
 // What is told of a response: the type of its first payload, 0 where nothing was written, and how many octets it has.
-#[derive(Drop)]
+#[derive(Clone, Copy)]
 pub struct Response {
     pub first: u8,
     pub length: u16,

@@ -17,7 +17,7 @@ use records::ike::{IkeRecord, no_ike, uncheck};
 
 // What is told of a response, the record to store with its place, and whether what it owns is closed or moved; past the
 // table's end, where nothing is stored, with a refusal.
-#[derive(Drop)]
+#[derive(Clone, Copy)]
 pub struct Ending {
     pub told: Assessment,
     pub place: usize,

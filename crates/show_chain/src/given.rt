@@ -7,7 +7,7 @@ pub const NO_DIGIT: u8 = 16;
 const OTHER: u8 = 17;
 
 // The octets that digits stand for: how many are whole, and the high half of the next.
-#[derive(Drop)]
+#[derive(Clone, Copy)]
 pub struct Decoded {
     pub high: u8,
     pub count: usize,

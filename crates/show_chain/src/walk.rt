@@ -5,7 +5,7 @@ use notify::notify::NotifyType;
 use octets::wire::NOTIFY_PAYLOAD;
 
 // Where a payload stands, its type, and whether NO_ADDITIONAL_ADDRESSES stands before it.
-#[derive(Drop)]
+#[derive(Clone, Copy)]
 pub struct Place {
     pub at: usize,
     pub payload_type: u8,

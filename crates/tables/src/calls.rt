@@ -10,7 +10,7 @@ use records::ipsec::IpsecRecord;
 
 // What is given to open an IKE record and its first IPsec record, whose SPI is `child`.
 #[repr(C)]
-#[derive(Drop)]
+#[derive(Clone, Copy)]
 pub struct Opening {
     pub spi: u64,
     pub agreed: Agreed,
@@ -20,7 +20,7 @@ pub struct Opening {
 
 // A number, and the record that is stored at a place of the IKE table; past its end, where nothing is stored, with any
 // number but 0.
-#[derive(Drop)]
+#[derive(Clone, Copy)]
 pub struct IkeChange {
     pub number: u8,
     pub place: usize,
@@ -28,7 +28,7 @@ pub struct IkeChange {
 }
 
 // The same for the IPsec list, past whose end nothing is stored.
-#[derive(Drop)]
+#[derive(Clone, Copy)]
 pub struct IpsecChange {
     pub number: u8,
     pub place: usize,
@@ -36,7 +36,7 @@ pub struct IpsecChange {
 }
 
 // A number, and a record for each table: an IKE record and its first IPsec record.
-#[derive(Drop)]
+#[derive(Clone, Copy)]
 pub struct BothChange {
     pub number: u8,
     pub place: usize,

@@ -38,7 +38,7 @@ pub fn cookie(body: &[u8], seen: Seen) -> &[u8]
 
 // What NO_NATS_ALLOWED holds; family 0 where there is none.
 #[repr(C)]
-#[derive(Drop)]
+#[derive(Clone, Copy)]
 pub struct NoNats {
     pub family: u8,
     pub source: [u8; ADDRESS_OCTETS],

@@ -10,7 +10,7 @@ use octets::number::Number;
 use values::{NoNats, no_nats_at};
 
 // It is applied, was altered on the way, or is not acceptable.
-#[derive(Drop)]
+#[derive(Clone, Copy)]
 pub enum Verdict {
     Accepted,
     Altered,

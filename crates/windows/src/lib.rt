@@ -14,7 +14,7 @@ use entries::step::EntryStep;
 use fields::refusal::Refusal;
 use reading_entries::read_entry;
 
-#[derive(Drop)]
+#[derive(Clone, Copy)]
 pub enum Next {
     // its kind, and the offset after it
     Entry(Kind, usize),

@@ -1,5 +1,5 @@
 // One request by the marks of the record that it means and by what was read in it: decide, respond.
-ghost use Rattle.core.specs.Prelude.{◌≡◌, ◌≤◌, length};
+ghost use Rattle.std.specs.Prelude.{◌≡◌, ◌≤◌, length};
 ghost use Rattle.octets.specs.Limits.{body_most, nat_octets, response_room};
 ghost use Rattle.writing.specs.Notify.{placed, chained};
 ghost use Rattle.reader.specs.Chain.{reading};

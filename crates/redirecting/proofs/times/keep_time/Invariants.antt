@@ -1,0 +1,19 @@
+use Prim.Native.Nat.{◌+◌, ◌-◌, ◌≤◌, min}
+use mathlib.Core.Path.{◌≡◌, refl, sym, ◌∙◌}
+use borrow.Author.Rules.{rules}
+use native.Mathlib.Omega.{arith}
+use lib.ListN.{length, take, drop}
+use Rattle.octets.proofs.Pad.{copied}
+use Rattle.redirecting.specs.Limits.{redirects_most}
+use Rattle.redirecting.proofs.Keep.{oldest, last, turns_one, keeps}
+use Rattle.std.proofs.Common.{ℕ, ◌*◌, ◌<◌}
+use Rattle.octets.specs.Checks.{first_failed}
+use Rattle.redirecting.specs.Times.{kept, before_last, is_recent, how_many, time_checks, keeping}
+use Rattle.redirecting.proofs.times.keep_time.Given as goal
+
+abbrev pub invariant-loop-i : goal.invariant-loop-i
+invariant-loop-i l =
+    (l.i ≤ l.last) × (length l.list ≡ redirects_most) × (l.list ≡ copied 0 (drop (oldest l.n) (take l.n l.times)) redirects_most l.i)
+
+abbrev pub decreases-loop-i : goal.decreases-loop-i
+decreases-loop-i l = l.last - l.i
