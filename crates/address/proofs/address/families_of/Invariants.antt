@@ -1,16 +1,9 @@
+-- The loop's invariant: the first i are those of the list.
 use Prim.Native.Nat.{◌≤◌, ◌-◌}
-use mathlib.Core.Path.{◌≡◌, refl}
-use mathlib.Core.List.{[]}
-use borrow.Author.Rules.{rules}
-use native.Mathlib.Omega.{arith}
+use mathlib.Core.Path.{◌≡◌}
 use Rattle.octets.specs.Limits.{addresses_most}
-use Rattle.octets.proofs.Mapped.{unmapped, mapped, maps_one, maps_all}
-use Rattle.address.specs.Address.{address_of}
+use Rattle.octets.proofs.Mapped.{mapped}
 use Rattle.address.specs.declared.address.Address.{Address}
-use Rattle.std.proofs.Common.{drop, ℕ, ◌+◌, ◌*◌, ◌<◌, length}
-use Rattle.octets.specs.Limits.{address_octets}
-use Rattle.octets.specs.Lists.{all, same_octets}
-use Rattle.address.specs.Address.{width_of, addresses_of, families_of, octets_of, is_zero, address_fits, both_fit}
 use Rattle.address.proofs.address.families_of.Given as goal
 
 abbrev pub invariant-loop-i : goal.invariant-loop-i
