@@ -72,6 +72,7 @@ impl NotifyType {
     pub const CLONE_IKE_SA: u16 = 16433;
 
     // The one classification that reader, responder and the assessment of responses share.
+    #[tactic(auto, unfolding(crate::specs::Notify::kind_of))]
     pub fn kind(self) -> NotifyKind
         ensures { result ≡ kind_of self.number }
     {

@@ -1,14 +1,9 @@
 use Prim.Native.Nat.{◌≤◌, ◌-◌}
-use mathlib.Core.Path.{◌≡◌, refl, ◌∙◌}
-use mathlib.Core.Logic.{⊎_elim}
+use mathlib.Core.Path.{◌≡◌}
 use mathlib.Core.List.{◌++◌}
-use borrow.Author.Rules.{rules}
-use native.Mathlib.Omega.{arith}
 use lib.ListN.{replicate}
 use Rattle.octets.specs.Limits.{address_octets}
-use Rattle.octets.proofs.Pad.{copied, turn_in, turn_past, copied_all}
-use Rattle.std.proofs.Common.{◌+◌, length, ℕ, ◌*◌, ◌<◌}
-use Rattle.octets.specs.Octets.{be16, padded}
+use Rattle.octets.proofs.Pad.{copied}
 use Rattle.octets.proofs.padded_to_16.Given as goal
 
 abbrev pub invariant-loop-i : goal.invariant-loop-i
