@@ -75,6 +75,7 @@ pub fn spi_fits(notify_type: u16, spi_size: usize, size: usize) -> bool
 }
 
 // The Notify at `at`, of `size` octets. Its data, which starts in the middle of the body, is passed on as a part.
+#[tactic(auto, unfolding(crate::specs::Payload::notify_at))]
 pub fn notify_at(body: &[u8], at: usize, size: usize) -> Found
     requires { (at + size ≤ length body.now) × (size < 65536) }
     ensures { result ≡ notify_at body.now at size }
@@ -103,6 +104,7 @@ pub fn notify_at(body: &[u8], at: usize, size: usize) -> Found
 }
 
 // The payload of type `payload_type` at `at`.
+#[tactic(auto, unfolding(crate::specs::Payload::payload_at, crate::specs::Payload::sized))]
 pub fn payload_at(payload_type: u8, body: &[u8], at: usize) -> Found
     requires { at ≤ length body.now }
     ensures { result ≡ payload_at payload_type body.now at }
