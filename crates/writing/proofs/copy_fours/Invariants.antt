@@ -1,13 +1,8 @@
-use Prim.Native.Nat.{◌≤◌, ◌-◌}
-use mathlib.Core.Path.{◌≡◌, refl}
-use borrow.Author.Rules.{rules}
-use native.Mathlib.Omega.{arith}
-use lib.ListN.{length, length-set}
-use lib.Seq.{paste, paste-zero}
-use Rattle.writing.proofs.Placed.{paste_four, paste_some}
-use Rattle.std.proofs.Common.{◌+◌, take, ℕ, ◌*◌, ◌<◌}
-use Rattle.octets.specs.Limits.{notify_header, cookie_most}
-use Rattle.writing.specs.Notify.{placed, notify_octets}
+-- `writing::copy_fours` meets its contract. The loop's invariant: `out` is what it was with the first i octets pasted
+-- in from `at`, and as long as it was.
+use Rattle.std.proofs.Common.{◌≤◌, ◌-◌, ◌≡◌}
+use Rattle.std.proofs.Math.ListN.{length}
+use Rattle.std.proofs.Math.Seq.{paste}
 use Rattle.writing.proofs.copy_fours.Given as goal
 
 abbrev pub invariant-loop-i : goal.invariant-loop-i
