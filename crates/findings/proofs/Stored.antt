@@ -1,13 +1,13 @@
 -- What storing one notify_type of the state does to what was seen.
 use Prim.Native.Nat.{ℕ, zero, suc, ◌+◌, ◌≤◌, ◌<◌}
-use mathlib.Core.Path.{◌≡◌, refl, sym, ap, ◌∙◌}
+use mathlib.Core.Path.{◌≡◌, refl, ap}
 use mathlib.Core.List.{List, [], ◌∷◌, map}
-use mathlib.Core.Bool.{Bool, true, false, cond, ◌&&◌}
+use mathlib.Core.Bool.{Bool, true, false, cond}
 use native.Mathlib.Omega.{arith}
 use native.Mathlib.Nat.{mod-eq_of_lt}
 use borrow.Author.Tests.{eq-eqb, ne_eqb}
 use lib.Dec.{eqb}
-use lib.ListN.{length, get_or, take, drop, set, length-take, length-drop, length-map, length-set, replicate}
+use lib.ListN.{length, get_or, drop, set, length-take, length-drop, length-map, length-set, replicate}
 use lib.Seq.{drop-cons, take-set-le, take-set-lt, drop-set-add, drop-set-lt, set_out}
 use Rattle.octets.specs.Limits.{addresses_most}
 use Rattle.octets.specs.Flags.{is_yes}

@@ -80,6 +80,7 @@ fn families_of(state: &State) -> [u8; ADDRESSES_MOST]
 }
 
 // What the numbers say.
+#[tactic(auto, unfolding(crate::specs::State::seen_of))]
 pub fn seen_of(state: &State) -> Seen
     requires { length state.now ≡ state_size }
     ensures { result ≡ seen_of state.now }
