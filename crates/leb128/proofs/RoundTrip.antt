@@ -6,11 +6,11 @@ use mathlib.Core.List.{List, [], ◌∷◌, ◌++◌}
 use native.Mathlib.Omega.{arith}
 use borrow.Author.Tests.{ltb-true, ltb-false, ne_eqb, lt-leb}
 use lib.Dec.{ltb}
-use lib.ListN.{length, get_or, drop}
+use lib.ListN.{length, drop}
 use Rattle.leb128.specs.Leb128.{decoded, groups, octets_of, more}
 use Rattle.leb128.specs.RoundTrips.{Octets, Begins, RoundTrips}
 use Rattle.leb128.proofs.Octets.{groups_small, groups_large}
-use Rattle.leb128.proofs.Read.{decoded_small, decoded_large, More, Found, last, further, found, nothing_found}
+use Rattle.leb128.proofs.Read.{decoded_small, decoded_large, Found, last, further, found, nothing_found}
 use Rattle.leb128.proofs.Read.{bad_is_none, bounded}
 use Rattle.leb128.specs.declared.Decoded.{Decoded}
 use Rattle.leb128.specs.declared.Decoded.TheVariants.{Is, Bad}

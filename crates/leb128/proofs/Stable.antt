@@ -1,16 +1,16 @@
 -- Octets that come later change nothing about a number that was read, nor about one that was refused with ten octets in
 -- sight. Assumes nothing.
-use Prim.Native.Nat.{ℕ, zero, suc, ◌+◌, ◌-◌, ◌%◌, ◌/◌, ◌^◌, ◌≤◌, ◌<◌}
+use Prim.Native.Nat.{ℕ, ◌+◌, ◌-◌, ◌≤◌, ◌<◌}
 use mathlib.Core.Path.{◌≡◌, refl, sym, ◌∙◌, ap}
 use mathlib.Core.Bool.{Bool, true, false}
-use mathlib.Core.List.{List, [], ◌∷◌, ◌++◌, append_assoc}
+use mathlib.Core.List.{List, ◌++◌, append_assoc}
 use native.Mathlib.Omega.{arith}
-use borrow.Author.Tests.{ltb-true, ltb-false, lt-ltb}
+use borrow.Author.Tests.{ltb-true, ltb-false}
 use lib.Dec.{ltb}
 use lib.ListN.{length, get_or, take, drop, length-append, length-drop, take-append-drop, get_or-append}
 use lib.ListN.{get_or-eq_default}
 use lib.Seq.{take-append-le, take-append_seam, get_or-drop}
-use Rattle.leb128.specs.Leb128.{decoded, decoded_at, groups, octets_of}
+use Rattle.leb128.specs.Leb128.{decoded, decoded_at, octets_of}
 use Rattle.leb128.specs.Within.{Within}
 use Rattle.leb128.specs.RoundTrips.{Octets, Settled}
 use Rattle.leb128.specs.declared.Decoded.{Decoded}

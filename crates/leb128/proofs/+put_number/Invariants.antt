@@ -1,0 +1,5 @@
+-- The proof of the cycle of calls {put_number}. The measure is the number.
+use Rattle.leb128.proofs.+put_number.Given as goal
+
+abbrev pub decreases-put_number : goal.decreases-put_number
+decreases-put_number l = l.n
