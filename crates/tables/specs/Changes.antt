@@ -5,7 +5,6 @@ use Rattle.octets.specs.Limits.{ike_places, ipsec_places, ike_share, ipsec_share
 use Rattle.octets.specs.declared.number.Number.TheVariants.{BadArgument, NoSuchRecord, Full, SpiInUse}
 use Rattle.octets.specs.declared.number.Number.TheVariants.{OperatorAtShare}
 use Rattle.octets.specs.Checks.{◌gives◌, first_failed}
-use Rattle.address.specs.declared.pair.Pair.{Pair}
 use Rattle.records.specs.Records.{no_ike, new_ipsec, no_ipsec, deletion_marked}
 use Rattle.tables.specs.Opening.{ike_of, child_of}
 use Rattle.octets.specs.Operators.{is_operator}
