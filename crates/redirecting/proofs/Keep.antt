@@ -1,10 +1,9 @@
 -- The record that keeps one time more, as a loop fills it: the kept times without the oldest, where there are five, the
 -- new one behind them, and 0 in the other places.
 use Prim.Native.Nat.{ℕ, suc, ◌+◌, ◌-◌, ◌<◌, ◌≤◌, min}
-use mathlib.Core.Path.{◌≡◌, refl, sym, ap, ◌∙◌}
+use mathlib.Core.Path.{◌≡◌}
 use mathlib.Core.List.{List, [], ◌∷◌, ◌++◌, append_assoc}
 use native.Mathlib.Omega.{arith}
-use native.Mathlib.Numerals.{add-one}
 use lib.ListN.{length, get_or, take, drop, set, replicate, length-append, length-drop}
 use lib.Seq.{take_all, drop-append-le, get_or-take, get_or-drop, set_at, length-take-le}
 use Rattle.octets.specs.Lists.{first_of}

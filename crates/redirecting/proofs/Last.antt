@@ -1,14 +1,14 @@
 -- The last of the times that a record keeps.
-use Prim.Native.Nat.{ℕ, ◌-◌, ◌≤◌, min}
-use mathlib.Core.Path.{◌≡◌, refl, sym, ◌∙◌}
+use Prim.Native.Nat.{ℕ, ◌-◌, min}
+use mathlib.Core.Path.{◌≡◌, sym}
 use mathlib.Core.Bool.{false}
 use borrow.Author.Tests.{le-ltb}
 use native.Mathlib.Omega.{arith}
 use lib.Dec.{ltb}
-use lib.ListN.{length, get_or, take, length-take}
+use lib.ListN.{length, get_or, length-take}
 use lib.Seq.{get_or-take}
 use Rattle.redirecting.specs.Limits.{redirects_most}
-use Rattle.redirecting.specs.Times.{kept, latest, before_last}
+use Rattle.redirecting.specs.Times.{kept, before_last}
 use Rattle.redirecting.specs.declared.times.Accepted.{Accepted}
 
 module _ (r : Accepted) where

@@ -1,14 +1,9 @@
-use Prim.Native.Nat.{◌+◌, ◌-◌, ◌≤◌, min}
-use mathlib.Core.Path.{◌≡◌, refl, sym, ◌∙◌}
-use borrow.Author.Rules.{rules}
-use native.Mathlib.Omega.{arith}
+use Prim.Native.Nat.{◌-◌, ◌≤◌}
+use mathlib.Core.Path.{◌≡◌}
 use lib.ListN.{length, take, drop}
 use Rattle.octets.proofs.Pad.{copied}
 use Rattle.redirecting.specs.Limits.{redirects_most}
-use Rattle.redirecting.proofs.Keep.{oldest, last, turns_one, keeps}
-use Rattle.std.proofs.Common.{ℕ, ◌*◌, ◌<◌}
-use Rattle.octets.specs.Checks.{first_failed}
-use Rattle.redirecting.specs.Times.{kept, before_last, is_recent, how_many, time_checks, keeping}
+use Rattle.redirecting.proofs.Keep.{oldest}
 use Rattle.redirecting.proofs.times.keep_time.Given as goal
 
 abbrev pub invariant-loop-i : goal.invariant-loop-i
