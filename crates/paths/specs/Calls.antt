@@ -6,7 +6,7 @@
 --   start_checks     what a start is refused with; event_checks: a sample or a loss, by its path (`path_check`) and by its
 --                   milliseconds (`milliseconds_check`)
 --   started         a start with so many paths; sampled, lost: a round trip or a loss on one of them
-use Rattle.std.specs.Prelude.{ℕ, List, [], ◌∷◌, Bool, cond, ◌||◌, eqb, ltb, leb}
+use Rattle.std.specs.Prelude.{ℕ, List, [], ◌∷◌, cond, ◌||◌, eqb, ltb, leb}
 use Rattle.octets.specs.declared.number.Number.TheVariants.{NoSuchPath, TooManyMilliseconds}
 use Rattle.octets.specs.Checks.{Check, ◌gives◌, first_failed}
 use Rattle.paths.specs.Limits.{paths_most, milliseconds_most}

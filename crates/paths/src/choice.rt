@@ -15,6 +15,7 @@ pub struct PathChoice {
 
 // Whether a path takes the place of the best so far, if there is one: `heard` if a round trip was last heard on it.
 // Only a NaN differs from itself.
+#[tactic(auto, using(crate::proofs::Numbers::equals_itself))]
 pub fn is_better(found: bool, least: f64, heard: bool, smoothed: f64) -> bool
     ensures { result ≡ is_better (heard && not (is_nan smoothed)) found least smoothed }
 {
