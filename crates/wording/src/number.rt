@@ -4,13 +4,16 @@ ghost use Rattle.writing.specs.Notify.{placed};
 ghost use Rattle.wording.specs.Text.{decimal};
 ghost use Rattle.wording.specs.Puts.{Puts};
 
+// The least number of two digits.
+const TWO_DIGITS: u64 = 10;
+
 // Writes the digits of `n` at `at`, and returns the place after them.
 fn put_decimal(out: &mut [u8], at: usize, n: u64) -> usize
     requires { at + length (decimal n) ≤ length out.old }
     ensures value { result ≡ at + length (decimal n) }
     ensures out_after { out.new ≡ placed out.old at (decimal n) }
 {
-    if n < 10 {
+    if n < TWO_DIGITS {
         out[at] = 48 + (n as u8);
         return at + 1;
     }
