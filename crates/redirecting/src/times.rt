@@ -68,6 +68,7 @@ fn recent_count(record: Accepted, time: u64) -> usize
 }
 
 // The number that the times refuse with, 0 where they do not.
+#[tactic(auto, unfolding(crate::specs::Times::five_recent))]
 pub fn time_number(record: Accepted, time: u64) -> u8
     ensures { result ≡ first_failed (time_checks (kept «record») time) }
 {
