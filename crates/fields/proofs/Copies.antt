@@ -1,20 +1,19 @@
 -- The same fields so many times, as a list has them: whether they fit, and their octets. Assumes nothing.
-use Prim.Native.Nat.{ℕ, zero, suc, ◌+◌, ◌-◌, ◌*◌, ◌≤◌, ◌<◌}
-use mathlib.Core.Path.{◌≡◌, refl, sym, ◌∙◌, ap}
-use mathlib.Core.Bool.{Bool, true, false, cond, ◌&&◌}
+use Prim.Native.Nat.{ℕ, zero, suc, ◌+◌, ◌≤◌, ◌<◌}
+use mathlib.Core.Path.{◌≡◌, refl, sym, ap}
+use mathlib.Core.Bool.{Bool, true, false, ◌&&◌}
 use mathlib.Core.List.{List, [], ◌∷◌, ◌++◌, append_assoc, map}
-use native.Mathlib.Omega.{arith}
 use borrow.Author.Tests.{lt-leb, le-leb}
 use lib.Dec.{leb}
 use lib.ListN.{length, get_or, drop, length-append}
 use lib.Seq.{drop-drop}
 use Rattle.leb128.specs.Leb128.{octets_of}
-use Rattle.fields.specs.Fields.{Field, ◌then◌, in_order, list_of, Value, octets, each_of, list_most}
+use Rattle.fields.specs.Fields.{Field, in_order, list_of, octets, each_of, list_most}
 use Rattle.fields.specs.Slots.{width, items_in, all_in, value_in, fits_in}
 use Rattle.fields.specs.Codes.{field_of, table_of, follow, copies, run_from}
 use Rattle.fields.specs.Writing.{octets_in, less_by, room_in}
 use Rattle.fields.specs.declared.room.Room.{Room}
-use Rattle.fields.specs.declared.room.Room.TheVariants.{Left, Short, TooLarge}
+use Rattle.fields.specs.declared.room.Room.TheVariants.{TooLarge}
 use Rattle.fields.proofs.Lists.{run_copies}
 use Rattle.fields.proofs.Rooms.{first_slot, less_both}
 

@@ -5,17 +5,16 @@ use mathlib.Core.List.{List, [], ◌∷◌, ◌++◌, append_assoc, map}
 use native.Mathlib.Omega.{arith}
 use native.Mathlib.Nat.{mul-le-mul_right, suc-mul, zero-mul}
 use borrow.Author.Tests.{lt-ltb, le-ltb}
-use lib.ListN.{length, drop, set, replicate, length-set, length-append, length-map, length-replicate, drop_of_length-le}
+use lib.ListN.{length, set, replicate, length-set, length-replicate}
 use Rattle.writing.specs.Notify.{placed}
-use Rattle.writing.proofs.Placed.{placed_then, length-placed}
+use Rattle.writing.proofs.Placed.{placed_then}
 use Rattle.leb128.specs.Leb128.{decoded_at}
 use Rattle.leb128.specs.declared.Decoded.TheVariants.{Is, Bad}
 use Rattle.leb128.proofs.Placed.{placed_cons}
-use Rattle.fields.specs.Fields.{Field, none, ◌then◌, in_order, list_of, Value, list_most}
+use Rattle.fields.specs.Fields.{Field, in_order, list_of, Value, list_most}
 use Rattle.fields.specs.Slots.{width}
 use Rattle.fields.specs.Reading.{Reading, read, refused, behind, joined, times, listed, read_at, step_of, slots_of}
 use Rattle.fields.specs.Codes.{field_of, table_of, follow, copies, run_from, ReadsTo}
-use Rattle.fields.specs.declared.step.Step.{Step}
 use Rattle.fields.specs.declared.step.Step.TheVariants.{At, Refused}
 use Rattle.fields.specs.declared.refusal.Refusal.{Refusal}
 use Rattle.fields.specs.declared.refusal.Refusal.TheVariants.{Cut, TooLarge}
@@ -72,9 +71,9 @@ follow_like : (s : List ℕ) (rest : Field) (fs : List Field) (at : ℕ)
 unfolding read_at
 follow_like s rest [] at =
     record {
-      step = sym (behind_step alone tt [] (read_at rest s at));
+      step = sym (behind_step alone (tt {0}) [] (read_at rest s at));
       slots =
-          sym (behind_slots alone tt [] (read_at rest s at));
+          sym (behind_slots alone (tt {0}) [] (read_at rest s at));
     }
 follow_like s rest (f ∷ fs) at =
     three_like (λ a b. (a, b)) (λ a b. (a, b)) (read_at rest s) (read_at f s at) (read_at (follow fs rest) s)

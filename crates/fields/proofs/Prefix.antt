@@ -1,18 +1,18 @@
 -- Slots that fit tell the same with more behind them, and tell a value that fits. Assumes nothing.
-use Prim.Native.Nat.{ℕ, zero, suc, ◌+◌, ◌-◌, ◌*◌, ◌≤◌, ◌<◌}
-use mathlib.Core.Path.{◌≡◌, refl, sym, ◌∙◌, ap}
-use mathlib.Core.Bool.{Bool, true, false, ◌&&◌}
-use mathlib.Core.List.{List, [], ◌∷◌, ◌++◌}
+use Prim.Native.Nat.{ℕ, zero, suc, ◌+◌, ◌*◌, ◌≤◌}
+use mathlib.Core.Path.{◌≡◌, refl, ap}
+use mathlib.Core.Bool.{Bool, true}
+use mathlib.Core.List.{List, ◌++◌}
 use native.Mathlib.Omega.{arith}
 use native.Mathlib.Nat.{suc-mul, mul-le-mul_right}
-use borrow.Author.Tests.{leb-true, le-leb, eq-eqb}
-use lib.Dec.{leb, eqb}
+use borrow.Author.Tests.{leb-true, eq-eqb}
+use lib.Dec.{leb}
 use lib.ListN.{length, get_or, take, drop, length-drop, get_or-append}
 use lib.Seq.{drop-append-le, length-take-le}
 use Rattle.octets.specs.Limits.{address_octets}
 use Rattle.octets.specs.Lists.{all}
 use Rattle.octets.proofs.Small.{both, and_true}
-use Rattle.fields.specs.Fields.{Field, up_to, address, string, none, ◌then◌, list_of, Value, fits, string_most}
+use Rattle.fields.specs.Fields.{Field, up_to, address, string, none, ◌then◌, list_of, fits, string_most}
 use Rattle.fields.specs.Fields.{list_most}
 use Rattle.fields.specs.Slots.{width, items_in, all_in, value_in, fits_in}
 

@@ -1,8 +1,8 @@
 -- What writing a field needs and leaves, by its kind, and two parts one behind the other. Assumes nothing.
-use Prim.Native.Nat.{ℕ, suc, ◌+◌, ◌-◌, ◌≤◌, ◌<◌}
-use mathlib.Core.Path.{◌≡◌, refl, sym, ◌∙◌, ap}
-use mathlib.Core.Bool.{Bool, true, ◌&&◌}
-use mathlib.Core.List.{List, [], ◌∷◌, ◌++◌}
+use Prim.Native.Nat.{ℕ, ◌+◌, ◌≤◌}
+use mathlib.Core.Path.{◌≡◌, sym}
+use mathlib.Core.Bool.{true, ◌&&◌}
+use mathlib.Core.List.{List, [], ◌++◌}
 use native.Mathlib.Omega.{arith}
 use borrow.Author.Tests.{leb-true}
 use lib.Dec.{leb}
@@ -10,10 +10,9 @@ use lib.ListN.{length, get_or, take, drop, length-append}
 use lib.Seq.{drop-drop}
 use Rattle.octets.specs.Limits.{address_octets}
 use Rattle.octets.proofs.Small.{both}
-use Rattle.writing.specs.Notify.{placed}
 use Rattle.writing.proofs.Placed.{placed_none, placed_then, length-placed}
 use Rattle.leb128.specs.Leb128.{octets_of}
-use Rattle.fields.specs.Fields.{Field, up_to, address, string, none, ◌then◌, list_of, octets, string_most, list_most}
+use Rattle.fields.specs.Fields.{Field, up_to, address, string, ◌then◌, list_of, octets, string_most, list_most}
 use Rattle.fields.specs.Slots.{width, value_in, fits_in}
 use Rattle.fields.specs.Codes.{table_of, run_from, Ready, Puts}
 use Rattle.fields.specs.Writing.{octets_in}

@@ -1,7 +1,7 @@
 -- What reading a field leaves, by how it ends. Assumes nothing.
-use Prim.Native.Nat.{ℕ, suc, ◌+◌, ◌-◌, ◌≤◌, ◌<◌}
-use mathlib.Core.Path.{◌≡◌, refl, sym, ◌∙◌, ap}
-use mathlib.Core.List.{List, [], ◌∷◌, ◌++◌}
+use Prim.Native.Nat.{ℕ, ◌+◌, ◌-◌, ◌≤◌, ◌<◌}
+use mathlib.Core.Path.{◌≡◌, sym, ◌∙◌}
+use mathlib.Core.List.{List, [], ◌∷◌}
 use native.Mathlib.Omega.{arith}
 use borrow.Author.Tests.{lt-ltb, le-ltb}
 use lib.ListN.{length, take, drop, set, length-set}
@@ -9,11 +9,10 @@ use Rattle.octets.specs.Limits.{address_octets}
 use Rattle.writing.specs.Notify.{placed}
 use Rattle.writing.proofs.Placed.{placed_none}
 use Rattle.leb128.specs.Leb128.{decoded_at}
-use Rattle.leb128.specs.declared.Decoded.{Decoded}
 use Rattle.leb128.specs.declared.Decoded.TheVariants.{Is, Bad}
 use Rattle.leb128.proofs.Placed.{placed_one, placed_cons}
 use Rattle.fields.specs.Fields.{Field, up_to, address, string, Value, string_most}
-use Rattle.fields.specs.Reading.{Reading, read, refused, read_at}
+use Rattle.fields.specs.Reading.{read, refused, read_at}
 use Rattle.fields.specs.Codes.{ReadsTo}
 use Rattle.fields.specs.declared.step.Step.TheVariants.{At, Refused}
 use Rattle.fields.specs.declared.refusal.Refusal.{Refusal}

@@ -1,9 +1,9 @@
 -- What a field leaves of the room of an output, by what its slots tell, and two fields one behind the other. Assumes
 -- nothing.
-use Prim.Native.Nat.{ℕ, zero, suc, ◌+◌, ◌-◌, ◌≤◌, ◌<◌}
-use mathlib.Core.Path.{◌≡◌, refl, sym, ◌∙◌, ap}
-use mathlib.Core.Bool.{Bool, true, false, cond, ◌&&◌}
-use mathlib.Core.List.{List, [], ◌∷◌, ◌++◌}
+use Prim.Native.Nat.{ℕ, ◌+◌, ◌-◌, ◌≤◌, ◌<◌}
+use mathlib.Core.Path.{◌≡◌, refl, sym, ◌∙◌}
+use mathlib.Core.Bool.{Bool, true, false}
+use mathlib.Core.List.{List}
 use native.Mathlib.Omega.{arith}
 use native.Mathlib.Nat.{add-zero}
 use borrow.Author.Tests.{lt-ltb, le-ltb, ltb-true, ltb-false, lt-leb, le-leb, leb-true, leb-false}
@@ -12,9 +12,9 @@ use lib.ListN.{length, get_or, take, drop, length-append}
 use lib.Seq.{get_or-drop}
 use Rattle.octets.specs.Limits.{address_octets}
 use Rattle.leb128.specs.Leb128.{octets_of}
-use Rattle.fields.specs.Fields.{Field, up_to, address, string, none, ◌then◌, Value, octets, string_most}
+use Rattle.fields.specs.Fields.{Field, up_to, address, string, none, ◌then◌, octets, string_most}
 use Rattle.fields.specs.Slots.{width, value_in, fits_in}
-use Rattle.fields.specs.Writing.{octets_in, less_by, room_in}
+use Rattle.fields.specs.Writing.{less_by, room_in}
 use Rattle.fields.specs.declared.room.Room.{Room}
 use Rattle.fields.specs.declared.room.Room.TheVariants.{Left, Short, TooLarge}
 use Rattle.fields.proofs.Prefix.{part_length}

@@ -1,18 +1,18 @@
 -- A table of fields, step by step, and what reading two parts leaves. Assumes nothing.
-use Prim.Native.Nat.{ℕ, zero, suc, ◌+◌, ◌-◌, ◌*◌, ◌≤◌, ◌<◌}
+use Prim.Native.Nat.{ℕ, suc, ◌+◌, ◌-◌, ◌*◌, ◌≤◌, ◌<◌}
 use mathlib.Core.Path.{◌≡◌, refl, sym, ◌∙◌, ap}
 use mathlib.Core.List.{List, [], ◌∷◌, ◌++◌, map}
 use native.Mathlib.Omega.{arith}
 use native.Mathlib.Numerals.{add-one}
 use native.Mathlib.Nat.{suc-mul}
-use lib.ListN.{length, get_or, drop, length-append, length-map, drop_of_length-le, get_or-map}
+use lib.ListN.{length, get_or, drop, length-map, drop_of_length-le, get_or-map}
 use lib.Seq.{drop-cons}
 use Rattle.writing.specs.Notify.{placed}
 use Rattle.writing.proofs.Placed.{placed_none, placed_then}
-use Rattle.fields.specs.Fields.{Field, up_to, none, ◌then◌, in_order, Value}
+use Rattle.fields.specs.Fields.{Field, none, ◌then◌, in_order, Value}
 use Rattle.fields.specs.Slots.{width}
 use Rattle.fields.specs.Reading.{Reading, read, refused, behind, joined, read_at, step_of, slots_of}
-use Rattle.fields.specs.Codes.{field_of, table_of, follow, copies, run_from, Within, ReadsTo}
+use Rattle.fields.specs.Codes.{field_of, table_of, follow, copies, run_from, ReadsTo}
 use Rattle.fields.specs.declared.step.Step.{Step}
 use Rattle.fields.specs.declared.step.Step.TheVariants.{At, Refused}
 use Rattle.fields.specs.declared.refusal.Refusal.{Refusal}

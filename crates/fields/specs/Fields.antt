@@ -9,7 +9,7 @@
 --   address      16 octets                       bare
 --   string       length, octets                  at most 4,096 octets
 --   list_of f     count, f, f, ...                at most 16 of them
-use Rattle.std.specs.Prelude.{ℕ, ◌+◌, ◌-◌, ◌^◌, Bool, true, ◌&&◌, List, [], ◌∷◌, ◌++◌, leb, eqb, length}
+use Rattle.std.specs.Prelude.{ℕ, ◌-◌, ◌^◌, Bool, true, ◌&&◌, List, [], ◌∷◌, ◌++◌, leb, eqb, length}
 use Rattle.octets.specs.Limits.{address_octets}
 use Rattle.octets.specs.Lists.{all}
 use Rattle.leb128.specs.Leb128.{octets_of}

@@ -4,7 +4,7 @@
 --   refused why slots      Cut (20) or TooLarge (22), and what was told of the fields before
 --   step_of, slots_of        what is told of a reading: the offset after it or why it is refused, and the slots
 -- Order of the checks: a number, length or count: 20, then 22; then the octets or the items behind it: 20.
-use Rattle.std.specs.Prelude.{ℕ, zero, suc, ◌+◌, ◌-◌, ◌*◌, Bool, cond, List, [], ◌∷◌, ◌++◌, ltb, length, take, drop, replicate}
+use Rattle.std.specs.Prelude.{ℕ, zero, suc, ◌+◌, ◌-◌, ◌*◌, cond, List, [], ◌∷◌, ◌++◌, ltb, length, take, drop, replicate}
 use Rattle.octets.specs.Limits.{address_octets}
 use Rattle.leb128.specs.Leb128.{decoded_at}
 use Rattle.leb128.specs.declared.Decoded.{Decoded}
