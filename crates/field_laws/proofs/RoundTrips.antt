@@ -1,7 +1,6 @@
 -- The round trips of every field, as `specs/RoundTrips.antt` states them. Assumes nothing.
-use mathlib.Core.Path.{◌≡◌, sym, ◌∙◌}
-use Rattle.fields.specs.Fields.{Field}
-use Rattle.field_laws.specs.RoundTrips.{Narrow, RoundTrips, EachField}
+use mathlib.Core.Path.{sym, ◌∙◌}
+use Rattle.field_laws.specs.RoundTrips.{EachField}
 use Rattle.field_laws.proofs.Parts.{not_read}
 use Rattle.fields.proofs.Prefix.{told_fits}
 use Rattle.field_laws.proofs.Told.{told}

@@ -1,18 +1,18 @@
 -- What octets that come later leave of a reading. Assumes nothing.
-use Prim.Native.Nat.{ℕ, zero, suc, ◌+◌, ◌-◌, ◌*◌, ◌/◌, ◌%◌, ◌≤◌, ◌<◌, max}
-use mathlib.Core.Path.{◌≡◌, refl, sym, ◌∙◌, ap, subst}
-use mathlib.Core.Bool.{Bool, true, false, cond, ◌&&◌}
+use Prim.Native.Nat.{ℕ, zero, suc, ◌+◌, ◌-◌, ◌*◌, ◌/◌, ◌≤◌}
+use mathlib.Core.Path.{◌≡◌, refl, sym, ◌∙◌, ap}
+use mathlib.Core.Bool.{Bool, true, false, cond}
 use mathlib.Core.List.{List, [], ◌∷◌, ◌++◌}
 use native.Mathlib.Omega.{arith}
 use native.Mathlib.Nat.{le-max_left, le-max_right, max-le, mul-le-mul, suc-mul, zero-mul}
-use borrow.Author.Tests.{le-ltb, lt-ltb, ltb-true, ltb-false, leb-true, eqb-true}
-use lib.Dec.{ltb, leb, eqb}
+use borrow.Author.Tests.{le-ltb, ltb-true, ltb-false, leb-true, eqb-true}
+use lib.Dec.{ltb, leb}
 use lib.ListN.{length, get_or, take, drop, length-append, length-drop}
 use lib.Seq.{drop-append-le, take-append-le, get_or-drop}
 use Rattle.octets.specs.Limits.{address_octets}
 use Rattle.octets.specs.Lists.{all}
 use Rattle.octets.proofs.Small.{both}
-use Rattle.leb128.specs.Leb128.{decoded, decoded_at, groups, octets_of, groups_most}
+use Rattle.leb128.specs.Leb128.{decoded_at, groups, octets_of, groups_most}
 use Rattle.leb128.specs.RoundTrips.{Octets}
 use Rattle.leb128.specs.declared.Decoded.{Decoded}
 use Rattle.leb128.specs.declared.Decoded.TheVariants.{Is, Bad}
@@ -23,9 +23,8 @@ use Rattle.fields.specs.Fields.{string_most, list_most}
 use Rattle.fields.specs.Reading.{Reading, read, refused, behind, joined, times, limited, part_at, listed, read_at}
 use Rattle.field_laws.specs.Sight.{longest, items_sight, sight, Final, Decided}
 use Rattle.fields.specs.Slots.{width}
-use Rattle.fields.specs.declared.refusal.Refusal.{Refusal}
 use Rattle.fields.specs.declared.refusal.Refusal.TheVariants.{Cut, UnknownKind, TooLarge}
-use Rattle.field_laws.proofs.Told.{Number, number_is, told}
+use Rattle.field_laws.proofs.Told.{number_is, told}
 
 -- ---- how long a value is that fits
 groups_more : (k v m : ℕ) → v ≤ m → length (groups k v) ≤ length (groups k m)

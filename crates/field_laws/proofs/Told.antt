@@ -1,29 +1,28 @@
 -- What was read is written so again, and its slots tell it. Assumes nothing.
 use Prim.Native.Nat.{ℕ, zero, suc, ◌+◌, ◌-◌, ◌*◌, ◌^◌, ◌≤◌, ◌<◌}
 use mathlib.Core.Path.{◌≡◌, refl, sym, ◌∙◌, ap}
-use mathlib.Core.Bool.{Bool, true, false, cond, ◌&&◌}
+use mathlib.Core.Bool.{true}
 use mathlib.Core.List.{List, [], ◌∷◌, ◌++◌, append_assoc}
 use native.Mathlib.Omega.{arith}
-use native.Mathlib.Nat.{add_assoc, add-zero, zero-mul, suc-mul, mul-le-mul_right}
+use native.Mathlib.Nat.{add-zero, zero-mul, suc-mul, mul-le-mul_right}
 use borrow.Author.Tests.{le-leb, eq-eqb}
-use lib.Dec.{leb, eqb}
-use lib.ListN.{length, get_or, take, drop, replicate, length-append, length-drop, length-replicate, take-append-drop}
+use lib.ListN.{length, take, drop, replicate, length-append, length-drop, length-replicate, take-append-drop}
 use lib.Seq.{drop-drop, drop_at, length-take-le}
 use Rattle.octets.specs.Limits.{address_octets}
 use Rattle.octets.specs.Lists.{all}
-use Rattle.octets.proofs.Small.{both, and_true}
+use Rattle.octets.proofs.Small.{and_true}
 use Rattle.leb128.specs.Leb128.{decoded_at, octets_of}
 use Rattle.leb128.specs.RoundTrips.{Octets}
-use Rattle.leb128.specs.declared.Decoded.TheVariants.{Is, Bad}
+use Rattle.leb128.specs.declared.Decoded.TheVariants.{Is}
 use Rattle.leb128.proofs.RoundTrip.{round_trips}
 use Rattle.leb128.proofs.Stable.{within}
 use Rattle.fields.specs.Fields.{Field, up_to, address, string, none, ◌then◌, list_of, Value, fits, octets, each_of}
 use Rattle.fields.specs.Fields.{string_most, list_most}
-use Rattle.fields.specs.Reading.{Reading, read, refused, joined, times, limited, part_at, listed, read_at}
+use Rattle.fields.specs.Reading.{read, times, part_at, listed, read_at}
 use Rattle.field_laws.specs.RoundTrips.{Told}
 use Rattle.fields.specs.Slots.{width, items_in, all_in, value_in, fits_in}
 use Rattle.field_laws.proofs.Parts.{tail_octets, joined_is, limited_is, part_is, listed_is}
-use Rattle.fields.proofs.Prefix.{Same, same, items_same}
+use Rattle.fields.proofs.Prefix.{same, items_same}
 
 -- ---- a number that was read
 pub record Number (s : List ℕ) (at n next : ℕ) : Type 0 where

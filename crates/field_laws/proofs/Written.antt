@@ -1,23 +1,23 @@
 -- What was written is read back, for every field. Assumes nothing.
-use Prim.Native.Nat.{ℕ, zero, suc, ◌+◌, ◌-◌, ◌*◌, ◌^◌, ◌≤◌, ◌<◌}
+use Prim.Native.Nat.{ℕ, ◌+◌, ◌-◌, ◌*◌, ◌^◌, ◌≤◌, ◌<◌}
 use mathlib.Core.Path.{◌≡◌, refl, sym, ◌∙◌, ap}
-use mathlib.Core.Bool.{Bool, true, false, cond, ◌&&◌}
+use mathlib.Core.Bool.{Bool, true}
 use mathlib.Core.List.{List, [], ◌∷◌, ◌++◌, append_assoc}
 use native.Mathlib.Omega.{arith}
 use native.Mathlib.Nat.{add_assoc, add-zero}
 use borrow.Author.Tests.{le-ltb, leb-true, eqb-true}
-use lib.Dec.{ltb, leb, eqb}
-use lib.ListN.{length, get_or, take, drop, replicate, length-append, length-drop}
-use lib.Seq.{take_at, take-append_seam}
+use lib.Dec.{leb}
+use lib.ListN.{length, drop, replicate, length-append, length-drop}
+use lib.Seq.{take_at}
 use Rattle.octets.specs.Limits.{address_octets}
 use Rattle.octets.specs.Lists.{all}
 use Rattle.octets.proofs.Small.{both}
 use Rattle.leb128.specs.Leb128.{decoded_at, octets_of}
-use Rattle.leb128.specs.declared.Decoded.TheVariants.{Is, Bad}
+use Rattle.leb128.specs.declared.Decoded.TheVariants.{Is}
 use Rattle.leb128.proofs.RoundTrip.{round_trips}
 use Rattle.fields.specs.Fields.{Field, up_to, address, string, none, ◌then◌, list_of, Value, fits, octets, each_of}
 use Rattle.fields.specs.Fields.{string_most, list_most}
-use Rattle.fields.specs.Reading.{Reading, read, refused, joined, times, limited, part_at, listed, read_at}
+use Rattle.fields.specs.Reading.{Reading, read, times, part_at, read_at}
 use Rattle.field_laws.specs.RoundTrips.{Narrow, Reads}
 use Rattle.fields.specs.Slots.{width}
 use Rattle.field_laws.proofs.Parts.{moved}

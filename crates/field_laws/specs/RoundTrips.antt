@@ -6,7 +6,7 @@
 use Rattle.std.specs.Prelude.{ℕ, ◌+◌, ◌^◌, ◌<◌, ◌≡◌, true, List, ◌++◌, length, drop}
 use Rattle.leb128.specs.RoundTrips.{Octets}
 use Rattle.fields.specs.Fields.{Field, up_to, address, string, none, ◌then◌, list_of, Value, fits, octets}
-use Rattle.fields.specs.Reading.{Reading, read, refused, read_at}
+use Rattle.fields.specs.Reading.{read, refused, read_at}
 use Rattle.fields.specs.Slots.{width, value_in, fits_in}
 use Rattle.fields.specs.declared.refusal.Refusal.{Refusal}
 

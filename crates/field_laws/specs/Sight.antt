@@ -9,7 +9,6 @@ use Rattle.leb128.specs.Leb128.{octets_of, groups_most}
 use Rattle.leb128.specs.RoundTrips.{Octets}
 use Rattle.fields.specs.Fields.{Field, up_to, address, string, none, ◌then◌, list_of, string_most, list_most}
 use Rattle.fields.specs.Reading.{Reading, read, refused, read_at}
-use Rattle.field_laws.specs.RoundTrips.{Narrow}
 use Rattle.fields.specs.declared.refusal.Refusal.TheVariants.{Cut, UnknownKind, TooLarge}
 
 abbrev pub longest : Field → ℕ
