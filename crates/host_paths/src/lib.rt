@@ -15,8 +15,7 @@ use paths::path::{lost_path, sampled_path};
 use paths::refusal::{event_number, start_number};
 
 // Starts with so many paths and forgets what was kept before; a number over 8 is refused.
-#[unsafe(no_mangle)]
-pub extern "C" fn unmavreth_start_paths(
+pub fn unmavreth_start_paths(
     count: &mut u32,
     event: &mut [u8; PATHS_MOST],
     sampled: &mut [u8; PATHS_MOST],
@@ -45,8 +44,7 @@ pub extern "C" fn unmavreth_start_paths(
 }
 
 // Takes a round trip of so many milliseconds on a path.
-#[unsafe(no_mangle)]
-pub extern "C" fn unmavreth_take_sample(
+pub fn unmavreth_take_sample(
     count: u32,
     event: &mut [u8; PATHS_MOST],
     sampled: &mut [u8; PATHS_MOST],
@@ -86,8 +84,7 @@ pub extern "C" fn unmavreth_take_sample(
 
 // Takes a loss on a path, noticed after so many milliseconds: neither whether a round trip was ever taken nor the two
 // numbers change.
-#[unsafe(no_mangle)]
-pub extern "C" fn unmavreth_take_loss(
+pub fn unmavreth_take_loss(
     count: u32,
     event: &mut [u8; PATHS_MOST],
     sampled: &mut [u8; PATHS_MOST],
@@ -123,8 +120,7 @@ pub extern "C" fn unmavreth_take_loss(
 }
 
 // Chooses the path that is quickest now.
-#[unsafe(no_mangle)]
-pub extern "C" fn unmavreth_choose_path(
+pub fn unmavreth_choose_path(
     count: u32,
     event: &[u8; PATHS_MOST],
     smoothed: &[f64; PATHS_MOST],
