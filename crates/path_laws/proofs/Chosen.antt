@@ -2,9 +2,9 @@
 -- `choice` is given exactly where it is due. Assumes nothing.
 use Prim.Native.Nat.{ℕ, zero, suc, ◌≤◌, ◌<◌}
 use mathlib.Core.Path.{◌≡◌, refl, sym, ◌∙◌, ap, subst}
-use mathlib.Core.Bool.{Bool, true, false, cond, not, ◌&&◌, true≢false, false≢true}
+use mathlib.Core.Bool.{Bool, true, false, cond, not, true≢false}
 use native.Mathlib.Omega.{arith}
-use borrow.Author.Tests.{not-true, lt-ltb, le-ltb, ltb-true, ltb-false, eqb-true, eqb-false}
+use borrow.Author.Tests.{not-true, ltb-true, ltb-false, eqb-true, eqb-false}
 use lib.Dec.{ltb, eqb}
 use lib.Ieee.{Float, lt, le, is_nan}
 use Rattle.octets.specs.declared.number.Number.TheVariants.{Done, NoSuchPath, NoPathQualifies}
@@ -12,9 +12,8 @@ use Rattle.octets.specs.Numbers.{number_of}
 use Rattle.octets.proofs.Small.{both}
 use Rattle.paths.specs.Limits.{paths_most}
 use Rattle.paths.specs.Calls.{Paths}
-use Rattle.paths.specs.Choice.{is_round_trip, qualifies, Best, best, better_of, best_of, told, pick, choice}
+use Rattle.paths.specs.Choice.{is_round_trip, qualifies, Best, better_of, best_of, told, pick, choice}
 use Rattle.paths.specs.declared.path.Path.{Path}
-use Rattle.paths.specs.declared.choice.PathChoice.{PathChoice}
 use Rattle.path_laws.specs.Chosen.{IsChosen, NoneQualifies, Chooses}
 use Rattle.path_laws.proofs.FloatOrder.{lt_cotrans, not_lt_le, le_not_lt, lt_le, le_itself}
 

@@ -3,12 +3,11 @@
 -- what is no NaN. Assumes nothing.
 use Prim.Native.Nat.{ℕ, ◌+◌, ◌*◌, ◌≤◌, ◌<◌}
 use mathlib.Core.Path.{◌≡◌, refl, sym, ◌∙◌}
-use mathlib.Core.Bool.{Bool, true, false, not, ◌&&◌, ◌||◌, true≢false, false≢true}
+use mathlib.Core.Bool.{Bool, true, false, ◌||◌, true≢false, false≢true}
 use native.Mathlib.Nat.{mul-pos, le_of_lt}
 use native.Mathlib.Omega.{arith}
 use borrow.Author.Tests.{ltb-true, ltb-false, lt-ltb, le-ltb, eqb-true, eq-eqb}
 use lib.Dec.{ltb, eqb}
-use lib.IntN.{ℤ}
 use lib.Ieee.{Float, nan, inf, fin, lt, eq, le, is_nan, below, level, up, down}
 use lib.Ieee.Fits.{down_pos}
 use lib.Ieee.Positive.{through, first_pos}
