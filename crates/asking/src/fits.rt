@@ -68,6 +68,7 @@ pub fn addresses_fit(
 }
 
 // Whether a cookie of n octets may be sent; 0 octets mean that none is.
+#[tactic(auto, unfolding(crate::specs::Fits::cookie_fits))]
 pub fn cookie_fits(n: usize) -> bool
     ensures { result ≡ cookie_fits n }
 {
@@ -80,6 +81,7 @@ pub fn cookie_fits(n: usize) -> bool
     n <= COOKIE_MOST
 }
 
+#[tactic(auto, unfolding(crate::specs::Fits::request_fits))]
 pub fn request_fits(
     ask: Ask,
     pair: Pair,

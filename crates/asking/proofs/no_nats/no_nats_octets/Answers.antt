@@ -1,0 +1,19 @@
+-- `asking::no_nats::no_nats_octets` meets its contract: three parts copied one behind the other.
+-- Assumes nothing.
+use Rattle.std.proofs.Common.{◌≡◌, ◌≤◌, length, arith, rules}
+use Rattle.octets.specs.Limits.{address_octets}
+use Rattle.octets.proofs.Mapped.{unmapped}
+use Rattle.address.proofs.Width.{width_small}
+use Rattle.asking.proofs.NoNats.{copied}
+use Rattle.asking.proofs.no_nats.no_nats_octets.Goals as goal
+
+pub returns : goal.returns
+returns c =
+    let p = c.args.pair in
+    let width = c.width_of-width.result in
+    let s : length p.source ≡ address_octets = search (rules, unmapped) in
+    let d : length p.destination ≡ address_octets = search (rules, unmapped) in
+    let w : width ≤ address_octets = omega (arith, width_small p.family) in
+    rw (← c.width_of-width.ensures)
+    (copied width p.source p.destination s d w c.copy_octets.ensures c.copy_octets-2.ensures p.source_port
+    p.destination_port c.copy_octets-3.new.out c.copy_octets-3.ensures)
