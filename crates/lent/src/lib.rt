@@ -1,2 +1,3 @@
-// The calls on lent tables that several walks make, each as one step; no code.
+// No code and no laws: a call on a lent table is a step of the borrow checker's own proof of each function, which goes
+// by the callee's contract.
 #![tactic(auto)]

@@ -1,9 +1,3 @@
--- What walks of compiled code share.
-pub mod Arrays
-pub mod Calls
-pub mod Kit
-pub mod Loans
+-- What loops over a list make of it, and what a test chooses.
+pub mod Choices
 pub mod Upto
-pub mod Walk
-pub mod Whole
-pub mod Locals

@@ -1,9 +1,5 @@
--- A list whose first i elements have been replaced by f of them: what a loop over a slice has made of it after i turns. And the loop's variant: i, at most the length, ordered by what is left.
--- Assumes nothing.
-use Rattle.walks.proofs.Kit.{◌≡◌, refl, sym, ap, ◌∙◌, subst, true, false, List, [], ◌∷◌, map, WellFounded, InvImage·wf, ℕ, zero, suc, ◌+◌, ◌-◌, ◌≤◌, ◌<◌, add-one-le, Nat·lt-wfRel, ltb, ltb→lt, nltb→le, length, set, get_or}
-use Rattle.walks.proofs.Walk.{tested as outcome}
-use native.Mathlib.Nat.{not-suc-le-zero, le_of_suc-le-suc, le_antisymm}
-use native.Mathlib.Numerals.{add-one}
+-- A list whose first i elements have been replaced by f of them: what a loop over a slice has made of it after i turns.
+use Rattle.std.proofs.Common.{◌≡◌, refl, sym, ap, ◌∙◌, subst, List, [], ◌∷◌, map, ℕ, zero, suc, ◌+◌, ◌<◌, add-one, length, set, get_or, arith}
 
 module _ {X : Type 0} (f : X → X) where
   abbrev pub upto : ℕ → List X → List X
@@ -20,9 +16,9 @@ module _ {X : Type 0} (f : X → X) where
   upto_within i xs = subst (λ (m : ℕ). i < m) (sym (length-upto i xs))
 
   upto_step : (d : X) (i : ℕ) (xs : List X) → i < length xs → set (upto i xs) i (f (get_or (upto i xs) i d)) ≡ upto (suc i) xs
-  upto_step d i [] l = absurd (not-suc-le-zero l)
+  upto_step d i [] l = absurd (omega arith)
   upto_step d zero (x ∷ xs) l = refl
-  upto_step d (suc i) (x ∷ xs) l = ap (λ (ys : List X). f x ∷ ys) (upto_step d i xs (le_of_suc-le-suc l))
+  upto_step d (suc i) (x ∷ xs) l = ap (λ (ys : List X). f x ∷ ys) (upto_step d i xs (omega arith))
 
   -- one more
   pub upto_more : (d : X) (i : ℕ) (xs : List X) → i < length xs → set (upto i xs) i (f (get_or (upto i xs) i d)) ≡ upto (i + 1) xs
@@ -35,20 +31,3 @@ module _ {X : Type 0} (f : X → X) where
   -- all of them
   pub upto_end : (i : ℕ) (xs : List X) → i ≡ length xs → upto i xs ≡ map f xs
   upto_end i xs e = ap (λ (k : ℕ). upto k xs) e ∙ upto_all xs
-
-module _ (m : ℕ) where
-  abbrev pub Upto : Type 0
-  Upto = (i : ℕ) × (i ≤ m)
-
-  abbrev pub Nearer : Upto → Upto → Type 0
-  Nearer j i = m - j.0 < m - i.0
-
-  pub nearer_wf : WellFounded Nearer
-  nearer_wf = InvImage·wf (λ (i : Upto). m - i.0) Nat·lt-wfRel.wf
-
-  abbrev pub after : (i : Upto) → i.0 < m → Upto
-  after i l = (i.0 + 1, add-one-le l)
-
-  -- the outcome of the loop's test, as an equation
-  pub tested : (i : Upto) {X : Type 1} → (i.0 < m → ltb i.0 m ≡ true → X) → (i.0 ≡ m → ltb i.0 m ≡ false → X) → X
-  tested i h₁ h₂ = outcome (ltb i.0 m) (λ y. h₁ (ltb→lt i.0 m y)) (λ n. h₂ (le_antisymm i.1 (nltb→le i.0 m n)))

@@ -1,2 +1,2 @@
-// Steps that proofs by hand share, as walks of compiled code; no code.
+// Laws of values that proofs of the crates above share: lists, and what a test chooses; no code.
 #![tactic(auto)]
