@@ -1,2 +1,2 @@
--- Laws that belong to no one function.
-pub mod Each
+-- Laws of one record.
+pub mod Stays

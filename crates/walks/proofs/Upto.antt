@@ -1,5 +1,6 @@
 -- A list whose first i elements have been replaced by f of them: what a loop over a slice has made of it after i turns.
-use Rattle.std.proofs.Common.{◌≡◌, refl, sym, ap, ◌∙◌, subst, List, [], ◌∷◌, map, ℕ, zero, suc, ◌+◌, ◌<◌, add-one, length, set, get_or, arith}
+use Rattle.std.proofs.Common.{◌≡◌, refl, sym, ap, ◌∙◌, subst, List, [], ◌∷◌, map, ℕ, zero, suc, ◌+◌, ◌<◌, ◌≤◌, add-one, length, set, get_or, arith}
+use Rattle.std.proofs.lemmas.List.{set-get_or}
 
 module _ {X : Type 0} (f : X → X) where
   abbrev pub upto : ℕ → List X → List X
@@ -24,6 +25,16 @@ module _ {X : Type 0} (f : X → X) where
   pub upto_more : (d : X) (i : ℕ) (xs : List X) → i < length xs → set (upto i xs) i (f (get_or (upto i xs) i d)) ≡ upto (i + 1) xs
   upto_more d i xs l = upto_step d i xs l ∙ ap (λ (k : ℕ). upto k xs) (sym (add-one i))
 
+  -- one turn of the loop: what stands at i is replaced, or is what f makes of it already
+  pub upto_turn : (d : X) (i : ℕ) (xs out : List X) (y : X) → i < length xs → out ≡ upto i xs → y ≡ f (get_or out i d)
+      → set out i y ≡ upto (i + 1) xs
+  upto_turn d i xs out y l e m = rw (m, e) (upto_more d i xs l)
+
+  pub upto_kept : (d : X) (i : ℕ) (xs out : List X) → i < length xs → out ≡ upto i xs → f (get_or out i d) ≡ get_or out i d
+      → out ≡ upto (i + 1) xs
+  upto_kept d i xs out l e m =
+      sym (set-get_or out i d) ∙ upto_turn d i xs out (get_or out i d) l e (sym m)
+
   upto_all : (xs : List X) → upto (length xs) xs ≡ map f xs
   upto_all [] = refl
   upto_all (x ∷ xs) = ap (λ (ys : List X). f x ∷ ys) (upto_all xs)
@@ -31,3 +42,7 @@ module _ {X : Type 0} (f : X → X) where
   -- all of them
   pub upto_end : (i : ℕ) (xs : List X) → i ≡ length xs → upto i xs ≡ map f xs
   upto_end i xs e = ap (λ (k : ℕ). upto k xs) e ∙ upto_all xs
+
+  -- the loop's end: it has come to the length, or past it
+  pub upto_done : (i : ℕ) (xs out : List X) → out ≡ upto i xs → i ≤ length out → length out ≤ i → out ≡ map f xs
+  upto_done i xs out e l h = e ∙ upto_end i xs (let k : length out ≡ length xs = ap length e ∙ length-upto i xs in omega arith)
