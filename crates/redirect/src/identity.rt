@@ -8,6 +8,7 @@ use crate::wire::{
 use octets::limits::{IP4_OCTETS, IP6_OCTETS};
 
 // Whether an identity of this type may have this size; `named` says whether a name (FQDN) may stand there.
+#[tactic(auto, unfolding(crate::specs::Identity::identity_fits))]
 pub fn identity_fits(named: bool, identity_type: u8, size: usize) -> bool
     ensures { result ≡ identity_fits named identity_type size }
 {
@@ -26,6 +27,7 @@ pub fn identity_fits(named: bool, identity_type: u8, size: usize) -> bool
 }
 
 // Whether a nonce may have this size.
+#[tactic(auto, unfolding(crate::specs::Identity::nonce_fits))]
 pub fn nonce_fits(size: usize) -> bool
     ensures { result ≡ nonce_fits size }
 {
@@ -33,6 +35,7 @@ pub fn nonce_fits(size: usize) -> bool
 }
 
 // Whether a nonce to write may have this size, where 0 is none.
+#[tactic(auto, unfolding(crate::specs::Identity::no_nonce_or))]
 pub fn no_nonce_or(size: usize) -> bool
     ensures { result ≡ no_nonce_or size }
 {
