@@ -63,6 +63,7 @@ pub fn lengths_fit(rule: Rule) -> bool
 }
 
 // Whether a rule accepts a pair: one rule must match both addresses.
+#[tactic(auto, unfolding(crate::specs::Policy::rule_matches))]
 pub fn rule_matches(rule: Rule, pair: Pair) -> bool
     ensures { result ≡ rule_matches rule pair }
 {
@@ -159,6 +160,7 @@ pub fn policy_number(n: usize, rules: [Rule; RULES_MOST], operator: u8) -> Numbe
 }
 
 // Sets an operator's whole policy, or refuses.
+#[tactic(auto, unfolding(crate::specs::Change::policy_setting))]
 pub fn set_policy(count: u16, rules: [Rule; RULES_MOST], operator: u8) -> PolicyChange
     ensures { result ≡ policy_setting count rules operator }
 {
