@@ -64,6 +64,7 @@ pub fn none_noted(state: &mut State) -> bool
 }
 
 // One additional address more, its data at `at`, unless there was NO_ADDITIONAL_ADDRESSES. Whether there was.
+#[tactic(auto, using(findings::proofs::Stored::address_kept, findings::proofs::Stored::address_left_off))]
 pub fn address_noted(state: &mut State, family: u8, at: u16) -> bool
     requires { (length state.old ≡ state_size) × (get_or state.old count_slot 0 ≤ body_most) }
     ensures { let before = state.old in
@@ -85,6 +86,7 @@ pub fn address_noted(state: &mut State, family: u8, at: u16) -> bool
 }
 
 // One notification more of a kind that is tallied as unknown.
+#[tactic(auto, using(findings::proofs::Stored::status_tallied, findings::proofs::Stored::first_tallied, findings::proofs::Stored::later_tallied))]
 pub fn unknown_noted(state: &mut State, kind: NotifyKind, notify_type: u16)
     requires { (length state.old ≡ state_size)
         × (get_or state.old unknown_notifies_slot 0 ≤ body_most) × (get_or state.old errors_slot 0 ≤ body_most) }
