@@ -51,6 +51,7 @@ fn nonce_size(data: &[u8]) -> usize
 }
 
 // Whether the data of a REDIRECT is malformed.
+#[tactic(auto, unfolding(redirect::specs::Read::redirect_malformed))]
 pub fn redirect_malformed(data: &[u8]) -> bool
     ensures { result ≡ redirect_malformed «data».now }
 {
@@ -58,6 +59,7 @@ pub fn redirect_malformed(data: &[u8]) -> bool
 }
 
 // Whether the data of a REDIRECTED_FROM is malformed.
+#[tactic(auto, unfolding(redirect::specs::Read::from_malformed))]
 pub fn from_malformed(data: &[u8]) -> bool
     ensures { result ≡ from_malformed «data».now }
 {
