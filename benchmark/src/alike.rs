@@ -1,10 +1,7 @@
 // Tests that the lean baseline tells the same as the library on far more inputs than the rows'.
-use crate::job::{
-    draft, quickening, Asking, Checking, Cloning, Deciding, Handling, Job, OpeningBoth, Sampling,
-};
+use crate::job::{draft, Asking, Checking, Cloning, Deciding, Handling, Job, OpeningBoth};
 use crate::rows;
 use crate::side::Side;
-use unmavreth::paths::Paths;
 use unmavreth::{Address, Draft, Flag, IpsecRecord, Operator, Pair, Rule};
 
 /// What the library and the lean baseline tell must be the same, a check bit by bit too.
@@ -331,43 +328,6 @@ fn of_redirects() {
                 changed.record.count = count;
                 changed.data.truncate(length);
                 alike(&Job::Decide(Box::new(changed)));
-            }
-        }
-    }
-}
-
-/// Long runs on every path, with every ordinal, count and round trip around the bounds.
-#[test]
-fn of_samples() {
-    for (ordinal, count) in (0..=9).flat_map(|of| [0, 1, 7, 8, 9, u32::MAX].map(|at| (of, at))) {
-        for round_trip in [0, 1, 101, 59999, 60000, 60001, u32::MAX] {
-            let mut of = Sampling { ordinal, round_trip, ..Sampling::on_last() };
-            of.paths.count = count;
-            alike(&Job::Sample(Box::new(of)));
-        }
-    }
-    let mut of = Sampling { paths: Paths::NONE, ordinal: 0, round_trip: 0 };
-    of.paths.start(8).expect("eight paths");
-    for turn in 0..20_000u32 {
-        (of.ordinal, of.round_trip) = (turn % 8, turn.wrapping_mul(turn + 40_507) % 60_001);
-        alike(&Job::Sample(Box::new(Sampling { ..of })));
-        of.paths.sample(of.ordinal, of.round_trip).expect("a path");
-        alike(&Job::Choose(Box::new(of.paths)));
-    }
-}
-
-/// Every event of every path, counts around the bound, ties, and numbers that no start leads to.
-#[test]
-fn of_choices() {
-    let numbers = [0.0, -0.0, 1.0, -1.0, 60000.0, f64::INFINITY, -f64::INFINITY, f64::NAN];
-    for [one, other, third] in triples(8).map(|of| of.map(|at| numbers[at])) {
-        for (at, event) in (0..8).flat_map(|at| [0, 1, 2, 3, 255].map(|event| (at, event))) {
-            let mut paths = quickening();
-            (paths.event[at], paths.smoothed[at]) = (event, one);
-            (paths.smoothed[(at + 3) % 8], paths.smoothed[(at + 6) % 8]) = (other, third);
-            for count in [0, 1, 5, 8, 9, u32::MAX] {
-                paths.count = count;
-                alike(&Job::Choose(Box::new(paths)));
             }
         }
     }

@@ -1,12 +1,11 @@
 // A row's call on the lean baseline: once uncounted, once counted on state of its own.
 use crate::chains::COOKIE;
 use crate::counted::*;
-use crate::job::{Checking, Cloning, Deciding, Handling, Job, OpeningBoth, Sampling};
+use crate::job::{Checking, Cloning, Deciding, Handling, Job, OpeningBoth};
 use crate::lean::{self, Assessment, CloneReply, Reading, Reply, Written};
 use crate::ours::{Lent, BEFORE};
 use crate::told::Told;
 use std::hint::black_box;
-use unmavreth::paths::Paths;
 use unmavreth::Draft;
 
 /// The uncounted call alone.
@@ -18,8 +17,6 @@ pub fn told(job: &Job) -> Told {
         Job::Open(opening) => opened(opening, false),
         Job::Clone(cloning) => cloned(cloning, false),
         Job::Decide(of) => decided(of, false),
-        Job::Sample(of) => sampled(of, false),
-        Job::Choose(of) => chosen(of, false),
         Job::Write(draft) => write(draft, false),
         Job::Assess { first, body } => assessed(body, &lean::assess(&COOKIE, *first, body)),
         Job::Acceptable(of) => Told::accepted(lean::acceptable(&of.policy, &of.pair)),
@@ -36,8 +33,6 @@ pub fn counted(job: &Job) -> Told {
         Job::Open(opening) => opened(opening, true),
         Job::Clone(cloning) => cloned(cloning, true),
         Job::Decide(of) => decided(of, true),
-        Job::Sample(of) => sampled(of, true),
-        Job::Choose(of) => chosen(of, true),
         Job::Write(draft) => write(draft, true),
         Job::Assess { first, body } => assessed(
             body,
@@ -84,20 +79,6 @@ fn decided(of: &Deciding, count: bool) -> Told {
         black_box(&of.data),
     ));
     Told::decided(told.number, told.identity_type, [told.identity, told.nonce], &record)
-}
-
-fn sampled(of: &Sampling, count: bool) -> Told {
-    let mut paths = of.paths;
-    let call = if count { counted_lean_sample } else { lean::sample };
-    let number =
-        black_box(call(black_box(&mut paths), black_box(of.ordinal), black_box(of.round_trip)));
-    Told::sampled(number, &paths)
-}
-
-fn chosen(of: &Paths, count: bool) -> Told {
-    let call = if count { counted_lean_choose } else { lean::choose };
-    let (number, ordinal) = black_box(call(black_box(of)));
-    Told::chosen(number, ordinal)
 }
 
 fn checked(checking: &Checking, count: bool) -> Told {

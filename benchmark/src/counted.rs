@@ -13,7 +13,6 @@ use reference::rules::{Plain, PolicyRules};
 use reference::tables::Tables;
 use std::hint::black_box;
 use unmavreth::limits::OPERATORS;
-use unmavreth::paths::Paths;
 use unmavreth::redirect::{Exchange, Redirect, Redirects};
 use unmavreth::{
     Assessment, CheckResponse, CloneReply, CloneRequest, Draft, IkeRecord, IpsecRecord, Number,
@@ -21,7 +20,7 @@ use unmavreth::{
 };
 
 /// The names that callgrind is told. With a wrong one nothing is counted, which is an error.
-pub const NAMES: [&str; 31] = [
+pub const NAMES: [&str; 27] = [
     "counted_ours_read",
     "counted_ours_handle",
     "counted_ours_check",
@@ -29,10 +28,6 @@ pub const NAMES: [&str; 31] = [
     "counted_ours_clone",
     "counted_ours_decide",
     "counted_lean_decide",
-    "counted_ours_sample",
-    "counted_lean_sample",
-    "counted_ours_choose",
-    "counted_lean_choose",
     "counted_ours_write",
     "counted_ours_assess",
     "counted_ours_acceptable",
@@ -127,38 +122,6 @@ pub fn counted_lean_decide<'a>(
     let decided = lean::decide(record, exchange, sent, time, data);
     black_box(&decided);
     decided
-}
-
-#[inline(never)]
-#[no_mangle]
-pub fn counted_ours_sample(paths: &mut Paths, ordinal: u32, round_trip: u32) -> Result<(), Number> {
-    let told = paths.sample(ordinal, round_trip);
-    black_box(&told);
-    told
-}
-
-#[inline(never)]
-#[no_mangle]
-pub fn counted_lean_sample(paths: &mut Paths, ordinal: u32, round_trip: u32) -> u8 {
-    let number = lean::sample(paths, ordinal, round_trip);
-    black_box(&number);
-    number
-}
-
-#[inline(never)]
-#[no_mangle]
-pub fn counted_ours_choose(paths: &Paths) -> Result<u32, Number> {
-    let chosen = paths.choose();
-    black_box(&chosen);
-    chosen
-}
-
-#[inline(never)]
-#[no_mangle]
-pub fn counted_lean_choose(paths: &Paths) -> (u8, u32) {
-    let chosen = lean::choose(paths);
-    black_box(&chosen);
-    chosen
 }
 
 #[inline(never)]

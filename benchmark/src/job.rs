@@ -1,7 +1,6 @@
 // What a row's call is given, on either side.
 use crate::chains::{self, CHECK_COOKIE, COOKIE, NAT_DESTINATION, NAT_SOURCE, NOTIFY};
-use unmavreth::limits::{IKE_SHARE, IPSEC_PLACES, IPSEC_SHARE, OPERATORS, PATHS_MOST};
-use unmavreth::paths::Paths;
+use unmavreth::limits::{IKE_SHARE, IPSEC_PLACES, IPSEC_SHARE, OPERATORS};
 use unmavreth::redirect::{Exchange, Redirects};
 use unmavreth::trace::Entry;
 use unmavreth::{
@@ -16,8 +15,6 @@ pub enum Job {
     Open(Box<OpeningBoth>),
     Clone(Box<Cloning>),
     Decide(Box<Deciding>),
-    Sample(Box<Sampling>),
-    Choose(Box<Paths>),
     Write(Box<Draft<'static>>),
     Assess { first: u8, body: Vec<u8> },
     Acceptable(Box<Asking>),
@@ -37,13 +34,6 @@ pub struct Deciding {
     pub sent: Vec<u8>,
     pub time: u64,
     pub data: Vec<u8>,
-}
-
-/// A round trip on a path, with the paths that are lent for it.
-pub struct Sampling {
-    pub paths: Paths,
-    pub ordinal: u32,
-    pub round_trip: u32,
 }
 
 /// A request, with the tables and the output that are lent for it.
@@ -211,24 +201,6 @@ impl Deciding {
         let record = Redirects { count: 5, times: [time - since, 998, 998, 999, 999] };
         Deciding { record, exchange: Exchange::SaInit, sent, time, data }
     }
-}
-
-impl Sampling {
-    /// On the last of eight paths, which had one before.
-    pub fn on_last() -> Self {
-        let ordinal = PATHS_MOST as u32 - 1;
-        Sampling { paths: quickening(), ordinal, round_trip: 101 }
-    }
-}
-
-/// Eight paths, each with a smoothed round trip that is less than that of the one before.
-pub fn quickening() -> Paths {
-    let mut paths = Paths::NONE;
-    paths.start(PATHS_MOST as u32).expect("eight paths");
-    for (ordinal, round_trip) in (0..).zip((1..=PATHS_MOST as u32).rev()) {
-        paths.sample(ordinal, 50 * round_trip).expect("a path");
-    }
-    paths
 }
 
 impl Asking {

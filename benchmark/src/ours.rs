@@ -2,12 +2,11 @@
 use crate::chains::COOKIE;
 use crate::convert;
 use crate::counted::*;
-use crate::job::{Asking, Checking, Cloning, Deciding, Handling, Job, OpeningBoth, Sampling};
+use crate::job::{Asking, Checking, Cloning, Deciding, Handling, Job, OpeningBoth};
 use crate::told::Told;
 use reference::tables::Tables;
 use std::hint::black_box;
 use unmavreth::limits::OPERATORS;
-use unmavreth::paths::Paths;
 use unmavreth::redirect::Identity;
 use unmavreth::{
     Assessment, Draft, Gateway, IkeRecord, IpsecRecord, Policy, Reading, Reply, Written,
@@ -25,8 +24,6 @@ pub fn told(job: &Job) -> Told {
         Job::Open(opening) => opened(opening, false),
         Job::Clone(cloning) => cloned(cloning, false),
         Job::Decide(of) => decided(of, false),
-        Job::Sample(of) => sampled(of, false),
-        Job::Choose(of) => chosen(of, false),
         Job::Write(draft) => {
             let mut out = vec![BEFORE; 564];
             let told = unmavreth::write(draft, &mut out);
@@ -49,8 +46,6 @@ pub fn counted(job: &Job) -> Told {
         Job::Open(opening) => opened(opening, true),
         Job::Clone(cloning) => cloned(cloning, true),
         Job::Decide(of) => decided(of, true),
-        Job::Sample(of) => sampled(of, true),
-        Job::Choose(of) => chosen(of, true),
         Job::Write(draft) => count_write(draft),
         Job::Assess { first, body } => assessed(
             body,
@@ -168,22 +163,6 @@ fn decided(of: &Deciding, count: bool) -> Told {
             Told::decided(0, identity_type, [octets, told.nonce], &record)
         }
         Err(number) => Told::decided(number.into(), 0, [&[], &[]], &record),
-    }
-}
-
-fn sampled(of: &Sampling, count: bool) -> Told {
-    let mut paths = of.paths;
-    let call = if count { counted_ours_sample } else { Paths::sample };
-    let told =
-        black_box(call(black_box(&mut paths), black_box(of.ordinal), black_box(of.round_trip)));
-    Told::sampled(told.err().map_or(0, u8::from), &paths)
-}
-
-fn chosen(of: &Paths, count: bool) -> Told {
-    let call = if count { counted_ours_choose } else { Paths::choose };
-    match black_box(call(black_box(of))) {
-        Ok(ordinal) => Told::chosen(0, ordinal),
-        Err(number) => Told::chosen(number.into(), 0),
     }
 }
 

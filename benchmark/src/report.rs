@@ -23,8 +23,7 @@ processor or C library may copy octets in other steps.
 
 pub fn tables(figures: &[Figure]) -> String {
     let growth = [by_octets(figures), by_records(figures)];
-    let parts =
-        [calls(figures), redirects(figures), paths(figures), policy(figures), peers(figures)];
+    let parts = [calls(figures), redirects(figures), policy(figures), peers(figures)];
     [parts.join("\n"), growth.join("\n")].join("\n")
 }
 
@@ -39,20 +38,10 @@ fn calls(figures: &[Figure]) -> String {
 }
 
 fn redirects(figures: &[Figure]) -> String {
-    let text = "One decision on a REDIRECT, which the second program does not make here:";
-    beside_lean(figures, Kind::Redirect, text, "Decision")
-}
-
-fn paths(figures: &[Figure]) -> String {
-    let text = "Paths, which the second program does not have here:";
-    beside_lean(figures, Kind::Path, text, "Call")
-}
-
-/// The rows of a kind that only lean Rust has too.
-fn beside_lean(figures: &[Figure], kind: Kind, caption: &str, head: &str) -> String {
     let mut text =
-        format!("{caption}\n\n| {head} | Ours | Lean | Ours / lean |\n|---|---:|---:|---:|\n");
-    for of in figures.iter().filter(|of| of.row.kind == kind) {
+        "One decision on a REDIRECT, which the second program does not make here:\n\n".to_string();
+    text += "| Decision | Ours | Lean | Ours / lean |\n|---|---:|---:|---:|\n";
+    for of in figures.iter().filter(|of| of.row.kind == Kind::Redirect) {
         let [ours, lean] = [of.ours, of.lean].map(grouped);
         line(&mut text, &[of.row.title, &ours, &lean, &ratio(of.ours, of.lean)]);
     }

@@ -1,8 +1,7 @@
 // The rows: which call each counts, on what, and what it must tell.
 use crate::chains::{self, NOTIFY, SKIPPED};
 use crate::job::{
-    draft, quickening, Asking, Checking, Cloning, Deciding, Handling, Job, OpeningBoth, Sampling,
-    ELSEWHERE,
+    draft, Asking, Checking, Cloning, Deciding, Handling, Job, OpeningBoth, ELSEWHERE,
 };
 use unmavreth::Flag;
 
@@ -18,8 +17,6 @@ pub enum Kind {
     Policy,
     /// A decision on a REDIRECT, which the second program does not make.
     Redirect,
-    /// A round trip on a path, or the choice among paths, which the second program does not have here.
-    Path,
 }
 
 /// Fields by name, with the values that they must have.
@@ -46,7 +43,6 @@ pub fn all() -> Vec<Row> {
     rows.extend(openings());
     rows.push(cloned());
     rows.extend(redirects());
-    rows.extend(paths());
     rows.extend(initiator());
     rows.extend([256, 512, 1024, 2048, 4096].map(by_octets));
     rows.extend([0, 32, 64, 128].map(by_records));
@@ -198,19 +194,6 @@ fn redirects() -> [Row; 2] {
         row("redirect-34", refused, deciding(299), &[("number", 34), ("count", 5)]),
     ]
     .map(|row| Row { kind: Kind::Redirect, ..row })
-}
-
-fn paths() -> [Row; 2] {
-    let taken = "a sample: a round trip on the last of 8 paths, which had one before";
-    let chosen = "choice among 8 paths, each quicker than the one before";
-    let sample = || Job::Sample(Box::new(Sampling::on_last()));
-    let choice = || Job::Choose(Box::new(quickening()));
-    let smoothed = [("number", 0), ("count", 8), ("smoothed", 56.375f64.to_bits())];
-    [
-        row("sample", taken, sample, &smoothed),
-        row("choice", chosen, choice, &[("number", 0), ("ordinal", 7)]),
-    ]
-    .map(|row| Row { kind: Kind::Path, ..row })
 }
 
 fn initiator() -> Vec<Row> {

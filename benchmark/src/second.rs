@@ -16,7 +16,7 @@ use reference::rules::{Plain, PolicyRules};
 use reference::writer::Written;
 use std::hint::black_box;
 
-/// The uncounted call alone; of a decision on a redirect, and of paths, it tells nothing.
+/// The uncounted call alone; of a decision on a redirect it tells nothing.
 pub fn told(job: &Job) -> Option<Told> {
     Some(match job {
         Job::Read { first, body } => reading(body, &reference::reader::read(*first, body, &Plain)),
@@ -24,7 +24,7 @@ pub fn told(job: &Job) -> Option<Told> {
         Job::Check(checking) => checked(checking, false),
         Job::Open(opening) => opened(opening, false),
         Job::Clone(cloning) => cloned(cloning, false),
-        Job::Decide(_) | Job::Sample(_) | Job::Choose(_) => return None,
+        Job::Decide(_) => return None,
         Job::Write(draft) => written(reference::writer::write(&arguments(draft), &Plain)),
         Job::Assess { first, body } => {
             assessed(reference::assess::assess(&COOKIE, *first, body, &Plain))
@@ -48,7 +48,7 @@ pub fn counted(job: &Job) -> Option<Told> {
         Job::Check(checking) => checked(checking, true),
         Job::Open(opening) => opened(opening, true),
         Job::Clone(cloning) => cloned(cloning, true),
-        Job::Decide(_) | Job::Sample(_) | Job::Choose(_) => return None,
+        Job::Decide(_) => return None,
         Job::Write(draft) => {
             let arguments = arguments(draft);
             written(black_box(counted_second_write(black_box(&arguments))))

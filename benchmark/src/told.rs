@@ -1,7 +1,6 @@
 // What a call told, in one form for every side.
 use crate::rows::Expected;
 use reference::tables::Tables;
-use unmavreth::paths::Paths;
 use unmavreth::redirect::Redirects;
 
 #[derive(PartialEq, Eq)]
@@ -29,27 +28,6 @@ impl Told {
         ];
         fields.extend(record.times.map(|time| ("time", time)));
         Told { fields, octets: parts.map(<[u8]>::to_vec).to_vec(), tables: None }
-    }
-
-    /// What became of a round trip: the paths after it, by their bits.
-    pub fn sampled(number: u8, paths: &Paths) -> Self {
-        let mut fields = vec![("number", number.into()), ("count", paths.count.into())];
-        fields.extend(paths.event.map(|event| ("event", event.into())));
-        fields.extend(paths.sampled.map(|sampled| ("sampled", sampled.is_set().into())));
-        for (name, column) in [
-            ("milliseconds", paths.milliseconds),
-            ("smoothed", paths.smoothed),
-            ("spread", paths.spread),
-        ] {
-            fields.extend(column.map(|value| (name, value.to_bits())));
-        }
-        Told { fields, octets: vec![], tables: None }
-    }
-
-    /// What was chosen.
-    pub fn chosen(number: u8, ordinal: u32) -> Self {
-        let fields = vec![("number", number.into()), ("ordinal", ordinal.into())];
-        Told { fields, octets: vec![], tables: None }
     }
 }
 

@@ -23,7 +23,6 @@ static unmavreth_redirects record;
 static unmavreth_redirect_data data;
 static size_t data_octets;
 static uint8_t name[UNMAVRETH_FQDN_MOST], nonce[UNMAVRETH_NONCE_MOST];
-static unmavreth_paths paths;
 static uint64_t slots[UNMAVRETH_ENTRY_SLOTS];
 static uint8_t entry[UNMAVRETH_ENTRY_MOST], kind;
 static size_t entry_octets;
@@ -174,29 +173,6 @@ static void decide_redirect(void)
     number = unmavreth_decide_redirect(&record.count, record.times, &out, UNMAVRETH_SA_INIT, nonce, sizeof nonce, 400,
                                        data.octets, data_octets)
                  .number;
-}
-
-static void start_paths(void)
-{
-    number = unmavreth_start_paths(&paths.count, paths.event, paths.sampled, paths.milliseconds, paths.smoothed,
-                                   paths.spread, UNMAVRETH_PATHS_MOST);
-}
-
-static void take_sample(void)
-{
-    number = unmavreth_take_sample(paths.count, paths.event, paths.sampled, paths.milliseconds, paths.smoothed,
-                                   paths.spread, UNMAVRETH_PATHS_MOST - 1, 101);
-}
-
-static void take_loss(void)
-{
-    number = unmavreth_take_loss(paths.count, paths.event, paths.sampled, paths.milliseconds, paths.smoothed,
-                                 paths.spread, UNMAVRETH_PATHS_MOST - 1, 101);
-}
-
-static void choose_path(void)
-{
-    number = unmavreth_choose_path(paths.count, paths.event, paths.smoothed).number;
 }
 
 static void write_entry(void)
@@ -382,41 +358,6 @@ static void came_from(void)
     write_redirected_from();
 }
 
-static void no_paths(void)
-{
-    memset(&paths, 0, sizeof paths);
-}
-
-// All eight, each quicker than the one before, so that a choice takes each for the quickest so far. The next round trip
-// on the last of them is slower than its smoothed one, quicker, or its first.
-static void falling_paths(void)
-{
-    no_paths();
-    start_paths();
-    for (uint32_t i = 0; i < UNMAVRETH_PATHS_MOST; i++)
-        if (unmavreth_paths_sample(&paths, i, 100 * (UNMAVRETH_PATHS_MOST - i)))
-            exit(2);
-}
-
-static void slower_last_path(void)
-{
-    falling_paths();
-    paths.smoothed[UNMAVRETH_PATHS_MOST - 1] = 1000;
-}
-
-static void silent_last_path(void)
-{
-    falling_paths();
-    paths.event[UNMAVRETH_PATHS_MOST - 1] = UNMAVRETH_NOTHING_HEARD;
-    paths.sampled[UNMAVRETH_PATHS_MOST - 1] = 0;
-}
-
-static void nine_paths(void)
-{
-    falling_paths();
-    paths.count = UNMAVRETH_PATHS_MOST + 1;
-}
-
 // An entry, for writing and, once it is written, for reading.
 static void entry_of(uint8_t its_kind)
 {
@@ -490,17 +431,6 @@ const every_call every[] = {
     {"unmavreth_write_redirect_supported", redirected, write_redirect_supported, 0},
     {"unmavreth_decide_redirect", redirected, decide_redirect, 0},
     {"unmavreth_decide_redirect", came_from, decide_redirect, UNMAVRETH_WRONG_NONCE},
-    {"unmavreth_start_paths", no_paths, start_paths, 0},
-    {"unmavreth_take_sample", falling_paths, take_sample, 0},
-    {"unmavreth_take_sample", slower_last_path, take_sample, 0},
-    {"unmavreth_take_sample", silent_last_path, take_sample, 0},
-    {"unmavreth_take_sample", no_paths, take_sample, UNMAVRETH_NO_SUCH_PATH},
-    {"unmavreth_take_loss", falling_paths, take_loss, 0},
-    {"unmavreth_take_loss", no_paths, take_loss, UNMAVRETH_NO_SUCH_PATH},
-    {"unmavreth_choose_path", falling_paths, choose_path, 0},
-    {"unmavreth_choose_path", silent_last_path, choose_path, 0},
-    {"unmavreth_choose_path", no_paths, choose_path, UNMAVRETH_NO_PATH_QUALIFIES},
-    {"unmavreth_choose_path", nine_paths, choose_path, UNMAVRETH_NO_SUCH_PATH},
     {"unmavreth_read_entry", entry_of_opening, read_entry, 0},
     {"unmavreth_read_entry", entry_of_request, read_entry, 0},
     {"unmavreth_read_entry", entry_of_policy, read_entry, 0},

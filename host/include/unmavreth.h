@@ -3,13 +3,11 @@
 // The host authenticates, decrypts, keeps the message window, repeats a cached response to a retransmission, computes
 // NAT detection values and owns all memory. The library reads payload chains, decides, changes the tables that it is
 // lent, and writes payloads. What a call gives depends on its arguments and on what it is lent, and on nothing else:
-// the library keeps nothing between calls. Two of them, on paths, also go by how their thread rounds floating-point
-// numbers (see there).
+// the library keeps nothing between calls.
 //
 // What is lent (everything passed by pointer) must, for as long as the call runs:
 //   - be memory that the host owns, of the whole length that it passes; no pointer is null, not even with length 0;
-//   - hold any octets whatever: no argument and no struct that is lent or passed has a bool, so there is no wrong
-//     value, and a double may be any, a NaN too;
+//   - hold any octets whatever: no argument and no struct that is lent or passed has a bool, so there is no wrong value;
 //   - not overlap anything else that is lent to the same call, if it is lent for writing (a pointer without const);
 //   - be left alone by everyone else: no other thread writes it, or reads it if it is lent for writing.
 // No call keeps a pointer to what it was lent; unmavreth_cookie, unmavreth_nat_value and the calls that read a redirect
@@ -53,7 +51,7 @@ extern "C" {
 // The number of the interface: the layout of the structs below and the calls. It is raised with every change of them.
 // Whatever includes this header refers to the library's symbol that ends in this number, so that a header and an
 // archive of different numbers do not link.
-#define UNMAVRETH_INTERFACE 6
+#define UNMAVRETH_INTERFACE 5
 
 #define UNMAVRETH_JOINED(name, number) name##number
 #define UNMAVRETH_NAMED(name, number) UNMAVRETH_JOINED(name, number)
@@ -116,10 +114,7 @@ enum unmavreth_number {
     UNMAVRETH_CANNOT_CLONE_NOW = 41,   // the IKE SA to clone is being deleted, or no place is free
     UNMAVRETH_PEER_AT_LIMIT = 42,      // the peer of the IKE SA to clone has 4 IKE records or more
     UNMAVRETH_OPERATOR_AT_SHARE = 43,  // the operator has 20 IKE records or more, or 80 IPsec records or more
-    UNMAVRETH_NO_CLONE_REQUEST = 44,   // no CLONE_IKE_SA is there
-    UNMAVRETH_NO_SUCH_PATH = 50,       // no path has this ordinal, or there are, or would be, over 8 paths
-    UNMAVRETH_TOO_MANY_MILLISECONDS = 51, // a round trip or a wait of over 60,000 milliseconds
-    UNMAVRETH_NO_PATH_QUALIFIES = 52      // for the choice: none was last heard with a round trip
+    UNMAVRETH_NO_CLONE_REQUEST = 44    // no CLONE_IKE_SA is there
 };
 
 // The operators that share a gateway. Every call on the tables or the policies names one of them, and finds the records
@@ -1149,108 +1144,6 @@ unmavreth_redirect_decision unmavreth_decide_redirect(uint8_t *count, uint64_t t
                                                       unmavreth_part *identity, uint8_t exchange, const uint8_t *sent,
                                                       size_t sent_size, uint64_t time, const uint8_t *data,
                                                       size_t data_size);
-
-// ------------------------------------------------------------------------------------------------------------- paths
-
-// Which of up to 8 paths, the address pairs that a host can send by, is the quickest now. The host measures: how long
-// a response took, or how long it waited for one that did not come. The library keeps, for each path, a smoothed round
-// trip and its spread, by RFC 6298 (2.2 and 2.3: SRTT and RTTVAR), in columns that it is lent, and chooses. Paths are
-// named by their ordinals, from 0; which pair each stands for is for the host to know. The tables have no part in it.
-//
-// What is said below of doubles holds bit for bit: each operation rounds once, and none are joined (no fused
-// multiply-add). For this the thread that calls unmavreth_take_sample or unmavreth_choose_path must round to nearest,
-// keep subnormal numbers and have no floating-point exception unmasked: so every C program begins, but for one that is
-// linked with -ffast-math.
-
-// What was last heard on a path. Any other number reads as nothing.
-enum unmavreth_path_event {
-    UNMAVRETH_NOTHING_HEARD = 0,
-    UNMAVRETH_ROUND_TRIP = 1, // a response came
-    UNMAVRETH_LOSS = 2        // none came for as long as was waited
-};
-
-// The limits, under the names that the definitions have (crates/paths/specs/Limits.antt).
-enum unmavreth_path_limit {
-    UNMAVRETH_PATHS_MOST = 8,
-    UNMAVRETH_MILLISECONDS_MOST = 60000 // of a round trip, and of a wait
-};
-
-// What is kept of the paths, a column for each thing that is kept: the path with an ordinal has that place of each. All
-// zeros is no paths. Places from the count on are not looked at.
-typedef struct unmavreth_paths {
-    uint32_t count;                            // how many there are; over 8, all calls but a start refuse it (50)
-    uint8_t event[UNMAVRETH_PATHS_MOST];       // what was last heard on each: enum unmavreth_path_event
-    uint8_t sampled[UNMAVRETH_PATHS_MOST];     // whether a round trip was ever taken: 0 is no, every other value yes
-    double milliseconds[UNMAVRETH_PATHS_MOST]; // of what was last heard: the round trip, or the wait
-    double smoothed[UNMAVRETH_PATHS_MOST];     // the smoothed round trip, in milliseconds
-    double spread[UNMAVRETH_PATHS_MOST];       // its spread, in milliseconds
-} unmavreth_paths;
-UNMAVRETH_SIZE(unmavreth_paths, 216);
-UNMAVRETH_AT(unmavreth_paths, count, 0);
-UNMAVRETH_AT(unmavreth_paths, event, 4);
-UNMAVRETH_AT(unmavreth_paths, sampled, 12);
-UNMAVRETH_AT(unmavreth_paths, milliseconds, 24);
-UNMAVRETH_AT(unmavreth_paths, smoothed, 88);
-UNMAVRETH_AT(unmavreth_paths, spread, 152);
-
-// The calls take the fields of an unmavreth_paths one by one; unmavreth_host.h has them on the struct as a whole.
-
-// Starts with so many paths, 0 to 8, and forgets all that was kept. Numbers:
-//   50  over 8 paths
-//    0  started: the count is `number_of_paths`, and all eight places of every column are 0
-// With 50 everything stays as it was.
-UNMAVRETH_MUST_USE
-uint8_t unmavreth_start_paths(uint32_t *count, uint8_t event[UNMAVRETH_PATHS_MOST],
-                              uint8_t sampled[UNMAVRETH_PATHS_MOST], double milliseconds[UNMAVRETH_PATHS_MOST],
-                              double smoothed[UNMAVRETH_PATHS_MOST], double spread[UNMAVRETH_PATHS_MOST],
-                              uint32_t number_of_paths);
-
-// Takes a round trip R on a path: a response came so many milliseconds after its request. Not for a request that was
-// sent more than once, since it is not known which of them the response is to. Numbers, in the order of the checks:
-//   50  `count` is over 8, or `ordinal` is not below it
-//   51  R is over 60,000
-//    0  taken: the path was last heard with the round trip R, and is sampled from now on. Its first one, even after
-//       losses, gives
-//           smoothed = R, spread = R / 2
-//       and every further one, with what the path had before,
-//           spread = 0.75 * spread + 0.25 * (smoothed > R ? smoothed - R : R - smoothed)
-//           smoothed = 0.875 * smoothed + 0.125 * R
-// With 50 and 51 everything stays as it was, and with 0 every other path. Where this comes to a NaN, as it does only by
-// a NaN or an infinity that the host lent, it is some NaN.
-UNMAVRETH_MUST_USE
-uint8_t unmavreth_take_sample(uint32_t count, uint8_t event[UNMAVRETH_PATHS_MOST],
-                              uint8_t sampled[UNMAVRETH_PATHS_MOST], double milliseconds[UNMAVRETH_PATHS_MOST],
-                              double smoothed[UNMAVRETH_PATHS_MOST], double spread[UNMAVRETH_PATHS_MOST],
-                              uint32_t ordinal, uint32_t round_trip);
-
-// Takes a loss on a path: no response came for so many milliseconds. The path is not chosen until its next round trip,
-// which goes on from the numbers that it has. Numbers, in the order of the checks:
-//   50  `count` is over 8, or `ordinal` is not below it
-//   51  the wait is over 60,000
-//    0  taken: the path was last heard with a loss after this wait; whether it is sampled and both numbers stay
-// With 50 and 51 everything stays as it was, and with 0 every other path.
-UNMAVRETH_MUST_USE
-uint8_t unmavreth_take_loss(uint32_t count, uint8_t event[UNMAVRETH_PATHS_MOST], uint8_t sampled[UNMAVRETH_PATHS_MOST],
-                            double milliseconds[UNMAVRETH_PATHS_MOST], double smoothed[UNMAVRETH_PATHS_MOST],
-                            double spread[UNMAVRETH_PATHS_MOST], uint32_t ordinal, uint32_t waited);
-
-typedef struct unmavreth_path_choice {
-    uint8_t number;
-    uint32_t ordinal; // 0 with every number but 0
-} unmavreth_path_choice;
-UNMAVRETH_SIZE(unmavreth_path_choice, 8);
-UNMAVRETH_AT(unmavreth_path_choice, number, 0);
-UNMAVRETH_AT(unmavreth_path_choice, ordinal, 4);
-
-// Chooses, among the paths that were last heard with a round trip, the one with the least smoothed round trip, and of
-// several that have it the one with the lowest ordinal. A NaN does not qualify, an infinity does; 0.0 and -0.0 are the
-// same. Numbers, in the order of the checks:
-//   50  `count` is over 8
-//   52  no path qualifies: none was last heard with a round trip, or each that was has a NaN, which no start leads to
-//    0  chosen
-UNMAVRETH_MUST_USE
-unmavreth_path_choice unmavreth_choose_path(uint32_t count, const uint8_t event[UNMAVRETH_PATHS_MOST],
-                                            const double smoothed[UNMAVRETH_PATHS_MOST]);
 
 #undef UNMAVRETH_AT
 #undef UNMAVRETH_SIZE

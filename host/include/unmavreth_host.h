@@ -492,37 +492,4 @@ static inline unmavreth_redirect unmavreth_decide_redirect_part(unmavreth_redire
     return out;
 }
 
-// -------------------------------------------------------------------------------------------------------------- paths
-
-// As unmavreth_start_paths.
-UNMAVRETH_MUST_USE
-static inline uint8_t unmavreth_paths_start(unmavreth_paths *paths, uint32_t number_of_paths)
-{
-    return unmavreth_start_paths(&paths->count, paths->event, paths->sampled, paths->milliseconds, paths->smoothed,
-                                 paths->spread, number_of_paths);
-}
-
-// As unmavreth_take_sample.
-UNMAVRETH_MUST_USE
-static inline uint8_t unmavreth_paths_sample(unmavreth_paths *paths, uint32_t ordinal, uint32_t round_trip)
-{
-    return unmavreth_take_sample(paths->count, paths->event, paths->sampled, paths->milliseconds, paths->smoothed,
-                                 paths->spread, ordinal, round_trip);
-}
-
-// As unmavreth_take_loss.
-UNMAVRETH_MUST_USE
-static inline uint8_t unmavreth_paths_loss(unmavreth_paths *paths, uint32_t ordinal, uint32_t waited)
-{
-    return unmavreth_take_loss(paths->count, paths->event, paths->sampled, paths->milliseconds, paths->smoothed,
-                               paths->spread, ordinal, waited);
-}
-
-// As unmavreth_choose_path.
-UNMAVRETH_MUST_USE
-static inline unmavreth_path_choice unmavreth_paths_choose(const unmavreth_paths *paths)
-{
-    return unmavreth_choose_path(paths->count, paths->event, paths->smoothed);
-}
-
 #endif

@@ -35,9 +35,6 @@ static inline const char *unmavreth_number_words(uint8_t number)
     case UNMAVRETH_PEER_AT_LIMIT: return "the peer has four IKE records or more";
     case UNMAVRETH_OPERATOR_AT_SHARE: return "the operator has its share of the records or more";
     case UNMAVRETH_NO_CLONE_REQUEST: return "no CLONE_IKE_SA in the request";
-    case UNMAVRETH_NO_SUCH_PATH: return "no such path, or more than eight";
-    case UNMAVRETH_TOO_MANY_MILLISECONDS: return "a round trip or a wait of over 60,000 milliseconds";
-    case UNMAVRETH_NO_PATH_QUALIFIES: return "no path qualifies to be chosen";
     case UNMAVRETH_BAD_CHAIN_LENGTH: return "a payload cut short or of a length that cannot be";
     case UNMAVRETH_BAD_NOTIFY: return "a Notify of a length or with an SPI that cannot be";
     case UNMAVRETH_BAD_DATA_SIZE: return "notification data of a wrong size";

@@ -76,17 +76,3 @@ void drop_redirects(unmavreth_redirects *record, unmavreth_redirect_data *data, 
     unmavreth_write_redirected_from_part(1, b, data);
     unmavreth_decide_redirect_part(record, 0, b, 0, b);
 }
-
-void drop_paths(unmavreth_paths *p);
-
-void drop_paths(unmavreth_paths *p)
-{
-    unmavreth_start_paths(&p->count, p->event, p->sampled, p->milliseconds, p->smoothed, p->spread, 2);
-    unmavreth_take_sample(p->count, p->event, p->sampled, p->milliseconds, p->smoothed, p->spread, 0, 101);
-    unmavreth_take_loss(p->count, p->event, p->sampled, p->milliseconds, p->smoothed, p->spread, 0, 101);
-    unmavreth_choose_path(p->count, p->event, p->smoothed);
-    unmavreth_paths_start(p, 2);
-    unmavreth_paths_sample(p, 0, 101);
-    unmavreth_paths_loss(p, 0, 101);
-    unmavreth_paths_choose(p);
-}

@@ -105,31 +105,6 @@ static void try_redirects(void)
     HOLDS(came.identity.octets == sizeof address && memcmp(came.identity.start, address, sizeof address) == 0);
 }
 
-// Two paths: what each function gives and keeps, of each a refusal too.
-static void try_paths(void)
-{
-    unmavreth_paths paths;
-    memset(&paths, 0xff, sizeof paths); // a count over 8, and NaNs
-    HOLDS(unmavreth_paths_choose(&paths).number == UNMAVRETH_NO_SUCH_PATH);
-    HOLDS(unmavreth_paths_start(&paths, UNMAVRETH_PATHS_MOST + 1) == UNMAVRETH_NO_SUCH_PATH && paths.event[7] == 0xff);
-    HOLDS(unmavreth_paths_start(&paths, 2) == UNMAVRETH_DONE && paths.count == 2 && paths.event[7] == 0);
-    HOLDS(unmavreth_paths_choose(&paths).number == UNMAVRETH_NO_PATH_QUALIFIES);
-    HOLDS(unmavreth_paths_loss(&paths, 1, 500) == UNMAVRETH_DONE && paths.event[1] == UNMAVRETH_LOSS);
-    HOLDS(paths.milliseconds[1] == 500 && paths.sampled[1] == 0);
-    HOLDS(unmavreth_paths_sample(&paths, 1, 101) == UNMAVRETH_DONE && paths.event[1] == UNMAVRETH_ROUND_TRIP);
-    HOLDS(paths.smoothed[1] == 101 && paths.spread[1] == 50.5 && paths.sampled[1] == 1);
-    HOLDS(unmavreth_paths_sample(&paths, 1, 201) == UNMAVRETH_DONE && paths.milliseconds[1] == 201);
-    HOLDS(paths.smoothed[1] == 113.5 && paths.spread[1] == 62.875);
-    const unmavreth_path_choice choice = unmavreth_paths_choose(&paths);
-    HOLDS(choice.number == UNMAVRETH_DONE && choice.ordinal == 1);
-    HOLDS(unmavreth_paths_sample(&paths, 2, 101) == UNMAVRETH_NO_SUCH_PATH);
-    HOLDS(unmavreth_paths_loss(&paths, 0, UNMAVRETH_MILLISECONDS_MOST + 1) == UNMAVRETH_TOO_MANY_MILLISECONDS);
-    HOLDS(unmavreth_paths_sample(&paths, 0, UNMAVRETH_MILLISECONDS_MOST) == UNMAVRETH_DONE);
-    paths.sampled[0] = 0x80; // every value but 0 is yes
-    HOLDS(unmavreth_paths_sample(&paths, 0, UNMAVRETH_MILLISECONDS_MOST) == UNMAVRETH_DONE && paths.sampled[0] == 1);
-    HOLDS(paths.smoothed[0] == 60000 && paths.spread[0] == 22500);
-}
-
 static void try_gateway(void)
 {
     static unmavreth_gateway gateway;
@@ -330,7 +305,6 @@ int main(void)
     HOLDS(unmavreth_interface() == UNMAVRETH_INTERFACE);
     try_reading();
     try_redirects();
-    try_paths();
     try_nothing();
     try_gateway();
     try_operators();

@@ -34,14 +34,6 @@ struct ike_response {
     size_t octets;
 };
 
-// A request of ours without payloads that went by one path, and has ended.
-struct ike_keepalive {
-    uint32_t path;        // its ordinal in the host's list
-    uint64_t sent, ended; // by a clock that does not run back, in milliseconds
-    unsigned times;       // how often it was sent
-    bool answered;        // or given up
-};
-
 // Encrypts the payloads of a response, sends it, and keeps it for a retransmission.
 void ike_respond(const struct ike_sa *sa, uint32_t id, uint8_t first, const uint8_t *payloads, size_t octets);
 

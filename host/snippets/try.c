@@ -2,7 +2,6 @@
 #include "auth_list.c"
 #include "clone.c"
 #include "moved.c"
-#include "path.c"
 #include "rekey.c"
 #include "update.c"
 
@@ -232,37 +231,12 @@ static void try_rekey(void)
     HOLDS(unmavreth_find_ipsec(&gateway, CHILD_3)->owner == NEW_SPI + 1);
 }
 
-// Two paths: a round trip on each, one that says nothing since it was sent twice, and losses.
-static void try_path(void)
-{
-    unmavreth_paths paths;
-    uint32_t send_by = 1;
-    HOLDS(unmavreth_paths_start(&paths, 2) == UNMAVRETH_DONE);
-    struct ike_keepalive keepalive = {1, 1000, 1150, 1, true};
-    HOLDS(mobike_heard(&paths, &keepalive, &send_by) == UNMAVRETH_DONE && send_by == 1 && paths.smoothed[1] == 150);
-    keepalive.path = 0;
-    keepalive.ended = 1101;
-    keepalive.times = 2;
-    HOLDS(mobike_heard(&paths, &keepalive, &send_by) == UNMAVRETH_DONE && send_by == 1 && paths.sampled[0] == 0);
-    keepalive.times = 1;
-    HOLDS(mobike_heard(&paths, &keepalive, &send_by) == UNMAVRETH_DONE && send_by == 0 && paths.spread[0] == 50.5);
-    keepalive.answered = false;
-    keepalive.ended = keepalive.sent + UNMAVRETH_MILLISECONDS_MOST + 1;
-    HOLDS(mobike_heard(&paths, &keepalive, &send_by) == UNMAVRETH_DONE && send_by == 1);
-    HOLDS(paths.event[0] == UNMAVRETH_LOSS && paths.milliseconds[0] == 60000);
-    keepalive.path = 1;
-    HOLDS(mobike_heard(&paths, &keepalive, &send_by) == UNMAVRETH_DONE && send_by == 1);
-    keepalive.path = 2;
-    HOLDS(mobike_heard(&paths, &keepalive, &send_by) == UNMAVRETH_NO_SUCH_PATH && send_by == 1);
-}
-
 int main(void)
 {
     try_update();
     try_moved();
     try_auth_list();
     try_clone();
-    try_path();
     try_rekey();
     return 0;
 }

@@ -18,8 +18,6 @@ pub enum Kind {
     Writer,
     RoundTrips,
     Redirects,
-    /// Of which path is quicker.
-    Paths,
     /// Of the replay.
     Traces,
     /// Of what is read and written of a trace, entry by entry.
@@ -27,7 +25,7 @@ pub enum Kind {
 }
 
 impl Kind {
-    pub const ALL: [Kind; 15] = [
+    pub const ALL: [Kind; 14] = [
         Kind::Reader,
         Kind::Tables,
         Kind::Requests,
@@ -40,7 +38,6 @@ impl Kind {
         Kind::Writer,
         Kind::RoundTrips,
         Kind::Redirects,
-        Kind::Paths,
         Kind::Traces,
         Kind::Entries,
     ];
@@ -59,7 +56,6 @@ impl Kind {
             Kind::Writer => "writer",
             Kind::RoundTrips => "round-trips",
             Kind::Redirects => "redirects",
-            Kind::Paths => "paths",
             Kind::Traces => "traces",
             Kind::Entries => "entries",
         }

@@ -30,7 +30,6 @@ pub mod opening_both;
 pub mod operator;
 pub mod orders;
 pub mod outcome;
-pub mod paths;
 pub mod pending;
 pub mod plain;
 pub mod policy;

@@ -14,7 +14,7 @@ pub extern "C" fn unmavreth_interface() -> u32
 
 // The header and the Rust crate refer to it by this name, so that neither links with a library of another number.
 #[unsafe(no_mangle)]
-pub extern "C" fn unmavreth_interface_6() -> u32
+pub extern "C" fn unmavreth_interface_5() -> u32
     ensures { result ≡ interface_number }
 {
     unmavreth_interface()

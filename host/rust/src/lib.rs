@@ -91,7 +91,6 @@ mod initiator;
 mod layout;
 pub mod limits;
 mod numbers;
-pub mod paths;
 mod policy;
 mod raw;
 mod reader;

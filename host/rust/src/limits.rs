@@ -64,10 +64,6 @@ pub const REDIRECT_ROOM: usize = IDENTITY_HEADER + FQDN_MOST + NONCE_MOST;
 pub const REDIRECTS_MOST: usize = 5;
 /// The period, in seconds.
 pub const PERIOD_SECONDS: u64 = 300;
-/// The paths among which one is chosen.
-pub const PATHS_MOST: usize = 8;
-/// The longest round trip, and the longest wait, in milliseconds.
-pub const MILLISECONDS_MOST: u32 = 60000;
 /// The slots of an entry of a trace: as many as the widest kind has, a policy.
 pub const ENTRY_SLOTS: usize = 1 + RULES_MOST * 5 + 1;
 /// The longest string of an entry.

@@ -71,12 +71,6 @@ pub enum Number {
     OperatorAtShare,
     /// 44: the request has no CLONE_IKE_SA.
     NoCloneRequest,
-    /// 50: no path has this ordinal, or there are, or would be, over 8 paths.
-    NoSuchPath,
-    /// 51: a round trip or a wait of over 60,000 milliseconds.
-    TooManyMilliseconds,
-    /// 52: no path qualifies to be chosen, for none was last heard with a round trip.
-    NoPathQualifies,
     /// A number that no call gives.
     Other(u8),
 }
@@ -135,9 +129,6 @@ impl From<u8> for Number {
             42 => Number::PeerAtLimit,
             43 => Number::OperatorAtShare,
             44 => Number::NoCloneRequest,
-            50 => Number::NoSuchPath,
-            51 => Number::TooManyMilliseconds,
-            52 => Number::NoPathQualifies,
             other => Number::Other(other),
         }
     }
@@ -177,9 +168,6 @@ impl From<Number> for u8 {
             Number::PeerAtLimit => 42,
             Number::OperatorAtShare => 43,
             Number::NoCloneRequest => 44,
-            Number::NoSuchPath => 50,
-            Number::TooManyMilliseconds => 51,
-            Number::NoPathQualifies => 52,
             Number::Other(other) => other,
         }
     }

@@ -1,11 +1,11 @@
 //! The C interface of `libunmavreth.a`. A start and a count are those of memory that the caller lends for
 //! the call; nothing lent for writing may overlap anything else that is lent.
 use crate::layout::{
-    AddressList, Ask, Assessment, CloneReply, DataWritten, EntryRead, EntryWritten, Flag,
-    GatewayRead, IkeRecord, IpsecRecord, Offsets, Opening, Operator, Pair, Part, PathChoice,
-    Policy, Reading, RedirectDecision, Reply, Rule, Written,
+    AddressList, Ask, Assessment, CloneReply, DataWritten, EntryRead, EntryWritten, GatewayRead,
+    IkeRecord, IpsecRecord, Offsets, Opening, Operator, Pair, Part, Policy, Reading,
+    RedirectDecision, Reply, Rule, Written,
 };
-use crate::limits::{ENTRY_SLOTS, IKE_PLACES, OPERATORS, PATHS_MOST, REDIRECTS_MOST, RULES_MOST};
+use crate::limits::{ENTRY_SLOTS, IKE_PLACES, OPERATORS, REDIRECTS_MOST, RULES_MOST};
 
 /// The number of the interface that this crate was written for, and the library's symbol that ends in it:
 /// every program that has this crate refers to the symbol, so that it does not link with a library of
@@ -23,7 +23,7 @@ macro_rules! interface {
         static LINKED: unsafe extern "C" fn() -> u32 = $named;
     };
 }
-interface!(6, unmavreth_interface_6);
+interface!(5, unmavreth_interface_5);
 
 extern "C" {
     pub(crate) fn unmavreth_interface() -> u32;
@@ -244,44 +244,4 @@ extern "C" {
         data: *const u8,
         data_size: usize,
     ) -> RedirectDecision;
-}
-
-extern "C" {
-    pub(crate) fn unmavreth_start_paths(
-        count: *mut u32,
-        event: *mut [u8; PATHS_MOST],
-        sampled: *mut [Flag; PATHS_MOST],
-        milliseconds: *mut [f64; PATHS_MOST],
-        smoothed: *mut [f64; PATHS_MOST],
-        spread: *mut [f64; PATHS_MOST],
-        number_of_paths: u32,
-    ) -> u8;
-
-    pub(crate) fn unmavreth_take_sample(
-        count: u32,
-        event: *mut [u8; PATHS_MOST],
-        sampled: *mut [Flag; PATHS_MOST],
-        milliseconds: *mut [f64; PATHS_MOST],
-        smoothed: *mut [f64; PATHS_MOST],
-        spread: *mut [f64; PATHS_MOST],
-        ordinal: u32,
-        round_trip: u32,
-    ) -> u8;
-
-    pub(crate) fn unmavreth_take_loss(
-        count: u32,
-        event: *mut [u8; PATHS_MOST],
-        sampled: *mut [Flag; PATHS_MOST],
-        milliseconds: *mut [f64; PATHS_MOST],
-        smoothed: *mut [f64; PATHS_MOST],
-        spread: *mut [f64; PATHS_MOST],
-        ordinal: u32,
-        waited: u32,
-    ) -> u8;
-
-    pub(crate) fn unmavreth_choose_path(
-        count: u32,
-        event: *const [u8; PATHS_MOST],
-        smoothed: *const [f64; PATHS_MOST],
-    ) -> PathChoice;
 }

@@ -20,8 +20,7 @@ fn any_octet_has_a_meaning() {
     for octet in 0..=255 {
         let number = Number::from(octet);
         assert_eq!(u8::from(number), octet);
-        let given =
-            matches!(octet, 0..=5 | 7..=12 | 14 | 20..=22 | 30..=34 | 40..=44 | 50..=52 | 61..=65);
+        let given = matches!(octet, 0..=5 | 7..=12 | 14 | 20..=22 | 30..=34 | 40..=44 | 61..=65);
         assert_eq!(number == Number::Other(octet), !given);
         assert_eq!(number.is_malformed(), (61..=65).contains(&octet));
         assert_eq!(number.is_done(), octet == 0);

@@ -1,6 +1,5 @@
 //! Limits and numbers have the same names and values here, in the C header and in the library's own code.
 use unmavreth::limits::*;
-use unmavreth::paths::{LastEvent, Paths};
 use unmavreth::redirect::{self, Exchange};
 use unmavreth::trace::Kind;
 use unmavreth::{Number, Operator, CLONE_IKE_SA, CLONE_IKE_SA_SUPPORTED};
@@ -15,8 +14,6 @@ const ENTRIES: &str = include_str!("../../../crates/entries/src/lib.rt");
 const KINDS: &str = include_str!("../../../crates/entries/src/kind.rt");
 const REDIRECTS: &str = include_str!("../../../crates/redirect/src/wire.rt");
 const OFTEN: &str = include_str!("../../../crates/redirecting/src/limits.rt");
-const PATHS: &str = include_str!("../../../crates/paths/src/limits.rt");
-const COLUMNS: &str = include_str!("../../../crates/paths/src/columns.rt");
 const EXCHANGES: &str = include_str!("../../../crates/redirecting/src/exchange.rt");
 
 /// Whether the text has these words, and neither digits nor letters behind them.
@@ -83,8 +80,8 @@ fn in_capitals(name: &str) -> String {
 
 #[test]
 fn numbers() {
-    let refusals = [14, 20, 21, 22, 30, 31, 32, 33, 34, 40, 41, 42, 43, 44, 50, 51, 52];
-    for octet in (0..=5).chain(7..=12).chain(refusals).chain(61..=65) {
+    let refusals = [14, 20, 21, 22, 30, 31, 32, 33, 34, 40, 41, 42, 43, 44, 61, 62, 63, 64, 65];
+    for octet in (0..=5).chain(7..=12).chain(refusals) {
         let name = format!("{:?}", Number::from(octet));
         let (words, whose) =
             if !(20..=22).contains(&octet) { (NUMBERS, "Number") } else { (REFUSALS, "Refusal") };
@@ -162,29 +159,6 @@ fn redirects() {
     }
     assert!(REDIRECTS.contains(&sum_of("REDIRECT_ROOM")), "the room in the library");
     assert!(says(HEADER, &format!("UNMAVRETH_REDIRECT_ROOM = {REDIRECT_ROOM}")));
-}
-
-#[test]
-fn limits_of_paths() {
-    assert!(says(HEADER, &format!("UNMAVRETH_PATHS_MOST = {PATHS_MOST}")));
-    assert!(says(HEADER, &format!("UNMAVRETH_MILLISECONDS_MOST = {MILLISECONDS_MOST}")));
-    let known = PATHS.replace("60_000", "60000");
-    assert!(says(&known, &format!("pub const PATHS_MOST: usize = {PATHS_MOST}")));
-    assert!(says(&known, &format!("pub const MILLISECONDS_MOST: u32 = {MILLISECONDS_MOST}")));
-}
-
-#[test]
-fn events_of_paths() {
-    let numbers = [("NOTHING_HEARD", 0), ("ROUND_TRIP", 1), ("LOSS", 2)];
-    let events = [LastEvent::Nothing, LastEvent::RoundTrip(7.0), LastEvent::Loss(7.0)];
-    for ((name, number), event) in numbers.into_iter().zip(events) {
-        assert!(says(HEADER, &format!("UNMAVRETH_{name} = {number}")), "{name} in the header");
-        let named = says(COLUMNS, &format!("pub const {name}: u8 = {number}"));
-        assert!(named || number == 0, "{name} in the library");
-        let column = [number; PATHS_MOST];
-        let paths = Paths { count: 1, event: column, milliseconds: [7.0; 8], ..Paths::NONE };
-        assert_eq!(paths.path(0).map(|path| path.last), Some(event), "{name}");
-    }
 }
 
 #[test]

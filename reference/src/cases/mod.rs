@@ -6,7 +6,6 @@ pub mod entries;
 pub mod isolation;
 mod operators;
 pub mod orders;
-pub mod paths;
 pub mod reader;
 pub mod redirects;
 pub mod requests;

@@ -61,7 +61,7 @@ pub mod met {
 mod tests {
     use super::Kinded;
     use crate::asking::Arguments;
-    use crate::cases::{clones, entries, paths, reader, requests, round_trips, tables, traces};
+    use crate::cases::{clones, entries, reader, requests, round_trips, tables, traces};
 
     #[test]
     fn there_are_as_many_listed_cases_as_the_readme_says() {
@@ -75,7 +75,6 @@ mod tests {
             ("clones", listed::<clones::Case>(), 14_000),
             ("writer", listed::<Arguments>(), 7_000),
             ("round-trips", listed::<round_trips::Case>(), 18_000),
-            ("paths", listed::<paths::Case>(), 5_000),
             ("traces", listed::<traces::Case>(), 7_000),
             ("entries", listed::<entries::Case>(), 10_000),
         ];

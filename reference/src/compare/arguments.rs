@@ -10,7 +10,7 @@ pub const USAGE: &str = "usage: ./compare [--seed S] [--cases N] [--only KIND] [
 
 /// The counts of a gate run.
 const DEFAULT_SEED: u64 = 1;
-const DEFAULT_CASES: u64 = 208_000;
+const DEFAULT_CASES: u64 = 200_000;
 
 #[derive(Debug, Clone, Copy, PartialEq, Eq)]
 pub enum Mode {

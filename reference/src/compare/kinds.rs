@@ -5,7 +5,6 @@ use crate::clones;
 use crate::entries;
 use crate::isolation;
 use crate::orders;
-use crate::paths;
 use crate::reader;
 use crate::redirects;
 use crate::report::Detail;
@@ -21,7 +20,6 @@ use reference::cases::clones::ClonesCases;
 use reference::cases::entries::EntriesCases;
 use reference::cases::isolation::IsolationCases;
 use reference::cases::orders::OrdersCases;
-use reference::cases::paths::PathsCases;
 use reference::cases::reader::ReaderCases;
 use reference::cases::redirects::RedirectsCases;
 use reference::cases::requests::RequestsCases;
@@ -35,7 +33,7 @@ use reference::rules::{Plain, Rules};
 use std::io;
 
 /// The kinds of the library's calls, in the order in which they take turns in a run of all.
-const OF_CALLS: [Kind; 24] = [
+const OF_CALLS: [Kind; 23] = [
     Kind::Reader,
     Kind::Requests,
     Kind::Tables,
@@ -59,7 +57,6 @@ const OF_CALLS: [Kind; 24] = [
     Kind::RoundTrips,
     Kind::Entries,
     Kind::Redirects,
-    Kind::Paths,
 ];
 
 /// The turns of all kinds, in two halves. A trace has one in each, since a program is started for each, which is enough
@@ -103,7 +100,6 @@ pub struct Cases {
     writer: WriterCases,
     round_trips: RoundTripsCases,
     redirects: RedirectsCases,
-    paths: PathsCases,
     traces: TracesCases,
     entries: EntriesCases,
 }
@@ -123,7 +119,6 @@ impl Cases {
             writer: WriterCases::new(seed),
             round_trips: RoundTripsCases::new(seed),
             redirects: RedirectsCases::new(seed),
-            paths: PathsCases::new(seed),
             traces: TracesCases::new(seed),
             entries: EntriesCases::new(seed),
         }
@@ -159,7 +154,6 @@ impl Cases {
             Kind::Writer => writer::run(self.writer.case(number), rules, detail),
             Kind::RoundTrips => round_trips::run(self.round_trips.case(number), rules, detail),
             Kind::Redirects => redirects::run(self.redirects.case(number), rules, detail),
-            Kind::Paths => paths::run(self.paths.case(number), rules, detail),
             Kind::Traces => traces::run(self.traces.case(number), rules, detail)?,
             Kind::Entries => entries::run(self.entries.case(number), rules, detail),
         })

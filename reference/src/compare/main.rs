@@ -8,7 +8,6 @@ mod isolation;
 mod kinds;
 mod orders;
 mod ours;
-mod paths;
 mod reader;
 mod redirects;
 mod report;

@@ -323,11 +323,11 @@ pub const FAULTS: &[Row<dyn CloneRules>] = &[
         Kind::Clones,
         "clone-numbers-written",
         "41 and 42 write the notify types of their own numbers.",
-        &Response(|response, answer| {
-            use Refusal::{CannotCloneNow, PeerAtLimit};
-            if let Answer::Refused(refusal @ (CannotCloneNow | PeerAtLimit)) = answer {
+        &Response(|response, answer| match answer {
+            Answer::Refused(refusal @ (Refusal::CannotCloneNow | Refusal::PeerAtLimit)) => {
                 *response = Some((NotifyType(*refusal as u16), vec![]));
             }
+            _ => {}
         }),
     ),
     (

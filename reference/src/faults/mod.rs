@@ -13,7 +13,6 @@ mod clones;
 mod operators;
 mod orders;
 mod parts;
-mod paths;
 mod policy;
 mod redirects;
 mod replay;
@@ -26,9 +25,9 @@ mod writer;
 
 use crate::kind::Kind;
 use crate::rules::{
-    ChainRules, CheckRules, CloneRules, OperatorRules, OrderRules, PartRules, PathRules, Plain,
-    PolicyRules, RedirectRules, ReplayRules, RequestRules, ResponseRules, RoundTripRules, Rules,
-    TableRules, TraceRules, WriterRules,
+    ChainRules, CheckRules, CloneRules, OperatorRules, OrderRules, PartRules, Plain, PolicyRules,
+    RedirectRules, ReplayRules, RequestRules, ResponseRules, RoundTripRules, Rules, TableRules,
+    TraceRules, WriterRules,
 };
 
 /// A row of a part's table: the kind of cases that must find the fault, its name, what is wrong, and the wrong rules.
@@ -77,7 +76,6 @@ fn of_every_part() -> Vec<Fault> {
     faults.extend(of_part(writer::FAULTS, |writer| Faulty { writer, ..sound }));
     faults.extend(of_part(round_trips::FAULTS, |round_trips| Faulty { round_trips, ..sound }));
     faults.extend(of_part(redirects::FAULTS, |redirects| Faulty { redirects, ..sound }));
-    faults.extend(of_part(paths::FAULTS, |paths| Faulty { paths, ..sound }));
     faults.extend(of_part(trace::FAULTS, |trace| Faulty { trace, ..sound }));
     faults.extend(of_part(replay::FAULTS, |replay| Faulty { replay, ..sound }));
     faults
@@ -110,7 +108,6 @@ pub struct Faulty {
     writer: &'static dyn WriterRules,
     round_trips: &'static dyn RoundTripRules,
     redirects: &'static dyn RedirectRules,
-    paths: &'static dyn PathRules,
     trace: &'static dyn TraceRules,
     replay: &'static dyn ReplayRules,
 }
@@ -131,7 +128,6 @@ impl Faulty {
         writer: &Plain,
         round_trips: &Plain,
         redirects: &Plain,
-        paths: &Plain,
         trace: &Plain,
         replay: &Plain,
     };
@@ -151,7 +147,6 @@ impl Rules for Faulty {
     type Writer = dyn WriterRules;
     type RoundTrips = dyn RoundTripRules;
     type Redirects = dyn RedirectRules;
-    type Paths = dyn PathRules;
     type Trace = dyn TraceRules;
     type Replay = dyn ReplayRules;
 
@@ -205,10 +200,6 @@ impl Rules for Faulty {
 
     fn redirects(&self) -> &Self::Redirects {
         self.redirects
-    }
-
-    fn paths(&self) -> &Self::Paths {
-        self.paths
     }
 
     fn trace(&self) -> &Self::Trace {

@@ -7,7 +7,6 @@ use crate::cases::clones::{self, ClonesCases};
 use crate::cases::entries::EntriesCases;
 use crate::cases::isolation::IsolationCases;
 use crate::cases::orders::{self, OrdersCases};
-use crate::cases::paths::PathsCases;
 use crate::cases::reader::ReaderCases;
 use crate::cases::redirects::RedirectsCases;
 use crate::cases::requests::{self, RequestsCases};
@@ -22,7 +21,6 @@ use crate::handler::handle;
 use crate::isolation;
 use crate::orders::broken;
 use crate::outcome::Outcome;
-use crate::paths::program::{Made, Model as Pathing};
 use crate::reader::read;
 use crate::redirect::program;
 use crate::round_trips::Model;
@@ -45,7 +43,6 @@ struct Cases {
     writer: WriterCases,
     round_trips: RoundTripsCases,
     redirects: RedirectsCases,
-    paths: PathsCases,
     traces: TracesCases,
     entries: EntriesCases,
 }
@@ -65,7 +62,6 @@ impl Cases {
             writer: WriterCases::new(1),
             round_trips: RoundTripsCases::new(1),
             redirects: RedirectsCases::new(1),
-            paths: PathsCases::new(1),
             traces: TracesCases::new(1),
             entries: EntriesCases::new(1),
         }
@@ -104,7 +100,6 @@ impl Cases {
                 let (one, other) = (&program::Model(one), &program::Model(other));
                 program::Outcome::of(one, &given) != program::Outcome::of(other, &given)
             }
-            Kind::Paths => self.paths_differ(number, one, other),
             Kind::Traces => {
                 let case = self.traces.case(number);
                 case.printed(one) != case.printed(other)
@@ -147,18 +142,6 @@ impl Cases {
         cloned[0] != cloned[1] || of_one != of_other
     }
 
-    /// Each call is made on what the one before left, by the first of the two.
-    fn paths_differ(&self, number: u64, one: &Faulty, other: &Faulty) -> bool {
-        let case = self.paths.case(number);
-        let mut columns = case.columns;
-        let mut calls = case.calls();
-        calls.any(|call| {
-            let [one, other] = [one, other].map(|rules| Made::of(&Pathing(rules), call, &columns));
-            columns = one.columns;
-            !one.agrees(&other, call)
-        })
-    }
-
     /// What isn't as these rules of demand 3 ask it of this program.
     fn broken(&self, number: u64, rules: &Faulty) -> Vec<String> {
         let orders::Case { tables, list, chance } = self.orders.case(number);
@@ -185,7 +168,7 @@ const CASES: u64 = 20_000;
 fn cases_of_gate(kind: Kind) -> u64 {
     match kind {
         Kind::Isolation | Kind::Shares => 4_000,
-        Kind::Orders | Kind::Redirects | Kind::Paths | Kind::Traces => 8_000,
+        Kind::Orders | Kind::Redirects | Kind::Traces => 8_000,
         Kind::Requests | Kind::Assess | Kind::RoundTrips => 24_000,
         _ => 16_000,
     }
@@ -247,7 +230,7 @@ fn names_are_there_once_and_lines_too() {
 }
 
 /// The rules and the faults of each part, as they are written.
-const PARTS: [[&str; 2]; 16] = [
+const PARTS: [[&str; 2]; 15] = [
     [include_str!("../rules/chain.rs"), include_str!("chain.rs")],
     [include_str!("../rules/parts.rs"), include_str!("parts.rs")],
     [include_str!("../rules/tables.rs"), include_str!("tables.rs")],
@@ -261,7 +244,6 @@ const PARTS: [[&str; 2]; 16] = [
     [include_str!("../rules/writer.rs"), include_str!("writer.rs")],
     [include_str!("../rules/round_trips.rs"), include_str!("round_trips.rs")],
     [include_str!("../rules/redirects.rs"), include_str!("redirects.rs")],
-    [include_str!("../rules/paths.rs"), include_str!("paths.rs")],
     [include_str!("../rules/trace.rs"), include_str!("trace.rs")],
     [include_str!("../rules/replay.rs"), include_str!("replay.rs")],
 ];

@@ -6,7 +6,6 @@ mod clones;
 mod operators;
 mod orders;
 mod parts;
-mod paths;
 mod policy;
 mod redirects;
 mod replay;
@@ -23,7 +22,6 @@ pub use clones::CloneRules;
 pub use operators::OperatorRules;
 pub use orders::OrderRules;
 pub use parts::PartRules;
-pub use paths::PathRules;
 pub use policy::PolicyRules;
 pub use redirects::RedirectRules;
 pub use replay::ReplayRules;
@@ -49,7 +47,6 @@ pub trait Rules {
     type Writer: WriterRules + ?Sized;
     type RoundTrips: RoundTripRules + ?Sized;
     type Redirects: RedirectRules + ?Sized;
-    type Paths: PathRules + ?Sized;
     type Trace: TraceRules + ?Sized;
     type Replay: ReplayRules + ?Sized;
 
@@ -66,7 +63,6 @@ pub trait Rules {
     fn writer(&self) -> &Self::Writer;
     fn round_trips(&self) -> &Self::RoundTrips;
     fn redirects(&self) -> &Self::Redirects;
-    fn paths(&self) -> &Self::Paths;
     fn trace(&self) -> &Self::Trace;
     fn replay(&self) -> &Self::Replay;
 }
@@ -88,7 +84,6 @@ impl ResponseRules for Plain {}
 impl WriterRules for Plain {}
 impl RoundTripRules for Plain {}
 impl RedirectRules for Plain {}
-impl PathRules for Plain {}
 impl TraceRules for Plain {}
 impl ReplayRules for Plain {}
 
@@ -106,7 +101,6 @@ impl Rules for Plain {
     type Writer = Plain;
     type RoundTrips = Plain;
     type Redirects = Plain;
-    type Paths = Plain;
     type Trace = Plain;
     type Replay = Plain;
 
@@ -159,10 +153,6 @@ impl Rules for Plain {
     }
 
     fn redirects(&self) -> &Plain {
-        self
-    }
-
-    fn paths(&self) -> &Plain {
         self
     }
 

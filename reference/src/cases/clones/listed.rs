@@ -511,7 +511,7 @@ fn orphans() -> Vec<Case> {
 fn sizes() -> Vec<Case> {
     let mut cases = Vec::new();
     let mut add = |flawed: Draft| {
-        cases.push(case(request(std::slice::from_ref(&flawed))));
+        cases.push(case(request(&[flawed.clone()])));
         cases.push(case(request(&[asked(), flawed.clone(), unknown()])));
         cases.push(case(request(&[flawed, asked()])));
     };

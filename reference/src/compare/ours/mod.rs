@@ -5,7 +5,6 @@ pub mod checks;
 pub mod clones;
 pub mod cookie;
 pub mod entries;
-pub mod paths;
 mod pipe;
 pub mod reader;
 pub mod redirects;
