@@ -131,6 +131,7 @@ pub fn child_of(o: Opening) -> IpsecRecord
 
 // Opening both in a list of `size`: of each record, the lowest place with its SPI and the lowest free one, and how many
 // the operator has.
+#[tactic(auto, unfolding(tables::specs::Changes::both_opening))]
 pub fn both_opening(
     size: usize,
     o: Opening,
@@ -164,6 +165,7 @@ pub fn both_opening(
 
 // Opening an IPsec record in a list of `size`, with the pair of its IKE record `of`, whose place is `owned`; `own` is
 // how many IPsec records the operator has.
+#[tactic(auto, unfolding(tables::specs::Changes::ipsec_opening))]
 pub fn ipsec_opening(
     size: usize,
     spi: u32,
