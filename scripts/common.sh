@@ -1,9 +1,11 @@
 # What ./demo, ./test, ./bench, ./compare and ./replay share, which source it at the repository's root: what they say when
-# they can't run, and how the library and the program that replays a trace are proved and built.
+# they can't run, and how the library and the two programs are proved and built.
 # shellcheck shell=bash
 me=$(basename "$0")
+exported=unmavreth_c # the crate of the calls that a host links
 library=target/staticlib/libunmavreth.a
 replay=target/bin/replay
+show_chain=target/bin/show_chain
 
 # stop WORDS: says why the command does not run.
 stop() {
@@ -35,17 +37,12 @@ need_cargo() {
     need cargo "Rust's cargo builds what is compared and measured with the library"
 }
 
-# exporting: the crates whose calls a host links, by what marks such a call.
-exporting() {
-    grep -lx '#\[no_mangle\]' crates/*/src/*.rt | cut -d/ -f2 | sort -u
-}
-
-# file_of NAME: what rt builds from the crate NAME: the program, or the archive of the calls that it exports.
+# file_of NAME: what rt builds from the crate NAME, in its folder: the archive of the calls, or the program.
 file_of() {
-    if [[ $1 == replay ]]; then
-        echo "$replay"
+    if [[ $1 == "$exported" ]]; then
+        echo "crates/$1/out/lib$1.a"
     else
-        echo "target/staticlib/lib$1.a"
+        echo "crates/$1/out/$1"
     fi
 }
 
@@ -63,7 +60,7 @@ crates_under() {
             return done[crate] = level + 0
         }
         { sub(/#.*/, "") }
-        split($0, part, ":") > 1 { uses[part[1]] = part[2] }
+        split($0, part, ":") > 1 { split(part[1], head, " "); uses[head[1]] = part[2] }
         END {
             count = split(names, named, " ")
             for (i = 1; i <= count; i++) last[named[i]]
@@ -73,33 +70,27 @@ crates_under() {
 
 # files_of NAME: every file that the crate and what it is built on are proved and run from.
 files_of() {
-    local -a crates
+    local -a crates folders
     mapfile -t crates < <(crates_under "$1")
-    find "${crates[@]/#/crates/}" -name must-fail -prune -o -type f -print | sort
+    mapfile -t folders < <(find "${crates[@]/#/crates/}" -mindepth 1 -maxdepth 1 ! -name must-fail ! -name out)
+    find "${folders[@]}" -type f | sort
 }
 
 # sum_of NAME: one sum over these files, the lines of crates.txt and the kit.
 sum_of() {
     {
         rt version 2>/dev/null || cat KIT
-        crates_under "$1" | awk 'NR == FNR { wanted[$1 ":"]; next } $1 in wanted' - crates.txt
+        crates_under "$1" | awk 'NR == FNR { wanted[$1]; next } { name = $1; sub(/:.*/, "", name) } name in wanted' - crates.txt
         files_of "$1" | xargs sha256sum
     } | sha256sum
 }
 
 # is_built NAME SUM: whether what rt builds from the crate was built from the files as they are, whose sum is given. The
-# sum stands beside it; one that rt built since has none, and then no file may be newer.
+# sum was noted behind the building.
 is_built() {
-    local built
+    local built noted=target/built/$1
     built=$(file_of "$1")
-    [[ -e $built ]] || return 1
-    if [[ $built -nt $built.sum ]]; then
-        files_of "$1" | while IFS= read -r file; do
-            [[ ! $file -nt $built ]] || exit 1
-        done
-    else
-        [[ $(cat "$built.sum") == "$2" ]]
-    fi
+    [[ -e $built && -e $noted && ! $built -nt $noted && $(cat "$noted") == "$2" ]]
 }
 
 # say_progress WORDS: on a terminal in the place of what was said before.
@@ -111,101 +102,61 @@ say_progress() {
     fi
 }
 
-# is_told CRATE: whether rt has told that this crate is proved, in its log if not yet to us: crates that are proved
-# side by side are told together.
-is_told() {
-    [[ -n ${proved[$1]-} ]] || grep -qs "^rt: $1 proved" "target/log/$1.out"
-}
-
-# follow LOG NAME...: reads what rt says, keeps it in LOG, and says which crate is being proved. One that is unchanged
-# is told by rt at once; if rt says nothing for a while, the next is being proved.
+# follow LOG: reads what rt says, keeps it in LOG, and says which crate is being proved.
 follow() {
-    local -a crates
-    local -A proved=()
-    local log=$1 line at=0 told='' status
-    shift
-    mapfile -t crates < <(crates_under "$@")
-    while true; do
-        status=0
-        IFS= read -r -t 0.7 line || status=$?
-        if [[ $status -eq 0 ]]; then
-            echo "$line" >&3
-            [[ -z ${verbose-} ]] || echo "$line" >&2
-            [[ ! $line =~ ^rt:\ (target/staticlib/lib)?([a-z0-9_]+)(\.a\ has|\ proved) ]] ||
-                proved[${BASH_REMATCH[2]}]=yes
-            continue
-        fi
-        [[ $status -gt 128 ]] || break
-        while [[ $at -lt $((${#crates[@]} - 1)) ]] && is_told "${crates[at]}"; do
-            at=$((at + 1))
-        done
-        if [[ $told != "${crates[at]}" ]]; then
-            told=${crates[at]}
-            say_progress "proving $told, $((at + 1)) of ${#crates[@]}"
-        fi
-    done 3>"$log"
+    local line
+    while IFS= read -r line; do
+        echo "$line" >&3
+        [[ -z ${verbose-} ]] || echo "$line" >&2
+        [[ ! $line =~ ^rt:\ chose\ --jobs\ [0-9]+\ for\ ([a-z0-9_]+)$ ]] || say_progress "proving ${BASH_REMATCH[1]}"
+    done 3>"$1"
     say_progress ''
 }
 
-# build WHAT COMMAND NAME...: has rt prove and build WHAT, a file from each of these crates, by COMMAND, which is given
-# those of them whose file is not built from the files as they are.
+# build WHAT NAME COMMAND: has rt prove and build WHAT from the crate NAME, by COMMAND in its folder, unless it was built
+# from the files as they are.
 build() {
-    local what=$1 command=$2 log=target/log/$me-$3.txt name
-    local -a stale=()
-    local -A sums=()
+    local what=$1 name=$2 log=target/log/$me-$2.txt sum
     shift 2
-    for name in "$@"; do
-        sums[$name]=$(sum_of "$name")
-        if ! is_built "$name" "${sums[$name]}"; then
-            stale+=("$name")
-        elif [[ $(file_of "$name") -nt $(file_of "$name").sum ]]; then
-            echo "${sums[$name]}" >"$(file_of "$name").sum"
-        fi
-    done
-    [[ ${#stale[@]} -gt 0 ]] || return 0
+    sum=$(sum_of "$name")
+    ! is_built "$name" "$sum" || return 0
     need_kit
-    mkdir -p target/log
-    echo "$me: proving what changed in the $(crates_under "$@" | wc -l) crates of $what (from nothing, some minutes)" >&2
-    if ! "$command" "${stale[@]}" 2>&1 | follow "$log" "${stale[@]}"; then
-        sed -n "s/^rt: \([a-z0-9_]*\) NOT PROVED.*/$me: the crate \1 is not proved/p" "$log" >&2
+    mkdir -p target/log target/built
+    echo "$me: proving what changed in the $(crates_under "$name" | wc -l) crates of $what (from nothing, some minutes)" >&2
+    if ! (cd "crates/$name" && "$@") </dev/null 2>&1 | follow "$log"; then
+        sed -n "s/^rt: the library \([a-z0-9_]*\) did not build.*/$me: the crate \1 is not proved/p" "$log" >&2
         stop "$what could not be built: $log has what the prover said, --verbose shows it"
     fi
-    for name in "${stale[@]}"; do
-        echo "${sums[$name]}" >"$(file_of "$name").sum"
-    done
+    echo "$sum" >"target/built/$name"
 }
 
-# What the library is built on is proved by as many processes as the machine has processors; then each crate that
-# exports calls, once, an archive each: rt exports the calls of the crate that it builds, and none of those below it.
-prove_library() {
-    local used crate
-    used=$(crates_under "$@" | grep -vxF "$(printf '%s\n' "$@")")
-    # shellcheck disable=SC2086
-    rt check $used || return
-    for crate in "$@"; do
-        rt staticlib "$crate" || return
-    done
-}
-
-# The archive that a host links: the kit's in one, with unwind tables, under the name that a host looks for.
+# The archive that a host links: the kit's, with unwind tables, under the name that a host looks for.
 build_library() {
-    local -a crates archives
-    local file
-    mapfile -t crates < <(exporting)
-    build "the library" prove_library "${crates[@]}"
-    mapfile -t archives < <(for file in "${crates[@]}"; do file_of "$file"; done)
-    for file in "${archives[@]}" crates.txt host/unwind/tables.awk host/unwind/add; do
+    local archive file
+    build "the library" "$exported" rt lib
+    archive=$(file_of "$exported")
+    for file in "$archive" host/unwind/tables.awk host/unwind/add; do
         if [[ ! -e $library || $file -nt $library ]]; then
-            host/unwind/add "$library" "${archives[@]}" || stop "the archive could not be made"
+            mkdir -p "${library%/*}"
+            host/unwind/add "$library" "$archive" || stop "the archive could not be made"
             return
         fi
     done
 }
 
-prove_replay() {
-    rt check replay </dev/null
+# build_program WHAT NAME FILE: the program of the crate NAME, put at FILE. Building it runs it, on no input.
+build_program() {
+    build "$1" "$2" rt run
+    if [[ ! -e $3 || $(file_of "$2") -nt $3 ]]; then
+        mkdir -p "${3%/*}"
+        cp "$(file_of "$2")" "$3" || stop "$1 could not be put at $3"
+    fi
 }
 
 build_replay() {
-    build "the replay" prove_replay replay
+    build_program "the replay" replay "$replay"
+}
+
+build_show_chain() {
+    build_program "the program that shows chains" show_chain "$show_chain"
 }
