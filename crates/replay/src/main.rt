@@ -6,8 +6,11 @@ use acting::perform;
 use advancing::{advance, report};
 use empty::{no_ikes, no_ipsecs, no_policies, no_response, no_window};
 use replaying::state::begin;
+use std::io;
 
-fn main() {
+fn main(rt: HostRuntime) -> io::Result<()> {
+    let mut input = rt.stdin();
+    let mut output = rt.stdout();
     let mut ike = no_ikes();
     let mut ipsec = no_ipsecs();
     let mut policies = no_policies();
@@ -16,7 +19,7 @@ fn main() {
     let mut s = begin();
     let mut turns = u64::MAX;
     while turns > 0 && s.going {
-        s = advance(&mut window, s);
+        s = advance(&mut input, &mut window, s)?;
         let o = perform(
             &mut ike,
             &mut ipsec,
@@ -25,7 +28,8 @@ fn main() {
             s.entry,
             &mut out,
         );
-        s = report(s, o);
+        s = report(&mut output, s, o)?;
         turns -= 1;
     }
+    Ok(())
 }

@@ -4,7 +4,8 @@
 --   held buffer s      the window in its buffer
 --   advanced_by t r w   by what the turn t is for; only one for more reads, which brings r
 --   Advances           one read at most, whatever it brings, and the look
-use Rattle.std.specs.Prelude.{ℕ, ◌≡◌, List, ◌++◌, length, take, drop}
+--   KeepsUnused        what is left of the window where a read fails
+use Rattle.std.specs.Prelude.{ℕ, ◌-◌, ◌≡◌, List, ◌++◌, length, take, drop}
 use Rattle.replaying.specs.Turns.{refilled, looked}
 use Rattle.replaying.specs.declared.state.State.{State}
 use Rattle.replaying.specs.declared.state.Turn.{Turn}
@@ -50,3 +51,7 @@ pub record Reads (before : List ℕ) (s : State) (after : List ℕ) (r : State) 
 pub record Advances (before : List ℕ) (s : State) (after : List ℕ) (r : State) : Type 0 where
   pub read : Read
   pub same : held after r ≡ advanced_by s.turn read (held before s)
+
+-- what the window held and did not use stands at its front
+abbrev pub KeepsUnused : List ℕ → State → List ℕ → Type 0
+KeepsUnused before s after = take (s.len - s.at) after ≡ take (s.len - s.at) (drop s.at before)

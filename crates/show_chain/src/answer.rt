@@ -4,64 +4,71 @@ use crate::walk::Place;
 use crate::words::number_words;
 use crate::{fields, why};
 use octets::limits::BODY_MOST;
+use std::io;
 
 // Which payload it is, or how many there are before octets that are none.
-fn show_place(n: u8, at: usize, ordinal: usize) {
+fn show_place(rt: &impl Print, n: u8, at: usize, ordinal: usize) -> io::Result<()> {
     if n == 65 {
-        text(b"behind ");
-        count(ordinal, b" payload", b" payloads");
+        text(rt, b"behind ")?;
+        count(rt, ordinal, b" payload", b" payloads")?;
     } else {
-        text(b"payload ");
-        number(ordinal);
+        text(rt, b"payload ")?;
+        number(rt, ordinal)?;
     }
-    text(b" at offset ");
-    number(at);
-    text(b": ");
+    text(rt, b" at offset ")?;
+    number(rt, at)?;
+    text(rt, b": ")
 }
 
 // What is wrong at this place.
-fn show_why(n: u8, body: &[u8], p: Place) {
+fn show_why(rt: &impl Print, n: u8, body: &[u8], p: Place) -> io::Result<()> {
     let at = p.at;
     let payload = fields::part(body, at, body.len());
     match n {
-        61 => why::chain_length(payload),
-        62 => why::notify_shape(payload),
-        63 => why::data_size(payload),
-        64 => why::conflict(payload, p.none_additional),
-        65 => why::leftover(payload),
-        _ => why::critical(p.payload_type),
+        61 => why::chain_length(rt, payload),
+        62 => why::notify_shape(rt, payload),
+        63 => why::data_size(rt, payload),
+        64 => why::conflict(rt, payload, p.none_additional),
+        65 => why::leftover(rt, payload),
+        _ => why::critical(rt, p.payload_type),
     }
 }
 
 // What the number means here; `payloads` stand before the place, or in all.
-fn show_meaning(n: u8, body: &[u8], p: Place, payloads: usize) {
+fn show_meaning(rt: &impl Print, n: u8, body: &[u8], p: Place, payloads: usize) -> io::Result<()> {
     match n {
         0 => {
-            text(b"read whole: ");
-            count(payloads, b" payload", b" payloads");
+            text(rt, b"read whole: ")?;
+            count(rt, payloads, b" payload", b" payloads")
         }
         3 => {
-            text(b"the body has ");
-            octets(body.len());
-            text(b", at most ");
-            number(BODY_MOST);
-            text(b" are allowed");
+            text(rt, b"the body has ")?;
+            octets(rt, body.len())?;
+            text(rt, b", at most ")?;
+            number(rt, BODY_MOST)?;
+            text(rt, b" are allowed")
         }
         _ => {
-            show_place(n, p.at, payloads);
-            show_why(n, body, p);
+            show_place(rt, n, p.at, payloads)?;
+            show_why(rt, n, body, p)
         }
     }
 }
 
-pub fn show_answer(n: u8, body: &[u8], p: Place, payloads: usize) {
-    text(b"answer ");
-    number(n as usize);
-    text(b": ");
-    number_words(n);
-    text(b"\n");
-    show_meaning(n, body, p, payloads);
-    text(b" (");
-    number(n as usize);
-    text(b")\n");
+pub fn show_answer(
+    rt: &impl Print,
+    n: u8,
+    body: &[u8],
+    p: Place,
+    payloads: usize,
+) -> io::Result<()> {
+    text(rt, b"answer ")?;
+    number(rt, n as usize)?;
+    text(rt, b": ")?;
+    number_words(rt, n)?;
+    text(rt, b"\n")?;
+    show_meaning(rt, n, body, p, payloads)?;
+    text(rt, b" (")?;
+    number(rt, n as usize)?;
+    text(rt, b")\n")
 }

@@ -17,6 +17,7 @@
 mod answer;
 mod fields;
 mod given;
+mod input;
 mod lines;
 mod print;
 mod walk;
@@ -25,14 +26,21 @@ mod words;
 
 use answer::show_answer;
 use given::{decode, is_hex};
+use input::read_full;
 use print::text;
+use std::io;
 use walk::show_payloads;
 
+// One octet more than may be given: digits and white space, or the octets themselves.
+const ROOM: usize = 65536;
+
 // The chain of these octets, of which the first is a type.
-fn show_octets(octets: &[u8]) {
+fn show_octets(rt: &impl Print, octets: &[u8]) -> io::Result<()> {
     if octets.len() == 0 {
-        text(b"no input: give the first payload's type and then the body\n");
-        return;
+        return text(
+            rt,
+            b"no input: give the first payload's type and then the body\n",
+        );
     }
     let first = octets[0];
     let body = &octets[1..];
@@ -43,32 +51,30 @@ fn show_octets(octets: &[u8]) {
         let tally = seen.tally;
         payloads = tally.payloads;
     }
-    let p = show_payloads(body, first, payloads as usize);
-    show_answer(r.number, body, p, payloads as usize);
+    let p = show_payloads(rt, body, first, payloads as usize)?;
+    show_answer(rt, r.number, body, p, payloads as usize)
 }
 
 // The octets that hex digits stand for, of which half an octet may be left over.
-fn show_hex(digits: &[u8]) {
-    let mut octets = io::large_buffer();
+fn show_hex(rt: &impl Print, digits: &[u8]) -> io::Result<()> {
+    let mut octets = [0u8; ROOM];
     let h = decode(digits, &mut octets);
     if h.high < given::NO_DIGIT {
-        text(b"an odd number of hex digits\n");
-        return;
+        return text(rt, b"an odd number of hex digits\n");
     }
-    show_octets(fields::part(&octets, 0, h.count));
+    show_octets(rt, fields::part(&octets, 0, h.count))
 }
 
-fn main() {
-    let mut input = io::large_buffer();
-    let n = io::read_full(0, &mut input);
+fn main(rt: HostRuntime) -> io::Result<()> {
+    let mut input = [0u8; ROOM];
+    let n = read_full(&mut rt.stdin(), &mut input)?;
     if n == input.len() {
-        text(b"too much input: at most 65535 octets are read\n");
-        return;
+        return text(&rt, b"too much input: at most 65535 octets are read\n");
     }
     let given = &input[..n];
     if is_hex(given) {
-        show_hex(given);
+        show_hex(&rt, given)
     } else {
-        show_octets(given);
+        show_octets(&rt, given)
     }
 }

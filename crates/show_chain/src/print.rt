@@ -1,36 +1,38 @@
 // Writes words, numbers and octets to standard output.
+use std::io;
 
-pub fn text(words: &[u8]) {
-    io::write_all(1, words);
+pub fn text(rt: &impl Print, words: &[u8]) -> io::Result<()> {
+    rt.write_all(words)
 }
 
-pub fn number(n: usize) {
-    io::print_decimal(1, n as u64);
+pub fn number(rt: &impl Print, n: usize) -> io::Result<()> {
+    print!(rt; "{n}")
 }
 
 // So many of what one is called `one`, and several `several`.
-pub fn count(n: usize, one: &[u8], several: &[u8]) {
-    number(n);
+pub fn count(rt: &impl Print, n: usize, one: &[u8], several: &[u8]) -> io::Result<()> {
+    number(rt, n)?;
     if n == 1 {
-        text(one);
+        text(rt, one)
     } else {
-        text(several);
+        text(rt, several)
     }
 }
 
-pub fn octets(n: usize) {
-    count(n, b" octet", b" octets");
+pub fn octets(rt: &impl Print, n: usize) -> io::Result<()> {
+    count(rt, n, b" octet", b" octets")
 }
 
-fn hex_octet(octet: u8) {
-    io::print_hex(1, octet as u64, 2);
+fn hex_octet(rt: &impl Print, octet: u8) -> io::Result<()> {
+    print!(rt; "{octet:02x}")
 }
 
 // Two digits an octet, nothing between.
-pub fn hex(octets: &[u8]) {
+pub fn hex(rt: &impl Print, octets: &[u8]) -> io::Result<()> {
     let mut i = 0;
     while i < octets.len() {
-        hex_octet(octets[i]);
+        hex_octet(rt, octets[i])?;
         i += 1;
     }
+    Ok(())
 }

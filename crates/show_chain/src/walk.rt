@@ -3,6 +3,7 @@ use crate::fields;
 use crate::lines::show_payload;
 use notify::notify::NotifyType;
 use octets::wire::NOTIFY_PAYLOAD;
+use std::io;
 
 // Where a payload stands, its type, and whether NO_ADDITIONAL_ADDRESSES stands before it.
 #[derive(Clone, Copy)]
@@ -51,19 +52,20 @@ fn next(body: &[u8], p: Place) -> Place {
 }
 
 // Shows so many payloads from the body's front on, and tells the place behind them.
-pub fn show_payloads(body: &[u8], first: u8, count: usize) -> Place {
+pub fn show_payloads(rt: &impl Print, body: &[u8], first: u8, count: usize) -> io::Result<Place> {
     let mut p = start(first);
     let mut ordinal = 0;
     while ordinal < count {
         let at = p.at;
         show_payload(
+            rt,
             p.payload_type,
             fields::part(body, at, body.len()),
             at,
             ordinal,
-        );
+        )?;
         p = next(body, p);
         ordinal += 1;
     }
-    p
+    Ok(p)
 }
