@@ -39,6 +39,7 @@ pub fn is_bad_closing(size: usize, spi: u64, operator: u8) -> bool
 
 // Closing an IKE record, beside an IPsec list of `size`; `place` is the lowest with its SPI, and `entry` the record
 // there.
+#[tactic(auto, unfolding(tables::specs::Changes::ike_closing))]
 pub fn ike_closing(size: usize, spi: u64, operator: u8, place: usize, entry: IkeRecord) -> IkeChange
     ensures { result ≡ ike_closing size spi operator place entry }
 {
@@ -66,6 +67,7 @@ pub fn is_own_child(entry: IpsecRecord, owned: usize, of: IkeRecord, operator: u
 
 // Closing an IPsec record of a list of `size`; `place` is the lowest with its SPI, `entry` the record there, `of` its
 // owner's, whose place is `owned`.
+#[tactic(auto, unfolding(tables::specs::Changes::ipsec_closing))]
 pub fn ipsec_closing(
     size: usize,
     spi: u32,
@@ -97,6 +99,7 @@ pub fn is_bad_marking(spi: u64, operator: u8) -> bool
 }
 
 // Marking an IKE record as being deleted; `place` is the lowest with its SPI, and `entry` the record there.
+#[tactic(auto, unfolding(tables::specs::Changes::ike_marking))]
 pub fn ike_marking(spi: u64, operator: u8, place: usize, entry: IkeRecord) -> IkeChange
     ensures { result ≡ ike_marking spi operator place entry }
 {
