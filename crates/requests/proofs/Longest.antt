@@ -1,5 +1,5 @@
 -- The room that the writer asks for is that of the longest request.
-use Prim.Native.Nat.{ℕ, ◌+◌, ◌≤◌}
+use Prim.Native.Nat.{◌+◌, ◌≤◌}
 use mathlib.Core.Path.{◌≡◌, refl}
 use mathlib.Core.List.{List, [], ◌++◌, zip_with}
 use mathlib.Core.Bool.{true}
@@ -11,9 +11,9 @@ use Rattle.writing.specs.Notify.{Notification, notification, notify_octets, firs
 use Rattle.writing.proofs.Chained.{chained_append}
 use Rattle.asking.specs.Draft.{Draft, no_nats_octets, request_octets}
 use Rattle.asking.specs.Fits.{cookie_fits, request_fits}
-use Rattle.asking.proofs.Fitting.{Fitting, fitting}
+use Rattle.asking.proofs.Fitting.{fitting}
 use Rattle.putting.proofs.Asked.{length-asked}
-use Rattle.requests.specs.Longest.{longest, RoomExact}
+use Rattle.requests.specs.Longest.{RoomExact}
 use Rattle.requests.proofs.Whole.{update, no_nats_lem, nats, tail, no_nats_short, nats_short, tail_short}
 
 -- two parts have the octets of both

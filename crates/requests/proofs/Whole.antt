@@ -5,7 +5,7 @@ use mathlib.Core.List.{List, [], ◌∷◌, ◌++◌, append_assoc}
 use mathlib.Core.Bool.{Bool, true, false}
 use native.Mathlib.Omega.{arith}
 use lib.ListN.{length, length-append}
-use Rattle.octets.specs.Limits.{addresses_most, nat_octets, notify_header, request_room}
+use Rattle.octets.specs.Limits.{nat_octets, notify_header, request_room}
 use Rattle.octets.specs.Wire.{notify_payload, nat_detection_source_ip, nat_detection_destination_ip}
 use Rattle.octets.specs.Wire.{update_sa_addresses, no_nats_allowed}
 use Rattle.writing.specs.Notify.{Notification, notification, first_type, chained}

@@ -2,7 +2,7 @@
 --
 --   longest      a request for everything: an update, a pair of IPv6, both NAT values, a full list, the longest cookie
 --   RoomExact    the statement; `room_exact` in `proofs/Longest.antt` proves it
-use Rattle.std.specs.Prelude.{ℕ, ◌≤◌, ◌≡◌, true, false, length, replicate}
+use Rattle.std.specs.Prelude.{◌≤◌, ◌≡◌, true, false, length, replicate}
 use Rattle.octets.specs.Limits.{addresses_most, address_octets, nat_octets, cookie_most, request_room}
 use Rattle.address.specs.declared.pair.Pair.{Pair}
 use Rattle.asking.specs.Draft.{Draft, draft, request_octets}

@@ -83,6 +83,9 @@ pub fn not_written(number: Number) -> Written
     }
 }
 
+// The room that the output must have, whatever is to be written.
+const ROOM: usize = REQUEST_ROOM;
+
 // Writes a request to the start of `out`, and leaves the octets past it as they are. The longest request has 564
 // octets and 21 Notify payloads; a peer may refuse that many (strongSwan 5.9.8 refuses a message with more than 20,
 // and destroys the SA), so ask for less at once where the peer isn't known.
@@ -110,7 +113,7 @@ pub fn write(
         nat_destination,
         cookie,
     ) {
-        if out.len() < REQUEST_ROOM {
+        if out.len() < ROOM {
             return not_written(Number::OutputTooShort);
         }
         return put_request(
