@@ -94,7 +94,7 @@ steps_enough zero l body payload_type at inside h i = absurd (omega arith)
 steps_enough (suc k) zero body payload_type at inside h i = absurd (omega arith)
 steps_enough (suc k) (suc l) body payload_type at inside h i =
     ap (cond (eqb payload_type 0) (chain_end body at))
-    (linked _ _ body at
+    (linked (chain k body (get_or body at 0)) (chain l body (get_or body at 0)) body at
     (λ n content w. steps_enough k l body (get_or body at 0) (at + n) w.1 (omega arith) (omega arith))
     (payload_at payload_type body at) (found_within payload_type body at inside))
 
@@ -106,7 +106,7 @@ module _ (payload_type : ℕ) (body : List ℕ) (at : ℕ) where
   unfolding chain chain_at
   chain_step inside =
       ap (cond (eqb payload_type 0) (chain_end body at))
-      (linked _ _ body at
+      (linked (chain (length body - at) body (get_or body at 0)) (chain_at body (get_or body at 0)) body at
       (λ n content w.
       let left = length body - at in
       let next = get_or body at 0 in

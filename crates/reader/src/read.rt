@@ -130,6 +130,7 @@ pub fn read_short(first: u8, body: &[u8]) -> Reading
 }
 
 // Reads any octets as a chain that begins with a payload of type `first`.
+#[tactic(auto, using(crate::proofs::Begun::too_long))]
 pub fn read(first: u8, body: &[u8]) -> Reading
     ensures { ReadAs first body.now result }
 {

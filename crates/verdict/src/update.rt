@@ -39,6 +39,7 @@ pub fn is_accepted(v: Verdict) -> bool
 }
 
 // Whether NO_NATS_ALLOWED, if it was there, holds the packet's addresses and ports.
+#[tactic(auto, unfolding(crate::specs::Verdict::unaltered))]
 pub fn is_unaltered(n: NoNats, pair: Pair) -> bool
     ensures { result ≡ unaltered n pair }
 {
@@ -66,6 +67,7 @@ pub fn is_unaltered(n: NoNats, pair: Pair) -> bool
 }
 
 // The verdict, given what NO_NATS_ALLOWED holds.
+#[tactic(auto, unfolding(crate::specs::Verdict::verdict))]
 pub fn verdict_on(accepted: bool, n: NoNats, pair: Pair) -> Verdict
     ensures { result ≡ verdict accepted n pair }
 {
