@@ -2,14 +2,12 @@
 --   Entry              a kind and the values of its fields
 --   entry_octets e      how it is written
 --   entry_at s at       reading one
-use Rattle.std.specs.Prelude.{ℕ, zero, suc, ◌+◌, ◌≤◌, ◌≡◌, Bool, true, cond, List, [], ◌∷◌, ◌++◌, leb, eqb, length, drop}
+use Rattle.std.specs.Prelude.{ℕ, Bool, cond, List, [], ◌++◌, eqb}
 use Rattle.leb128.specs.Leb128.{decoded_at, octets_of}
 use Rattle.leb128.specs.declared.Decoded.{Decoded}
 use Rattle.leb128.specs.declared.Decoded.TheVariants.{Is, Bad}
-use Rattle.fields.specs.Fields.{Field, Value, fits, octets, each_of}
+use Rattle.fields.specs.Fields.{Value, fits, octets}
 use Rattle.fields.specs.Reading.{Reading, read, refused, read_at}
-use Rattle.fields.specs.Slots.{width}
-use Rattle.fields.specs.declared.refusal.Refusal.{Refusal}
 use Rattle.fields.specs.declared.refusal.Refusal.TheVariants.{Cut, UnknownKind}
 use Rattle.entries.specs.Kinds.{kind_number, fields_of}
 use Rattle.entries.specs.declared.kind.Kind.{Kind}
