@@ -108,7 +108,8 @@ pub fn write_any(
         let q = draft ask pair families addresses nat-source nat-destination cookie.now in
         WrittenAnyAs asked q out.old result out.new }
 {
-    if asks_clone(asked) {
+    let asks = asks_clone(asked);
+    if asks {
         if clone_alone(asked, ask, cookie.len()) {
             if out.len() < REQUEST_ROOM {
                 return not_written(Number::OutputTooShort);

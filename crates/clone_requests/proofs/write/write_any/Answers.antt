@@ -9,7 +9,7 @@ pub returns-then-out-lt-REQUEST_ROOM : goal.returns-then-out-lt-REQUEST_ROOM
 returns-then-out-lt-REQUEST_ROOM c =
     let a = c.args in
     let q = draft a.ask a.pair a.families a.addresses a.nat_source.now a.nat_destination.now a.cookie.now in
-    no_room a.asked q a.out.now _ (sym c.asks_clone.ensures ∙ c.if-asks_clone.true)
+    no_room a.asked q a.out.now _ (sym c.asks_clone-asks.ensures ∙ c.if-asks.true)
     (sym c.clone_alone.ensures ∙ c.if-clone_alone.true) c.if-out-lt-REQUEST_ROOM.true c.not_written.ensures
 
 pub returns-then-clone_alone : goal.returns-then-clone_alone
@@ -17,18 +17,18 @@ returns-then-clone_alone c =
     let a = c.args in
     let q = draft a.ask a.pair a.families a.addresses a.nat_source.now a.nat_destination.now a.cookie.now in
     let p = c.put_clone.ensures in
-    done a.asked q a.out.now _ (sym c.asks_clone.ensures ∙ c.if-asks_clone.true)
+    done a.asked q a.out.now _ (sym c.asks_clone-asks.ensures ∙ c.if-asks.true)
     (sym c.clone_alone.ensures ∙ c.if-clone_alone.true) c.if-out-lt-REQUEST_ROOM.false _ p.0 p.1
 
-pub returns-then-asks_clone : goal.returns-then-asks_clone
-returns-then-asks_clone c =
+pub returns-then-asks : goal.returns-then-asks
+returns-then-asks c =
     let a = c.args in
     let q = draft a.ask a.pair a.families a.addresses a.nat_source.now a.nat_destination.now a.cookie.now in
-    not_alone a.asked q a.out.now _ (sym c.asks_clone.ensures ∙ c.if-asks_clone.true)
-    (sym c.clone_alone.ensures ∙ c.if-clone_alone.false) c.not_written-then-asks_clone.ensures
+    not_alone a.asked q a.out.now _ (sym c.asks_clone-asks.ensures ∙ c.if-asks.true)
+    (sym c.clone_alone.ensures ∙ c.if-clone_alone.false) c.not_written-then-asks.ensures
 
 pub returns : goal.returns
 returns c =
     let a = c.args in
     let q = draft a.ask a.pair a.families a.addresses a.nat_source.now a.nat_destination.now a.cookie.now in
-    as_ever a.asked q a.out.now _ (sym c.asks_clone.ensures ∙ c.if-asks_clone.false) _ c.write.ensures
+    as_ever a.asked q a.out.now _ (sym c.asks_clone-asks.ensures ∙ c.if-asks.false) _ c.write.ensures
