@@ -22,6 +22,24 @@ pub fn rules_of(rules: &[Rule; RULES_MOST]) -> [Rule; RULES_MOST]
     *rules
 }
 
+// Whether some rule of a policy accepts the pair: its count and its rules, which are read where they lie.
+fn some_rule(count: usize, rules: &[Rule; RULES_MOST], pair: Pair) -> bool
+    ensures { result ≡ acceptable (record { count = count; rules = rules.now }) pair }
+{
+    let mut i = 0;
+    while i < RULES_MOST {
+        if count <= i {
+            return false;
+        }
+        let rule = rules[i];
+        if rule_matches(rule, pair) {
+            return true;
+        }
+        i += 1;
+    }
+    false
+}
+
 // Whether it is asked, and some rule of the policy at the place accepts the pair; past the end none does. Both policies
 // are lent, and the one is read where it lies.
 pub fn accepts_if(policies: &[Policy; OPERATORS], place: usize, asked: bool, pair: Pair) -> bool
@@ -33,17 +51,5 @@ pub fn accepts_if(policies: &[Policy; OPERATORS], place: usize, asked: bool, pai
     if OPERATORS <= place {
         return false;
     }
-    let count = policies[place].count as usize;
-    let mut i = 0;
-    while i < RULES_MOST {
-        if count <= i {
-            return false;
-        }
-        let rule = policies[place].rules[i];
-        if rule_matches(rule, pair) {
-            return true;
-        }
-        i += 1;
-    }
-    false
+    some_rule(policies[place].count as usize, &policies[place].rules, pair)
 }
