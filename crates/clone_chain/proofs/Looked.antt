@@ -4,7 +4,7 @@ use mathlib.Core.Path.{◌≡◌, refl, ◌∙◌}
 use mathlib.Core.List.{List}
 use mathlib.Core.Bool.{Bool, true, false, cond, ◌&&◌, ◌||◌, not}
 use native.Mathlib.Omega.{arith}
-use borrow.Author.Tests.{lt-ltb, le-ltb, ltb-true, ltb-false, ne_eqb}
+use borrow.Author.Tests.{lt-ltb, le-ltb, ltb-true, ltb-false, eq-eqb, ne_eqb}
 use lib.Dec.{eqb, ltb}
 use lib.ListN.{length, get_or}
 use Rattle.octets.specs.Limits.{body_most, notify_header}
@@ -13,7 +13,8 @@ use Rattle.octets.specs.Wire.{clone_ike_sa_supported, clone_ike_sa}
 use Rattle.octets.proofs.Small.{chosen}
 use Rattle.payload.specs.Payload.{payload_at, spi_size_at}
 use Rattle.payload.specs.declared.payload.Fault.{Fault}
-use Rattle.payload.specs.declared.payload.Fault.TheVariants.{NotifyShape, DataSize, Conflict, Leftover}
+use Rattle.payload.specs.declared.payload.Fault.TheVariants.{ChainLength, NotifyShape, DataSize, Conflict, Leftover}
+use Rattle.payload.specs.declared.payload.Fault.TheVariants.{Critical}
 use Rattle.payload.specs.declared.payload.Content.{Content}
 use Rattle.payload.specs.declared.payload.Content.TheVariants.{Skipped, Unknown, Notify}
 use Rattle.payload.specs.declared.payload.Found.{Found}
@@ -21,7 +22,7 @@ use Rattle.payload.specs.declared.payload.Found.TheVariants.{Payload, Faulty}
 use Rattle.findings.specs.Seen.{nothing_seen, content_noted, conflicts}
 use Rattle.findings.specs.declared.seen.Seen.{Seen}
 use Rattle.reader.specs.Chain.{Chain, ends, faulty, payload, link, chain_end, chain, chain_at, payloads_before}
-use Rattle.reader.specs.Chain.{Scan, scanned, stopped, reading, Outcome, Whole, Broken, fault_number, fault_type, answer}
+use Rattle.reader.specs.Chain.{Scan, scanned, stopped, reading, Outcome, Whole, Broken, fault_number, fault_type, answer, refused}
 use Rattle.reader.specs.declared.read.Reading.{Reading}
 use Rattle.reader.proofs.Chain.{takes, Formed, chain_formed}
 use Rattle.reader.proofs.Whole.{faults_told}
@@ -164,11 +165,19 @@ module _ (most stop : ℕ) (body : List ℕ) where
             },
       )
       go true e (Broken NotifyShape to) shape p l r = found NotifyShape e refl
+      go true e (Broken ChainLength to) w p l r = elim w [ ]
+      go true e (Broken Conflict to) w p l r = elim w [ ]
+      go true e (Broken Leftover to) w p l r = elim w [ ]
+      go true e (Broken (Critical payload_type) to) w p l r = elim w [ ]
       go true e (Broken DataSize to) data_size_lem p l r = found DataSize e refl
       go false e Whole none Whole l r = refl
       go false e Whole none (Broken f to) l r =
           let s = ltb-false at stop e in
           (omega (arith, h.0, r.0), r.1, r.2, λ z. refl, λ z. absurd (omega (arith, r.0)))
+      go false e (Broken ChainLength to) w p l r = elim w [ ]
+      go false e (Broken Conflict to) w p l r = elim w [ ]
+      go false e (Broken Leftover to) w p l r = elim w [ ]
+      go false e (Broken (Critical payload_type) to) w p l r = elim w [ ]
       go false e (Broken NotifyShape to) shape p l r =
           let s = ltb-false at stop e in
           (h.0, i.0, refl, λ z. refl, λ z. absurd (omega arith))
@@ -281,3 +290,23 @@ module _ (first : ℕ) (body : List ℕ) where
       (look_tells (length body) o body ch 0 0 false false (chain_formed body first 0 (omega arith))
       (chain_inside body first)))
       (λ w v. rw (f, q) (look_notes o body ch 0 false false (rw w (chain_inside body first)) v)))
+
+  -- The three ways that the code ends, in what it is told of the reading and of the look.
+  module _ (r : Reading) (l : Look) (at : ℕ) where
+    pub refused_told : (x : Reading) → length body ≤ body_most → r ≡ reading first body → at ≡ stop_of r (length body)
+        → l ≡ look_to at body 0 false false ch → (l.number ≡ 0 → ⊥) → x ≡ refused l.number 0 l.offset l.ordinal
+        → clone_read x false false ≡ clone_reading first body
+    refused_told x short e s f n y =
+        rw y (rw (ne_eqb l.number 0 n) at (put_together short r e l (rw s at f)))
+
+    pub stopped_told : length body ≤ body_most → r ≡ reading first body → at ≡ stop_of r (length body)
+        → l ≡ look_to at body 0 false false ch → l.number ≡ 0 → (r.number ≡ 0 → ⊥)
+        → clone_read r false false ≡ clone_reading first body
+    stopped_told short e s f z n =
+        rw (eq-eqb l.number 0 z, ne_eqb r.number 0 n) at (put_together short r e l (rw s at f))
+
+    pub whole_told : length body ≤ body_most → r ≡ reading first body → at ≡ stop_of r (length body)
+        → l ≡ look_to at body 0 false false ch → l.number ≡ 0 → r.number ≡ 0
+        → clone_read r l.supported l.clone ≡ clone_reading first body
+    whole_told short e s f z y =
+        rw (eq-eqb l.number 0 z, eq-eqb r.number 0 y) at (put_together short r e l (rw s at f))

@@ -146,6 +146,7 @@ fn stop_of(r: Reading, size: usize) -> usize
 }
 
 // Reads a clone request of at most 4,096 octets.
+#[tactic(auto, using(crate::proofs::Looked::refused_told, crate::proofs::Looked::stopped_told, crate::proofs::Looked::whole_told))]
 pub fn read_clone(first: u8, body: &[u8]) -> CloneReading
     requires { length body.now ≤ body_most }
     ensures { result ≡ clone_reading first body.now }
