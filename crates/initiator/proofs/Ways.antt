@@ -19,7 +19,7 @@ use Rattle.reader.proofs.Count.{promised}
 use Rattle.reader.proofs.Errors.{errors_among}
 use Rattle.reader.proofs.Refused.{broken_of}
 use Rattle.asking.specs.Fits.{cookie_fits}
-use Rattle.initiator.specs.Response.{response_checks, offset_told, refusal, whole_assessment, assessment, AssessedAs}
+use Rattle.initiator.specs.Response.{response_checks, refusal, whole_assessment, assessment, AssessedAs}
 use Rattle.initiator.specs.declared.response.Assessment.{Assessment}
 
 -- a number that is told is told, and 0 where there is none

@@ -67,6 +67,7 @@ pub fn same_octets(a: &[u8], b: &[u8]) -> bool
 }
 
 // Whether the response doesn't bring back the cookie that was sent.
+#[tactic(auto, unfolding(crate::specs::Response::closes))]
 pub fn must_close(sent: &[u8], got: &[u8], errors: u16) -> bool
     ensures { result ≡ closes sent.now got.now errors }
 {
@@ -99,6 +100,7 @@ pub fn error_outcome(notify_type: u16) -> Outcome
     }
 }
 
+#[tactic(auto, unfolding(crate::specs::Response::outcome_of))]
 pub fn outcome_of(sent: &[u8], got: &[u8], t: Tally) -> Outcome
     ensures { result ≡ outcome_of sent.now got.now t }
 {
@@ -112,6 +114,7 @@ pub fn outcome_of(sent: &[u8], got: &[u8], t: Tally) -> Outcome
 }
 
 // What was unknown in the response: errors are known here, and a cookie that wasn't asked for is not.
+#[tactic(auto, unfolding(crate::specs::Response::tally_of))]
 pub fn tally_of(sent: &[u8], got: &[u8], t: Tally) -> u32
     requires { t.errors ≤ t.unknown_notifies }
     ensures { result ≡ tally_of sent.now got.now t }
