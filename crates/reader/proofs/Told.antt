@@ -1,8 +1,6 @@
 -- The fault at which a refused chain stops is told by its number, and but for that number nothing is told otherwise
 -- than before 6 was split.
-use Prim.Native.Nat.{ℕ}
 use mathlib.Core.Path.{◌≡◌, refl, sym, ap}
-use mathlib.Core.List.{List}
 use mathlib.Core.Bool.{Bool, true, false, cond}
 use borrow.Author.Tests.{le-ltb}
 use lib.Dec.{ltb}

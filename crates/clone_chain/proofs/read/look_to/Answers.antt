@@ -1,9 +1,7 @@
 -- One turn is in proofs/Turn.antt, by the size that is read.
-use Rattle.std.proofs.Common.{◌≡◌, ℕ, ◌+◌, refl, sym, ◌∙◌, arith}
-use Rattle.octets.specs.Octets.{be16}
-use Rattle.payload.specs.Payload.{length_at}
+use Rattle.std.proofs.Common.{◌≡◌, refl, sym, ◌∙◌, arith}
 use Rattle.clone_chain.specs.Look.{notify_type_of, number_at}
-use Rattle.clone_chain.proofs.Turn.{Turned, turned, passed}
+use Rattle.clone_chain.proofs.Turn.{turned, passed}
 use Rattle.clone_chain.proofs.read.look_to.Goals as goal
 
 pub be16_at-size-requires : goal.be16_at-size-requires
@@ -29,7 +27,7 @@ returns-then-number-ne0 c =
     turned a.stop l.payload_type a.body.now l.at l.invariant.0 c.requires.0 c.loop-at-test.true l.invariant.2 _
     c.be16_at-size.ensures in
     let e : c.clone_number-number.result
-        ≡ number_at a.body.now l.at (notify_type_of l.payload_type a.body.now l.at) c.be16_at-size.result =
+    ≡ number_at a.body.now l.at (notify_type_of l.payload_type a.body.now l.at) c.be16_at-size.result =
     rw (← c.notify_type_of-notify_type.ensures) c.clone_number-number.ensures in
     rw (l.invariant.3, t.stops l.ordinal l.supported l.clone (λ z. c.if-number-ne0.true (e ∙ z)), e)
 
@@ -50,7 +48,7 @@ loop-at-preserved c =
     turned a.stop l.payload_type a.body.now l.at l.invariant.0 c.requires.0 c.loop-at-test.true l.invariant.2 _
     c.be16_at-size.ensures in
     let e : c.clone_number-number.result
-        ≡ number_at a.body.now l.at (notify_type_of l.payload_type a.body.now l.at) c.be16_at-size.result =
+    ≡ number_at a.body.now l.at (notify_type_of l.payload_type a.body.now l.at) c.be16_at-size.result =
     rw (← c.notify_type_of-notify_type.ensures) c.clone_number-number.ensures in (
       t.within,
       omega (arith, t.header),

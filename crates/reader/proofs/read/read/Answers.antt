@@ -1,6 +1,5 @@
 -- A body that is not too long is read whole.
-use Rattle.std.proofs.Common.{lt-ltb, refl, ◌∙◌, arith}
-use Rattle.reader.specs.Chain.{reading}
+use Rattle.std.proofs.Common.{refl, ◌∙◌, arith}
 use Rattle.reader.proofs.Count.{promised}
 use Rattle.reader.proofs.Begun.{begins, scanned_whole}
 use Rattle.reader.proofs.read.read.Goals as goal

@@ -61,11 +61,11 @@ returns c =
     let s = c.args.state.now in
     let e = rw c.fault_number.ensures at c.number_of.ensures in
     elim c.match-f.branch [
-      in-Critical w ↦
+      | in-Critical w ↦
           rw (w.state-is, w.in-Critical.is)
           (critical-told s c.requires.0 c.args.at _ w.in-Critical.payload_type (search rules)
           (e ∙ ap (λ (f : Fault). number_of (fault_number f)) w.f-is))
-    | in_default w ↦
+      | in_default w ↦
           rw w.state-is
           (other-told s c.requires.0 c.args.at _ c.args.f w.in_default.not-Critical
           (e ∙ ap (λ (f : Fault). number_of (fault_number f)) w.f-is))
