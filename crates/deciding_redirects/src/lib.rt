@@ -63,6 +63,7 @@ fn data_number(exchange: Exchange, sent: &[u8], data: &[u8]) -> u8
 
 // The number of the decision; 0 where the REDIRECT is accepted. `sent` is the nonce sent, at which only IKE_SA_INIT
 // looks.
+#[tactic(auto, unfolding(crate::specs::Decision::decision_number))]
 pub fn decision_number(record: Accepted, exchange: u8, sent: &[u8], time: u64, data: &[u8]) -> u8
     ensures { let a = asked exchange sent.now time «data».now in
         result ≡ decision_number (kept «record») a }
@@ -75,6 +76,7 @@ pub fn decision_number(record: Accepted, exchange: u8, sent: &[u8], time: u64, d
 }
 
 // The record after a decision with this number.
+#[tactic(auto, unfolding(crate::specs::Decision::after_number))]
 pub fn after_number(record: Accepted, time: u64, number: u8) -> Accepted
     ensures { result ≡ after_number «record» time number }
 {

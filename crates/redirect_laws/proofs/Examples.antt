@@ -1,6 +1,5 @@
 -- The examples, computed.
 use mathlib.Core.Path.{refl}
-use mathlib.Core.List.{map}
 use Rattle.redirect.specs.Identity.{identity_fits, nonce_fits, no_nonce_or}
 use Rattle.redirect.specs.Read.{redirect_malformed, from_malformed}
 use Rattle.redirect.specs.Write.{gateway_octets}
@@ -11,7 +10,7 @@ use Rattle.redirect_laws.specs.Examples.{numbers, Examples}
 
 pub examples : Examples
 unfolding numbers decision_number after_number keeping before_last five_recent is_recent
-    exchange_of redirect_malformed from_malformed identity_fits nonce_fits no_nonce_or gateway_octets map
+    exchange_of redirect_malformed from_malformed identity_fits nonce_fits no_nonce_or gateway_octets
 examples =
     record {
       redirects = refl;
