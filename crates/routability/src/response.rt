@@ -39,6 +39,7 @@ pub fn is_pending_for(entry: IkeRecord, id: u32) -> bool
 }
 
 // The checks before the chain is read, in their order.
+#[tactic(auto, unfolding(crate::specs::Routability::early_response))]
 pub fn early_response(
     size: usize,
     place: usize,
@@ -133,6 +134,7 @@ pub fn entry_after(closes: bool, entry: IkeRecord) -> IkeRecord
 }
 
 // What a response comes to, given the lowest place with its SPI and the record there.
+#[tactic(auto, unfolding(crate::specs::Ending::ending_of))]
 pub fn end_check(
     size: usize,
     place: usize,
