@@ -20,6 +20,7 @@ use responding::respond::{Response, put_error, respond_decided, wants_nats};
 use values::cookie;
 
 // The error for a malformed chain, of any of the numbers 61 to 65, or for an unknown critical payload, and nothing else.
+#[tactic(auto, unfolding(crate::specs::Core::chain_error))]
 pub fn put_chain_error(r: Reading, out: &mut [u8]) -> Response
     requires { response_room ≤ length out.old }
     ensures { Responds (chain_error r) out.old out.new result }

@@ -79,6 +79,7 @@ pub fn left_off(n: u16) -> u16
 }
 
 // Step 3: an ID above the list mark replaces the list; what became of the update is told on.
+#[tactic(auto, unfolding(crate::specs::Decide::list_decided))]
 pub fn decide_list(seen: Seen, id: u32, update: Effect, marks: Marks) -> Decision
     ensures { result ≡ list_decided seen id update marks }
 {
@@ -113,6 +114,7 @@ pub fn decide_list(seen: Seen, id: u32, update: Effect, marks: Marks) -> Decisio
 }
 
 // Step 2, then step 3 unless the update was refused. The verdict is asked for only where the update is not stale.
+#[tactic(auto, unfolding(crate::specs::Decide::update_decided))]
 pub fn decide_update(
     accepted: bool,
     body: &[u8],
@@ -146,6 +148,7 @@ pub fn decide_update(
 }
 
 // Steps 1 to 3 on what was seen in a body, by the marks of the record that the request means.
+#[tactic(auto, unfolding(crate::specs::Decide::decided))]
 pub fn decide(
     accepted: bool,
     body: &[u8],

@@ -9,6 +9,7 @@ use records::ike::{IkeRecord, relist, remark};
 use values::{addresses_in, kept_count};
 
 // The record after an answer. The list is built only where it is replaced.
+#[tactic(auto, unfolding(crate::specs::Change::changed_by))]
 pub fn changed(
     entry: IkeRecord,
     a: CoreAnswer,
