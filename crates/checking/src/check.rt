@@ -43,6 +43,7 @@ pub fn arguments_fit(
 }
 
 // Checks 1 to 5 in their order.
+#[tactic(auto, unfolding(crate::specs::Checks::early_number_by))]
 pub fn early_number(
     looked: Looked,
     packet: Packet,

@@ -14,6 +14,7 @@ use responding::respond::no_response;
 
 // Handles one request by what was looked up for it and by whether the policy accepts its pair. The response goes to the
 // start of `out`, and what is past it stays as it was.
+#[tactic(auto, using(writing::proofs::Placed::placed_none), unfolding(crate::specs::Looked::handled_at, crate::specs::Looked::response_at))]
 pub fn handle_at(
     accepted: bool,
     looked: Looked,
