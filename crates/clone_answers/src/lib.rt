@@ -41,6 +41,7 @@ pub fn clone_notify(number: u8) -> u16
 }
 
 // The response to a clone request whose chain was read, by its number.
+#[tactic(auto, using(writing::proofs::Placed::placed_none), unfolding(cloning::specs::Clone::clone_notifies, writing::specs::Notify::chained))]
 pub fn respond_clone(number: u8, r: Reading, out: &mut [u8]) -> Response
     requires { response_room ≤ length out.old }
     ensures { Responds (clone_notifies number r) out.old out.new result }
@@ -71,6 +72,7 @@ pub fn not_cloned(number: u8) -> CloneReply
 
 // A clone request by what was looked up: the lowest place with its SPI and the record there, the lowest free place, the
 // lowest with the new SPI, and how many records the peer has and the operator. The response goes to the start of `out`.
+#[tactic(auto, using(writing::proofs::Placed::placed_none), unfolding(cloning::specs::Looked::clone_at, cloning::specs::Looked::octets_at, cloning::specs::Clone::clone_told))]
 pub fn clone_at(
     place: usize,
     entry: IkeRecord,

@@ -15,6 +15,7 @@ use octets::operator::not_operator;
 use records::ike::IkeRecord;
 
 // The checks before the chain is read, in their order.
+#[tactic(auto, unfolding(cloning::specs::Clone::early_clone))]
 pub fn early_clone(
     place: usize,
     entry: IkeRecord,
@@ -92,6 +93,7 @@ pub fn whole_number(
 }
 
 // The checks by the chain and behind it.
+#[tactic(auto, unfolding(cloning::specs::Clone::late_clone))]
 pub fn late_clone(
     read: CloneReading,
     entry: IkeRecord,
