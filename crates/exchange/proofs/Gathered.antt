@@ -89,7 +89,7 @@ one f c g = record { fits = (f, tt); clear = (c, tt); gives = g }
 pub in_turn : {r mid end : Draft} {ys : List Notification} (xs : List Notification) → Leads r xs mid
     → Leads mid ys end
     → Leads r (xs ++ ys) end
-in_turn [] a b = record { fits = b.fits; clear = rw a.gives b.clear; gives = rw a.gives b.gives }
-in_turn (x ∷ xs) a b =
-    let rest = in_turn xs (record { fits = a.fits.1; clear = a.clear.1; gives = a.gives }) b in
+in_turn {r = r} [] a b = record { fits = b.fits; clear = rw a.gives b.clear; gives = rw a.gives b.gives }
+in_turn {r = r} (x ∷ xs) a b =
+    let rest = in_turn {r = gathered r (kind_of x.notify_type) x.octets} xs (record { fits = a.fits.1; clear = a.clear.1; gives = a.gives }) b in
     record { fits = (a.fits.0, rest.fits); clear = (a.clear.0, rest.clear); gives = rest.gives }
