@@ -1,7 +1,7 @@
 -- An entry with so much of the trace in sight is decided. Assumes nothing.
-use Prim.Native.Nat.{ℕ, ◌+◌, ◌≤◌, ◌<◌, max}
-use mathlib.Core.Path.{◌≡◌, refl, sym, ◌∙◌, ap}
-use mathlib.Core.List.{List, [], ◌∷◌, ◌++◌}
+use Prim.Native.Nat.{ℕ, ◌+◌, ◌≤◌, ◌<◌}
+use mathlib.Core.Path.{◌≡◌, refl, ap}
+use mathlib.Core.List.{List, ◌++◌}
 use native.Mathlib.Omega.{arith}
 use lib.ListN.{length}
 use Rattle.leb128.specs.Leb128.{decoded_at, octets_of, groups}
@@ -17,7 +17,7 @@ use Rattle.fields.specs.declared.refusal.Refusal.TheVariants.{Cut, UnknownKind, 
 use Rattle.field_laws.proofs.Sight.{number_stays, number_same, decided}
 use Rattle.field_laws.proofs.Told.{number_is}
 use Rattle.entries.specs.Kinds.{kind_number, fields_of}
-use Rattle.entries.specs.Entries.{Entry, kind_of, as_entry, of_kind, after_kind, entry_at}
+use Rattle.entries.specs.Entries.{kind_of, as_entry, of_kind, after_kind, entry_at}
 use Rattle.entry_laws.specs.Sight.{entry_most, entry_sight, InSight}
 use Rattle.entries.specs.declared.kind.Kind.{Kind}
 use Rattle.entries.specs.declared.kind.Kind.TheVariants.{OpenBoth, AddIpsec, CloseIke, CloseIpsec, Request}
