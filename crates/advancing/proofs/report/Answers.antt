@@ -10,7 +10,7 @@ returns-clause-line g c =
     let p = c.put_line-n.ensures in
     let n = c.put_line-n.result in
     let line : take n c.put_line-n.new.line ≡ printed c.args.s c.args.o =
-        ap (take n) p.octets ∙ put_in_front _ (printed c.args.s c.args.o) n p.size in
+    ap (take n) p.octets ∙ put_in_front _ (printed c.args.s c.args.o) n p.size in
     subst
     (λ (written : List ℕ). Appends (g.W.Write.contents c.args.output.now) (g.W.Write.contents c.write_all.new.self) written)
     line c.in_ok-write_all.ensures.bytes

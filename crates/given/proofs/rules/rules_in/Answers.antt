@@ -11,7 +11,7 @@ loop-i-preserved c =
     let more = c.loop-i-test.true in (
       omega arith,
       elim c.if-i-e.branch [
-        then-i-e w ↦
+        | then-i-e w ↦
             w.rules-is
             ∙ rw w.rule_in.ensures (given_turn a.s.now a.e.slots l.rules l.i more l.invariant.1 w.if-i-e.true)
         | else-i-e w ↦ w.rules-is ∙ kept_turn a.s.now a.e.slots l.rules l.i more l.invariant.1 w.if-i-e.false
