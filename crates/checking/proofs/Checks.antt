@@ -1,8 +1,7 @@
 -- What has been shown where checks 1 to 5 pass, and what is known of their number.
 use Prim.Native.Nat.{ℕ, ◌≤◌}
 use mathlib.Core.Path.{◌≡◌, refl}
-use mathlib.Core.List.{List}
-use mathlib.Core.Bool.{Bool, true, false, ◌&&◌, not}
+use mathlib.Core.Bool.{Bool, true, not}
 use borrow.Author.Tests.{eqb-true, ltb-false, not-false}
 use lib.Dec.{eqb}
 use lib.ListN.{length}
@@ -16,7 +15,7 @@ use Rattle.octets.proofs.Small.{both}
 use Rattle.address.specs.Address.{pair_fits}
 use Rattle.records.specs.Pending.{is_pending}
 use Rattle.records.specs.declared.ike.Agreed.{Agreed}
-use Rattle.checking.specs.Checks.{Request, arguments_fit, request_checks, early_number_by}
+use Rattle.checking.specs.Checks.{Request, request_checks, early_number_by}
 
 module _ (lent : ℕ) (there : Bool) (agreed : Agreed) (q : Request) where
   pub record Passed : Type 0 where

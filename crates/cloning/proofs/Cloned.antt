@@ -1,7 +1,7 @@
 -- A clone request as the code decides it, with the table's change around it, is the one that is defined; and what it can
 -- come to: the table as it was, or one record more under what its checks have shown.
 use Prim.Native.Nat.{ℕ, ◌<◌, ◌≤◌}
-use mathlib.Core.Path.{◌≡◌, refl, sym, ◌∙◌}
+use mathlib.Core.Path.{◌≡◌, refl}
 use mathlib.Core.Logic.{◌⊎◌, inl, inr}
 use mathlib.Core.List.{List, []}
 use mathlib.Core.Bool.{Bool, true, false, cond, ◌&&◌, not}

@@ -1,13 +1,12 @@
 -- Inner. A clone request as the code decides it, by what was looked up: what is told, and the record that is stored at
 -- a place, past the end where nothing is stored. `proofs/Cloned.antt` shows that this, with the table's change around it,
 -- is `cloned` of `Clone`.
-use Rattle.std.specs.Prelude.{ℕ, List, [], Bool, cond, not, ◌&&◌, eqb, ltb}
+use Rattle.std.specs.Prelude.{ℕ, List, [], cond, not, ◌&&◌, eqb, ltb}
 use Rattle.octets.specs.Limits.{ike_places}
 use Rattle.writing.specs.Notify.{chained}
 use Rattle.records.specs.Records.{clone_of}
 use Rattle.records.specs.declared.ike.IkeRecord.{IkeRecord}
 use Rattle.clone_chain.specs.CloneChain.{clone_reading}
-use Rattle.clone_chain.specs.declared.read.CloneReading.{CloneReading}
 use Rattle.cloning.specs.Clone.{CloneRequest, early_clone, late_clone, not_cloned, clone_told, clone_notifies}
 use Rattle.cloning.specs.declared.clone.CloneAnswer.{CloneAnswer}
 

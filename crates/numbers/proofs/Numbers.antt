@@ -18,7 +18,7 @@ use Rattle.answering.specs.Core.{chain_error, decision_on}
 use Rattle.checking.specs.Checks.{Request}
 use Rattle.responder.specs.Handle.{accepts}
 use Rattle.reader.specs.Chain.{reading}
-use Rattle.reader.proofs.Refused.{OfEach, broken_of}
+use Rattle.reader.proofs.Refused.{broken_of}
 use Rattle.checking.proofs.Checks.{passed, early_of}
 use Rattle.numbers.specs.Numbers.{same, none, syntax_error, NumberRow, number_row, number_rows}
 use Rattle.numbers.specs.Numbers.{Some, Gives, AsTheTable}

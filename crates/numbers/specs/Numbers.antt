@@ -19,7 +19,6 @@ use Rattle.octets.specs.Numbers.{number_of}
 use Rattle.octets.specs.Wire.{invalid_syntax, unacceptable_addresses, unexpected_nat_detected, unsupported_critical_payload}
 use Rattle.octets.specs.Lists.{place_of}
 use Rattle.values.specs.Values.{addresses_in}
-use Rattle.findings.specs.declared.seen.Seen.{Seen}
 use Rattle.policy.specs.declared.rules.Policy.{Policy}
 use Rattle.reader.specs.Chain.{reading}
 use Rattle.records.specs.Records.{ike_spi, rewritten}

@@ -1,5 +1,5 @@
 -- What is received of a request, by the number of checks 1 to 5; and that the policy is asked wherever its word counts.
-use Rattle.std.specs.Prelude.{◌≡◌, ℕ, Bool, true, false, cond, ◌&&◌, eqb, leb}
+use Rattle.std.specs.Prelude.{◌≡◌, ℕ, Bool, true, false, ◌&&◌, eqb, leb}
 use mathlib.Core.Path.{refl}
 use borrow.Author.Tests.{eq-eqb}
 use Rattle.values.specs.declared.NoNats.{NoNats}

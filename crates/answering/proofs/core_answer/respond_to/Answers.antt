@@ -14,7 +14,7 @@ respond_decided-response-requires-clause-response_room_in_bounds c =
     let a = c.args in
     let read = ap (λ (x : Reading). x.seen) c.requires.body_len_bound.1 in
     let short : length c.cookie-k.result.now ≤ cookie_most =
-        rw c.cookie-k.ensures (cookie_part a.packet.first a.body.now a.read.seen read) in
+    rw c.cookie-k.ensures (cookie_part a.packet.first a.body.now a.read.seen read) in
     (c.requires.response_room_in_bounds, short)
 
 pub returns-then-read-number_of : goal.returns-then-read-number_of

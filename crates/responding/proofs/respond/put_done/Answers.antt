@@ -24,14 +24,14 @@ returns-then-wanted c =
     let long-2 = length-one y t.result in
     let tail = cookie_length a.cookie.now in
     let second =
-        wrote_both m.new.out m.result (y ∷ []) ys 0 t.result n.new.out k.new.out n.result k.result
-        t.ensures (omega (arith, long-2, tail))
-        (wrote_one m.new.out m.result y t.result n.new.out n.result n.ensures.value n.ensures.out_after)
-        k.ensures in
+    wrote_both m.new.out m.result (y ∷ []) ys 0 t.result n.new.out k.new.out n.result k.result
+    t.ensures (omega (arith, long-2, tail))
+    (wrote_one m.new.out m.result y t.result n.new.out n.result n.ensures.value n.ensures.out_after)
+    k.ensures in
     let all =
-        wrote_both a.out.now 0 (x ∷ []) (y ∷ ys) 0 notify_payload m.new.out k.new.out m.result k.result refl
-        (omega (arith, long, second.offset))
-        (wrote_one a.out.now 0 x notify_payload m.new.out m.result m.ensures.value m.ensures.out_after) second in
+    wrote_both a.out.now 0 (x ∷ []) (y ∷ ys) 0 notify_payload m.new.out k.new.out m.result k.result refl
+    (omega (arith, long, second.offset))
+    (wrote_one a.out.now 0 x notify_payload m.new.out m.result m.ensures.value m.ensures.out_after) second in
     rw c.if-wanted.true (responds (x ∷ y ∷ ys) a.out.now k.new.out k.result all)
 
 pub overflow_cast-result-2 : goal.overflow_cast-result-2
