@@ -17,8 +17,7 @@ pub struct AddressList {
 }
 
 // Reads any octets as a payload chain that begins with a payload of type `first`.
-#[unsafe(no_mangle)]
-pub extern "C" fn unmavreth_read(first: u8, body: &[u8]) -> Reading
+pub fn unmavreth_read(first: u8, body: &[u8]) -> Reading
     ensures { ReadAs first body.now result }
 {
     reader::read::read(first, body)
@@ -26,8 +25,7 @@ pub extern "C" fn unmavreth_read(first: u8, body: &[u8]) -> Reading
 
 // Hands out COOKIE2's data as a part of the body, by the offset and the size that a reading or a reply told; empty if
 // there is none.
-#[unsafe(no_mangle)]
-pub extern "C" fn unmavreth_cookie<'s, 'a>(
+pub fn unmavreth_cookie<'s, 'a>(
     out: &'s mut &'a [u8],
     body: &'a [u8],
     at: u16,
@@ -39,24 +37,21 @@ pub extern "C" fn unmavreth_cookie<'s, 'a>(
 }
 
 // Hands out a NAT detection value as a part of the body, by the offset that a reading told; empty if there is none.
-#[unsafe(no_mangle)]
-pub extern "C" fn unmavreth_nat_value<'s, 'a>(out: &'s mut &'a [u8], body: &'a [u8], at: u16)
+pub fn unmavreth_nat_value<'s, 'a>(out: &'s mut &'a [u8], body: &'a [u8], at: u16)
     ensures { PartOf body.entry at nat_octets out.new }
 {
     *out = parts::nat_value(body, at);
 }
 
 // What NO_NATS_ALLOWED held, by the offset and the size that a reading told; family 0 if there is none.
-#[unsafe(no_mangle)]
-pub extern "C" fn unmavreth_no_nats(body: &[u8], at: u16, size: u16) -> NoNats
+pub fn unmavreth_no_nats(body: &[u8], at: u16, size: u16) -> NoNats
     ensures { result ≡ no_nats_at body.now at size }
 {
     values::no_nats_at(body, at, size)
 }
 
 // The first sixteen additional addresses, by the offsets and the families that a reading told.
-#[unsafe(no_mangle)]
-pub extern "C" fn unmavreth_addresses(body: &[u8], list: Offsets) -> AddressList
+pub fn unmavreth_addresses(body: &[u8], list: Offsets) -> AddressList
     ensures { result.list ≡ addresses_in body.now list }
 {
     AddressList {

@@ -16,8 +16,7 @@ use redirecting::times::Accepted;
 // Reads the data of a REDIRECT (16407), at the client: in an IKE_SA_INIT response, with the nonce that the client
 // sent; in the first or the last IKE_AUTH response, or in an INFORMATIONAL request of the gateway, without one. The
 // new gateway's identity and the nonce are handed out as parts of the data; empty if there is none.
-#[unsafe(no_mangle)]
-pub extern "C" fn unmavreth_read_redirect<'s, 'a>(
+pub fn unmavreth_read_redirect<'s, 'a>(
     identity: &'s mut &'a [u8],
     nonce: &'s mut &'a [u8],
     data: &'a [u8],
@@ -32,8 +31,7 @@ pub extern "C" fn unmavreth_read_redirect<'s, 'a>(
 
 // Reads the data of a REDIRECTED_FROM (16408), at the gateway that a client was moved to: in an IKE_SA_INIT request.
 // The identity of the gateway that it comes from is handed out as a part of the data; empty if there is none.
-#[unsafe(no_mangle)]
-pub extern "C" fn unmavreth_read_redirected_from<'s, 'a>(
+pub fn unmavreth_read_redirected_from<'s, 'a>(
     identity: &'s mut &'a [u8],
     data: &'a [u8],
 ) -> GatewayRead
@@ -45,8 +43,7 @@ pub extern "C" fn unmavreth_read_redirected_from<'s, 'a>(
 }
 
 // Reads the data of a REDIRECT_SUPPORTED (16406), at the gateway: in a client's IKE_SA_INIT request. It has none.
-#[unsafe(no_mangle)]
-pub extern "C" fn unmavreth_read_redirect_supported(data: &[u8]) -> u8
+pub fn unmavreth_read_redirect_supported(data: &[u8]) -> u8
     ensures { result ≡ first_failed (supported_checks «data».now) }
 {
     reading_redirects::read_redirect_supported(data)
@@ -55,8 +52,7 @@ pub extern "C" fn unmavreth_read_redirect_supported(data: &[u8]) -> u8
 // Writes the data of a REDIRECT, at the gateway: for an IKE_SA_INIT response with the nonce of the client's request;
 // for the first or the last IKE_AUTH response, or for an INFORMATIONAL request, with an empty one, which is none. The
 // output must have room for the longest data whatever is written (`REDIRECT_ROOM`, 513 octets).
-#[unsafe(no_mangle)]
-pub extern "C" fn unmavreth_write_redirect(
+pub fn unmavreth_write_redirect(
     identity_type: u8,
     identity: &[u8],
     nonce: &[u8],
@@ -71,8 +67,7 @@ pub extern "C" fn unmavreth_write_redirect(
 
 // Writes the data of a REDIRECTED_FROM, at the client: for the IKE_SA_INIT request to the gateway that it was moved
 // to, with the address of the gateway that it comes from. The output must have room as for a REDIRECT.
-#[unsafe(no_mangle)]
-pub extern "C" fn unmavreth_write_redirected_from(
+pub fn unmavreth_write_redirected_from(
     identity_type: u8,
     identity: &[u8],
     out: &mut [u8],
@@ -86,8 +81,7 @@ pub extern "C" fn unmavreth_write_redirected_from(
 
 // Writes the data of a REDIRECT_SUPPORTED, at the client: for its first IKE_SA_INIT request. There is none, but the
 // output must have room as for a REDIRECT.
-#[unsafe(no_mangle)]
-pub extern "C" fn unmavreth_write_redirect_supported(out: &mut [u8]) -> DataWritten
+pub fn unmavreth_write_redirect_supported(out: &mut [u8]) -> DataWritten
     ensures { DataWrittenAs false [] out.old result out.new }
 {
     writing_redirects::write_redirect_supported(out)
@@ -98,8 +92,7 @@ pub extern "C" fn unmavreth_write_redirect_supported(out: &mut [u8]) -> DataWrit
 // request, at which only that exchange looks; `time` is in seconds. `count` and `times` are the client's record of
 // accepted times, oldest first, which a refusal leaves as it was; a fresh one is all zeros. The new gateway's identity
 // is handed out as a part of the data; empty with a refusal.
-#[unsafe(no_mangle)]
-pub extern "C" fn unmavreth_decide_redirect<'s, 'a>(
+pub fn unmavreth_decide_redirect<'s, 'a>(
     count: &mut u8,
     times: &mut [u64; REDIRECTS_MOST],
     identity: &'s mut &'a [u8],

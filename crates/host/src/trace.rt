@@ -8,16 +8,14 @@ use entry_calls::read::EntryRead;
 use entry_calls::write::EntryWritten;
 
 // Reads the entry at an offset of a trace.
-#[unsafe(no_mangle)]
-pub extern "C" fn unmavreth_read_entry(trace: &[u8], at: usize) -> EntryRead
+pub fn unmavreth_read_entry(trace: &[u8], at: usize) -> EntryRead
     ensures { result ≡ entry_read (entry_at trace.now at) }
 {
     entry_calls::read::entry_read(trace, at)
 }
 
 // Writes an entry at the front of the output. Its addresses and strings are parts of `source`, by their offsets there.
-#[unsafe(no_mangle)]
-pub extern "C" fn unmavreth_write_entry(
+pub fn unmavreth_write_entry(
     kind: u8,
     slots: &[u64; ENTRY_SLOTS],
     source: &[u8],

@@ -5,16 +5,14 @@ ghost use Rattle.host.specs.Interface.{interface_number};
 pub const INTERFACE: u32 = 6;
 
 // The number of the interface of this library, for a host that asks when it runs.
-#[unsafe(no_mangle)]
-pub extern "C" fn unmavreth_interface() -> u32
+pub fn unmavreth_interface() -> u32
     ensures { result ≡ interface_number }
 {
     INTERFACE
 }
 
 // The header and the Rust crate refer to it by this name, so that neither links with a library of another number.
-#[unsafe(no_mangle)]
-pub extern "C" fn unmavreth_interface_5() -> u32
+pub fn unmavreth_interface_5() -> u32
     ensures { result ≡ interface_number }
 {
     unmavreth_interface()

@@ -15,8 +15,7 @@ use requests::request::Written;
 // asked (`REQUEST_ROOM`, 564 octets); each yes or no in `ask` is an octet, of which 0 is no. Asking for everything
 // writes 21 Notify payloads, which a peer may refuse: see `requests::request::write`. CLONE_IKE_SA_SUPPORTED and
 // CLONE_IKE_SA are each written only alone.
-#[unsafe(no_mangle)]
-pub extern "C" fn unmavreth_write(
+pub fn unmavreth_write(
     ask: AskOctets,
     pair: Pair,
     addresses: AddressList,

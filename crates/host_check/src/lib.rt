@@ -15,8 +15,7 @@ use routability::response::end_check;
 // Decides the response to the check that an IKE record has pending. Accepted, it moves the record's IPsec records to
 // the pair that the record has now; a close closes the record and what it owns; an error moves nothing. Each ends the
 // check. A refusal ends nothing, and changes nothing.
-#[unsafe(no_mangle)]
-pub extern "C" fn unmavreth_check(
+pub fn unmavreth_check(
     ike: &mut [IkeRecord; IKE_PLACES],
     ipsec: &mut [IpsecRecord],
     spi: u64,

@@ -13,8 +13,7 @@ use records::ike::IkeRecord;
 // Answers a CREATE_CHILD_SA request that rekeys an IKE SA: the response goes to the start of `out`, and what is past it
 // stays as it was. Done, the clone stands at the lowest free place; a refusal changes no record. No IPsec list is lent:
 // a clone owns none.
-#[unsafe(no_mangle)]
-pub extern "C" fn unmavreth_clone(
+pub fn unmavreth_clone(
     ike: &mut [IkeRecord; IKE_PLACES],
     spi: u64,
     new_spi: u64,

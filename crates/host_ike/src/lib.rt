@@ -17,8 +17,7 @@ use records::ipsec::IpsecRecord;
 use tables::calls::Opening;
 
 // Opens an IKE record and its first IPsec record, each at the lowest free place of its table, or neither.
-#[unsafe(no_mangle)]
-pub extern "C" fn unmavreth_open(
+pub fn unmavreth_open(
     ike: &mut [IkeRecord; IKE_PLACES],
     ipsec: &mut [IpsecRecord],
     opening: Opening,
@@ -50,8 +49,7 @@ pub extern "C" fn unmavreth_open(
 }
 
 // Closes an IKE record and the IPsec records that it owns.
-#[unsafe(no_mangle)]
-pub extern "C" fn unmavreth_close_ike(
+pub fn unmavreth_close_ike(
     ike: &mut [IkeRecord; IKE_PLACES],
     ipsec: &mut [IpsecRecord],
     spi: u64,
@@ -70,8 +68,7 @@ pub extern "C" fn unmavreth_close_ike(
 }
 
 // Marks an IKE record as being deleted, whatever its mark was; only closing it takes the mark away.
-#[unsafe(no_mangle)]
-pub extern "C" fn unmavreth_mark_deletion(
+pub fn unmavreth_mark_deletion(
     ike: &mut [IkeRecord; IKE_PLACES],
     spi: u64,
     operator: u8,

@@ -15,8 +15,7 @@ use records::ike::IkeRecord;
 use records::ipsec::IpsecRecord;
 
 // Opens another IPsec record at the lowest free place, with the pair of its IKE record.
-#[unsafe(no_mangle)]
-pub extern "C" fn unmavreth_open_ipsec(
+pub fn unmavreth_open_ipsec(
     ike: &[IkeRecord; IKE_PLACES],
     ipsec: &mut [IpsecRecord],
     spi: u32,
@@ -38,8 +37,7 @@ pub extern "C" fn unmavreth_open_ipsec(
 }
 
 // Closes an IPsec record. The IKE table is lent for reading, since whose the record is goes by its owner.
-#[unsafe(no_mangle)]
-pub extern "C" fn unmavreth_close_ipsec(
+pub fn unmavreth_close_ipsec(
     ike: &[IkeRecord; IKE_PLACES],
     ipsec: &mut [IpsecRecord],
     spi: u32,

@@ -10,8 +10,7 @@ use octets::limits::{OPERATORS, RULES_MOST};
 use policy::rules::{Policy, Rule, set_policy};
 
 // Sets an operator's whole policy, or refuses and leaves it. The other's stays.
-#[unsafe(no_mangle)]
-pub extern "C" fn unmavreth_set_policy(
+pub fn unmavreth_set_policy(
     policies: &mut [Policy; OPERATORS],
     count: u16,
     rules: &[Rule; RULES_MOST],
@@ -27,8 +26,7 @@ pub extern "C" fn unmavreth_set_policy(
 }
 
 // Whether some rule of the operator's policy accepts the pair. Whoever is no operator has no rules.
-#[unsafe(no_mangle)]
-pub extern "C" fn unmavreth_acceptable(
+pub fn unmavreth_acceptable(
     policies: &[Policy; OPERATORS],
     pair: Pair,
     operator: u8,

@@ -27,8 +27,7 @@ use responder::receive::received_at;
 // Handles one INFORMATIONAL request of a peer that is the original initiator: the response goes to the start of `out`,
 // and what is past it stays as it was. `cookie` and `check_id` are those of the return routability check that the host
 // would send next: where an update is applied, the record keeps them as its pending check.
-#[unsafe(no_mangle)]
-pub extern "C" fn unmavreth_handle(
+pub fn unmavreth_handle(
     ike: &mut [IkeRecord; IKE_PLACES],
     ipsec: &[IpsecRecord],
     policies: &[Policy; OPERATORS],

@@ -1,0 +1,2 @@
+-- A policy past the end.
+pub mod Past
