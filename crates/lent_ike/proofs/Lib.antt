@@ -1,3 +1,2 @@
--- Laws that belong to no one function.
+-- Records counted one after the other.
 pub mod Counted
-pub mod IkeTable
