@@ -68,11 +68,7 @@ pub fn unmavreth_close_ike(
 }
 
 // Marks an IKE record as being deleted, whatever its mark was; only closing it takes the mark away.
-pub fn unmavreth_mark_deletion(
-    ike: &mut [IkeRecord; IKE_PLACES],
-    spi: u64,
-    operator: u8,
-) -> u8
+pub fn unmavreth_mark_deletion(ike: &mut [IkeRecord; IKE_PLACES], spi: u64, operator: u8) -> u8
     ensures { let marked = mark_deletion ike.old spi operator in
         (result ≡ marked.number) × (ike.new ≡ marked.ike) }
 {

@@ -26,11 +26,7 @@ pub fn unmavreth_set_policy(
 }
 
 // Whether some rule of the operator's policy accepts the pair. Whoever is no operator has no rules.
-pub fn unmavreth_acceptable(
-    policies: &[Policy; OPERATORS],
-    pair: Pair,
-    operator: u8,
-) -> bool
+pub fn unmavreth_acceptable(policies: &[Policy; OPERATORS], pair: Pair, operator: u8) -> bool
     ensures { result ≡ acceptable (policy_of policies.now operator) pair }
 {
     accepts_if(policies, operator as usize, true, pair)
