@@ -10,7 +10,6 @@
 use Rattle.std.specs.Prelude.{ℕ, ◌≡◌, ◌⊎◌, List, [], ◌∷◌, Bool, false, cond, ◌&&◌, eqb}
 use Rattle.order.specs.Order.{Update, Held}
 use Rattle.values.specs.Values.{part_of}
-use Rattle.findings.specs.declared.seen.Seen.{Seen}
 use Rattle.policy.specs.declared.rules.Policy.{Policy}
 use Rattle.records.specs.declared.ike.IkeRecord.{IkeRecord}
 use Rattle.tables.specs.Tables.{Tables, in_use, meant}

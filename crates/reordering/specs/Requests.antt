@@ -3,7 +3,6 @@
 --   sound_request                      01's term; `OthersUnsound`: one that names another operator than its record is not
 use Rattle.std.specs.Prelude.{List, ◌≡◌, Bool, false, ◌&&◌, ◌||◌, not, eqb, ℕ}
 use Rattle.values.specs.Values.{part_of, no_nats_seen}
-use Rattle.findings.specs.declared.seen.Seen.{Seen}
 use Rattle.policy.specs.declared.rules.Policy.{Policy}
 use Rattle.reader.specs.Chain.{reading}
 use Rattle.tables.specs.Tables.{Tables, meant}
