@@ -1,6 +1,6 @@
 -- The count of entries is no bound on a trace. Assumes nothing.
-use Prim.Native.Nat.{ℕ, zero, suc, ◌+◌, ◌-◌, ◌≤◌, ◌<◌}
-use mathlib.Core.Path.{◌≡◌, refl, sym, ◌∙◌, ap}
+use Prim.Native.Nat.{ℕ, zero, suc, ◌-◌, ◌<◌}
+use mathlib.Core.Path.{◌≡◌, refl, ap}
 use mathlib.Core.Bool.{Bool, true, false, cond}
 use mathlib.Core.List.{List, [], ◌∷◌}
 use native.Mathlib.Omega.{arith}
@@ -11,7 +11,7 @@ use Rattle.leb128.specs.RoundTrips.{Octets}
 use Rattle.fields.specs.Reading.{Reading, read, refused}
 use Rattle.entries.specs.Entries.{Entry, entry_at}
 use Rattle.entry_laws.proofs.RoundTrips.{ends_within}
-use Rattle.traces.specs.Traces.{Ending, finished, stopped, unread, Trace, trace, led, further, onward, read_trace}
+use Rattle.traces.specs.Traces.{finished, unread, Trace, trace, led, further, onward, read_trace}
 use Rattle.traces.specs.Traces.{trace_from, Whole}
 
 module _ (s : List ℕ) (o : Octets s) where
