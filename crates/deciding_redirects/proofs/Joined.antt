@@ -1,9 +1,9 @@
 -- Checks made in two parts: where the first part refuses, that is told, else what the second part tells.
 use Prim.Native.Nat.{ℕ}
-use mathlib.Core.Path.{◌≡◌, refl, sym, ◌∙◌}
+use mathlib.Core.Path.{◌≡◌, refl}
 use mathlib.Core.List.{List, [], ◌∷◌, ◌++◌}
-use mathlib.Core.Bool.{Bool, true, false, cond, not}
-use borrow.Author.Tests.{eq-eqb, ne_eqb, eqb-false, not-true}
+use mathlib.Core.Bool.{Bool, true, false, cond}
+use borrow.Author.Tests.{eq-eqb, ne_eqb, not-true}
 use lib.Dec.{eqb}
 use Rattle.octets.specs.Lists.{all}
 use Rattle.octets.specs.Checks.{Check, first_failed}

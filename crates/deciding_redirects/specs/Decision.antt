@@ -7,7 +7,7 @@
 --   after_number      the record after a decision with a number; `after_decision` after a decision
 --   told_of           what is told of it
 --   DecidedAs        what the exported call promises
-use Rattle.std.specs.Prelude.{ℕ, ◌≡◌, List, [], ◌∷◌, ◌++◌, Bool, cond, ◌&&◌, ◌||◌, not, eqb, length}
+use Rattle.std.specs.Prelude.{ℕ, ◌≡◌, List, [], ◌∷◌, ◌++◌, cond, ◌&&◌, ◌||◌, not, eqb, length}
 use Rattle.std.specs.Borrow.{Bor}
 use Rattle.octets.specs.declared.number.Number.TheVariants.{BadRedirect, WrongExchange, WrongNonce}
 use Rattle.octets.specs.Checks.{Check, ◌gives◌, first_failed}

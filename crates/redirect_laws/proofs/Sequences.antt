@@ -1,17 +1,17 @@
 -- Decisions one after the other: no sixth inside 300 seconds, and the five times kept decide as all would.
 use Prim.Native.Nat.{ℕ, ◌+◌, ◌-◌, ◌≤◌, ◌<◌, min}
-use mathlib.Core.Path.{◌≡◌, refl, sym, ap, subst, ◌∙◌}
+use mathlib.Core.Path.{◌≡◌, refl, sym, ap, ◌∙◌}
 use mathlib.Core.List.{List, [], ◌∷◌, ◌++◌, append_assoc, append-nil}
-use mathlib.Core.Bool.{Bool, true, false, cond}
+use mathlib.Core.Bool.{Bool, true, false}
 use native.Mathlib.Omega.{arith}
 use native.Mathlib.Decide.{dec_lt}
 use borrow.Author.Tests.{ltb-false, le-ltb, leb-true, leb-false, le-leb, lt-leb, eqb-true, eqb-false, eq-eqb, ne_eqb}
 use lib.Dec.{eqb, leb}
-use lib.ListN.{length, get_or, take, drop, length-take, take-append-drop}
+use lib.ListN.{length, get_or, take, length-take, take-append-drop}
 use lib.Seq.{get_or-take}
 use Rattle.octets.proofs.Checks.{all_passed}
 use Rattle.redirecting.specs.Limits.{redirects_most, period_seconds}
-use Rattle.redirecting.specs.Times.{kept, fresh, latest, before_last, is_recent, how_many, five_recent, keeping}
+use Rattle.redirecting.specs.Times.{kept, fresh, latest, before_last, is_recent, how_many, five_recent}
 use Rattle.deciding_redirects.specs.Decision.{Asked, decision_checks, decision_number, after_decision}
 use Rattle.redirecting.specs.declared.times.Accepted.{Accepted}
 use Rattle.redirecting.proofs.Count.{both_counted}

@@ -5,7 +5,7 @@
 --   record_after     the record that they leave
 --   Rising, Spaced  no time before an earlier one; six in a row span 300 seconds at least
 --   inside          how many of some times lie in the 300 seconds from a time on
-use Rattle.std.specs.Prelude.{ℕ, ◌+◌, ◌≤◌, ◌<◌, ◌≡◌, List, [], ◌∷◌, Bool, cond, ◌&&◌, eqb, leb, ltb, length, get_or}
+use Rattle.std.specs.Prelude.{ℕ, ◌+◌, ◌≤◌, ◌<◌, ◌≡◌, List, [], ◌∷◌, cond, ◌&&◌, eqb, leb, ltb, length, get_or}
 use Rattle.redirecting.specs.Limits.{redirects_most, period_seconds}
 use Rattle.redirecting.specs.Times.{kept, fresh, how_many}
 use Rattle.deciding_redirects.specs.Decision.{Asked, decision_number, after_decision}
