@@ -1,15 +1,15 @@
 -- What the window tells holds of the whole trace. Assumes nothing.
-use Prim.Native.Nat.{ℕ, ◌+◌, ◌-◌, ◌≤◌, ◌<◌}
-use mathlib.Core.Path.{◌≡◌, refl, sym, ◌∙◌, ap, subst}
+use Prim.Native.Nat.{ℕ, ◌-◌, ◌≤◌, ◌<◌}
+use mathlib.Core.Path.{◌≡◌, refl, sym, subst}
 use mathlib.Core.Bool.{Bool, true, false, cond}
-use mathlib.Core.List.{List, [], ◌∷◌, ◌++◌, append-nil}
+use mathlib.Core.List.{List, [], ◌++◌, append-nil}
 use native.Mathlib.Omega.{arith}
 use borrow.Author.Tests.{leb-true, leb-false, ltb-true, ltb-false}
 use lib.Dec.{ltb, leb}
 use lib.ListN.{length, drop_of_length-le}
 use Rattle.writing.specs.Notify.{placed}
 use Rattle.writing.proofs.Placed.{placed_none}
-use Rattle.leb128.specs.Leb128.{decoded, decoded_at}
+use Rattle.leb128.specs.Leb128.{decoded}
 use Rattle.leb128.specs.RoundTrips.{Octets}
 use Rattle.leb128.proofs.Stable.{first_octets}
 use Rattle.fields.specs.Reading.{Reading, read, refused, slots_of}
@@ -20,11 +20,10 @@ use Rattle.entries.specs.Entries as spec
 use Rattle.entries.specs.Entries.{entry_at, entry_step}
 use Rattle.entry_laws.specs.Sight.{entry_sight}
 use Rattle.entries.specs.declared.kind.Kind.{Kind}
-use Rattle.entries.specs.declared.step.EntryStep.{EntryStep}
 use Rattle.entries.specs.declared.step.EntryStep.TheVariants as step
 use Rattle.entry_laws.proofs.RoundTrips.{ends_within}
 use Rattle.entry_laws.proofs.Sight.{sight_of_an_entry}
-use Rattle.windows.specs.Windows.{next_in, refused_in, step_in, Within, Tells, Windows}
+use Rattle.windows.specs.Windows.{next_in, refused_in, step_in, Within, Windows}
 use Rattle.windows.specs.declared.Next.{Next}
 use Rattle.windows.specs.declared.Next.TheVariants.{Entry, Refused, More, End}
 

@@ -3,7 +3,7 @@
 --   next_in w at ended   what stands at `at` of the window w; `ended` says that nothing comes after it
 --   Within w at r       an entry has an octet at least, and ends within the window
 --   Tells               what is told holds of the trace from the window on; `More` is told only of a short window
-use Rattle.std.specs.Prelude.{ℕ, ◌+◌, ◌-◌, ◌≤◌, ◌<◌, ◌≡◌, Bool, true, false, cond, List, [], ◌++◌, ltb, leb, length}
+use Rattle.std.specs.Prelude.{ℕ, ◌-◌, ◌≤◌, ◌<◌, ◌≡◌, Bool, true, false, cond, List, [], ◌++◌, ltb, leb, length}
 use Rattle.leb128.specs.RoundTrips.{Octets}
 use Rattle.fields.specs.declared.refusal.Refusal.{Refusal}
 use Rattle.fields.specs.declared.refusal.Refusal.TheVariants.{Cut, UnknownKind, TooLarge}
