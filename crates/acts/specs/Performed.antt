@@ -4,7 +4,7 @@
 --   Performed, Performs     what is printed and what is left, and that the code gives and leaves it
 --   opened_by … marked_by     of each kind; ike_shown_by, ipsec_shown_by: of a record that is shown
 --   performed               of whatever number
-use Rattle.std.specs.Prelude.{ℕ, ◌≡◌, cond, List, eqb, length, get_or}
+use Rattle.std.specs.Prelude.{ℕ, ◌≡◌, cond, List, eqb, get_or}
 use Rattle.records.specs.Records.{no_ike, no_ipsec}
 use Rattle.records.specs.declared.ike.IkeRecord.{IkeRecord}
 use Rattle.records.specs.declared.ipsec.IpsecRecord.{IpsecRecord}
