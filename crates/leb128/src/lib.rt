@@ -18,6 +18,9 @@ pub enum Decoded {
 // What stands above the lowest seven of 64 bits is below this.
 const ABOVE_MOST: u64 = 144115188075855872;
 
+// And it is not this, since then a group less would do.
+const NONE_ABOVE: u64 = 0;
+
 // Reads at `at`, with at most `left` octets behind the first.
 fn read_within(s: &[u8], at: usize, left: u32) -> Decoded
     ensures { result ≡ read_within left (drop at s.now) at }
@@ -34,7 +37,7 @@ fn read_within(s: &[u8], at: usize, left: u32) -> Decoded
     }
     match read_within(s, at + 1, left - 1) {
         Decoded::Is(v, next) => {
-            if v == 0 {
+            if v == NONE_ABOVE {
                 return Decoded::Bad;
             }
             if v >= ABOVE_MOST {
