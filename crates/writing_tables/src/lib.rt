@@ -104,7 +104,7 @@ pub fn put_listed(
     source: &[u8],
 ) -> usize
     requires size_value { size ≡ width (table_of each.now) }
-    requires fact { let f = list_of (table_of each.now) then table_of last.now in
+    requires ready { let f = list_of (table_of each.now) then table_of last.now in
         Ready f source.now slots.now slot out.old at }
     ensures { let f = list_of (table_of each.now) then table_of last.now in
         let octets = octets_in f source.now (drop slot slots.now) in
