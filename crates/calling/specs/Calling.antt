@@ -8,7 +8,6 @@ use Rattle.std.specs.Prelude.{ℕ, ◌%◌, ◌^◌, List, get_or}
 use Rattle.address.specs.declared.pair.Pair.{Pair}
 use Rattle.tables.specs.declared.calls.Opening.{Opening}
 use Rattle.given.specs.Given.{address_in, operator_in}
-use Rattle.given.specs.declared.reading.Span.{Span}
 use Rattle.calling.specs.declared.Given.{Given}
 use Rattle.calling.specs.declared.GivenResponse.{GivenResponse}
 use Rattle.calling.specs.declared.GivenClone.{GivenClone}
