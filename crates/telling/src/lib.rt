@@ -12,6 +12,7 @@ use printing::lines::{put_entry_line, put_pair_line, put_refusal_line};
 use replaying::state::{State, Turn};
 
 // Puts the line of a record's pair; of a free place nothing.
+#[tactic(auto, using(writing::proofs::Placed::placed_none))]
 fn put_pair(line: &mut [u8], ipsec: bool, o: Outcome) -> usize
     requires { line_room ≤ length line.old }
     ensures within { result ≤ line_room }
@@ -26,6 +27,7 @@ fn put_pair(line: &mut [u8], ipsec: bool, o: Outcome) -> usize
 }
 
 // Puts what a turn prints at the front of a line, and returns how long that is.
+#[tactic(auto, using(writing::proofs::Placed::placed_none))]
 pub fn put_line(line: &mut [u8], s: State, o: Outcome) -> usize
     requires { line_room ≤ length line.old }
     ensures within { result ≤ line_room }
