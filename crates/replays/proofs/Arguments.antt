@@ -1,7 +1,7 @@
 -- The arguments of an opening, a request, the response to a check and a clone request, as taken from the slots, are
 -- those of the entry.
 -- Assumes nothing.
-use Prim.Native.Nat.{ℕ, ◌+◌}
+use Prim.Native.Nat.{ℕ}
 use mathlib.Core.Path.{◌≡◌, sym, ◌∙◌}
 use mathlib.Core.Bool.{true}
 use mathlib.Core.List.{List, ◌++◌}

@@ -24,7 +24,7 @@ use Rattle.windows.specs.declared.Next.TheVariants as next
 use Rattle.windows.proofs.Windows.{windows}
 use Rattle.given.specs.declared.reading.Slots.{Slots}
 use Rattle.acts.specs.Performed.{Gateway, Performed}
-use Rattle.replaying.specs.Turns.{state, turning, looked_by, no_slots, slots_for, show_ike, line_of, after, printed}
+use Rattle.replaying.specs.Turns.{state, turning, looked_by, no_slots, slots_for, show_ike, line_of, after}
 use Rattle.replaying.specs.declared.state.State.{State}
 use Rattle.replaying.specs.declared.state.Turn.{Turn}
 use Rattle.replaying.specs.declared.state.Turn.TheVariants.{More, Call}
