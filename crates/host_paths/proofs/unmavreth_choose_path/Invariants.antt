@@ -1,3 +1,4 @@
+-- The loop's invariant: `found`, `ordinal` and `least` are the best of the first i paths.
 use Prim.Native.Nat.{ℕ, ◌≤◌, ◌-◌}
 use mathlib.Core.Path.{◌≡◌}
 use mathlib.Core.List.{List}

@@ -1,3 +1,4 @@
+-- The loop's invariant: the first i places hold what is kept on.
 use Prim.Native.Nat.{◌-◌, ◌≤◌}
 use mathlib.Core.Path.{◌≡◌}
 use lib.ListN.{length, take, drop}

@@ -1,3 +1,4 @@
+-- The loop's invariant: so many of the first i times pass.
 use Prim.Native.Nat.{◌-◌, ◌≤◌}
 use mathlib.Core.Path.{◌≡◌}
 use lib.ListN.{take}
