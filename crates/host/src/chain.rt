@@ -25,12 +25,7 @@ pub fn unmavreth_read(first: u8, body: &[u8]) -> Reading
 
 // Hands out COOKIE2's data as a part of the body, by the offset and the size that a reading or a reply told; empty if
 // there is none.
-pub fn unmavreth_cookie<'s, 'a>(
-    out: &'s mut &'a [u8],
-    body: &'a [u8],
-    at: u16,
-    size: u16,
-)
+pub fn unmavreth_cookie<'s, 'a>(out: &'s mut &'a [u8], body: &'a [u8], at: u16, size: u16)
     ensures { PartOf body.entry at size out.new }
 {
     *out = parts::data_at(body, at, size);

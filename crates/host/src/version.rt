@@ -2,7 +2,7 @@
 ghost use Rattle.std.specs.Prelude.{◌≡◌};
 ghost use Rattle.host.specs.Interface.{interface_number};
 
-pub const INTERFACE: u32 = 6;
+pub const INTERFACE: u32 = 5;
 
 // The number of the interface of this library, for a host that asks when it runs.
 pub fn unmavreth_interface() -> u32
