@@ -13,6 +13,7 @@ pub enum Exchange {
 }
 
 // By the number that a host gives.
+#[tactic(auto, unfolding(crate::specs::Exchange::exchange_of))]
 pub fn exchange_of(number: u8) -> Exchange
     ensures { result ≡ exchange_of number }
 {

@@ -41,6 +41,7 @@ fn is_before_last(record: Accepted, time: u64) -> bool
 }
 
 // Whether an accepted time lies less than 300 seconds before `time`, or after it.
+#[tactic(auto, using(crate::proofs::Recent::by_difference), unfolding(crate::specs::Times::is_recent))]
 fn is_recent(time: u64, accepted: u64) -> bool
     ensures { result ≡ is_recent time accepted }
 {
