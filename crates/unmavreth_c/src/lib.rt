@@ -7,7 +7,6 @@ mod check_calls;
 mod clone_calls;
 mod ike_calls;
 mod ipsec_calls;
-mod path_calls;
 mod policy_calls;
 mod redirect_calls;
 mod request_calls;
