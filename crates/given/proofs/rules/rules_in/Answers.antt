@@ -13,7 +13,7 @@ loop-i-preserved c =
       elim c.if-i-e.branch [
         | then-i-e w ↦
             w.rules-is
-            ∙ rw w.rule_in.ensures (given_turn a.s.now a.e.slots l.rules l.i more l.invariant.1 w.if-i-e.true)
+            ∙ rw w.rule_in.ensures (given_turn a.s.now a.e.slots l.rules l.i more l.invariant.1 (omega arith))
         | else-i-e w ↦ w.rules-is ∙ kept_turn a.s.now a.e.slots l.rules l.i more l.invariant.1 w.if-i-e.false
       ],
     )
