@@ -6,6 +6,9 @@ const TABLE: &str = include_str!("../../words/words.txt");
 const NUMBERS: &str = include_str!("../../../crates/octets/src/number.rt");
 const NOTIFY: &str = include_str!("../../../crates/notify/src/notify.rt");
 
+/// The numbers of the calls on paths, which are proved and not in the interface yet.
+const NOT_YET: [&str; 3] = ["50", "51", "52"];
+
 /// The rows of one kind, by their number or "other".
 fn rows(kind: &str) -> BTreeMap<&'static str, &'static str> {
     let lines = TABLE.lines().filter_map(|line| line.strip_prefix(kind)?.strip_prefix(' '));
@@ -53,11 +56,12 @@ fn types() {
 #[test]
 fn none_is_left_out() {
     let numbers = NUMBERS.lines().filter_map(|line| line.trim().strip_prefix("Number::"));
-    let told: Vec<_> = numbers.filter_map(|line| line.split_once(" => ")).collect();
-    assert!(
-        told.len() > 16
-            && told.iter().all(|(_, n)| rows("number").contains_key(n.trim_end_matches(',')))
-    );
+    let told: Vec<_> = numbers
+        .filter_map(|line| line.split_once(" => "))
+        .map(|(_, n)| n.trim_end_matches(','))
+        .filter(|n| !NOT_YET.contains(n))
+        .collect();
+    assert!(told.len() > 16 && told.iter().all(|n| rows("number").contains_key(n)));
     let consts = NOTIFY.lines().filter_map(|line| line.trim().strip_prefix("pub const "));
     let named: BTreeMap<_, _> = consts
         .filter_map(|line| line.split_once(": u16 = "))
