@@ -1,5 +1,5 @@
 -- Where the replay stands lies within its window, and each turn leaves fewer.
-use Rattle.std.proofs.Common.{ℕ, ◌≤◌, length}
+use Rattle.std.proofs.Common.{◌≤◌, length}
 use Rattle.replaying.specs.Standing.{Standing}
 use Rattle.replay.proofs.main.Given as goal
 
