@@ -12,7 +12,7 @@ ghost use Rattle.answering.specs.Packet.{asked_by};
 use crate::packet::Packet;
 use deciding::decide::decide;
 use notify::notify::NotifyType;
-use octets::number::{Number, number_of};
+use octets::number::Number;
 use reader::read::Reading;
 use records::ike::Marks;
 use replying::reply::{CoreAnswer, Reply, answer_to, error_reply, unchanged};
@@ -27,7 +27,7 @@ pub fn put_chain_error(r: Reading, out: &mut [u8]) -> Response
 {
     let none = [0u8; 0];
     let critical = [r.critical];
-    if r.number == number_of(Number::UnknownCritical) {
+    if r.number == u8::from(Number::UnknownCritical) {
         return put_error(
             out,
             NotifyType::UNSUPPORTED_CRITICAL_PAYLOAD,
@@ -68,7 +68,7 @@ pub fn respond_to(
         × (out.new ≡ placed out.old 0 (core_response accepted asks marks)) }
 {
     let seen = read.seen;
-    if read.number == number_of(Number::Done) {
+    if read.number == u8::from(Number::Done) {
         let pair = packet.pair;
         let d = decide(accepted, body, seen, pair, packet.id, marks);
         let wanted = wants_nats(seen);

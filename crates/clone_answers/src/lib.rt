@@ -14,7 +14,7 @@ use clone_checks::{early_clone, late_clone};
 use cloning::clone::{CloneAnswer, CloneReply};
 use notify::notify::NotifyType;
 use octets::limits::IKE_PLACES;
-use octets::number::{Number, number_of};
+use octets::number::Number;
 use reader::read::Reading;
 use records::ike::{IkeRecord, clone_of};
 use responding::respond::{Response, no_response, put_error};
@@ -24,16 +24,16 @@ use tables::calls::place_if;
 pub fn clone_notify(number: u8) -> u16
     ensures { result ≡ clone_notify number }
 {
-    if number == number_of(Number::Done) {
+    if number == u8::from(Number::Done) {
         return NotifyType::CLONE_IKE_SA;
     }
-    if number == number_of(Number::CannotCloneNow) {
+    if number == u8::from(Number::CannotCloneNow) {
         return NotifyType::TEMPORARY_FAILURE;
     }
-    if number == number_of(Number::PeerAtLimit) {
+    if number == u8::from(Number::PeerAtLimit) {
         return NotifyType::NO_ADDITIONAL_SAS;
     }
-    if number == number_of(Number::OperatorAtShare) {
+    if number == u8::from(Number::OperatorAtShare) {
         NotifyType::NO_ADDITIONAL_SAS
     } else {
         0
@@ -93,7 +93,7 @@ pub fn clone_at(
         × (out.new ≡ placed out.old 0 (octets_at place free taken records own entry q)) }
 {
     let room = out.len();
-    let early = number_of(early_clone(place, entry, spi, new_spi, first, body, room, operator));
+    let early = u8::from(early_clone(place, entry, spi, new_spi, first, body, room, operator));
     if early != 0 {
         return CloneAnswer {
             reply: not_cloned(early),

@@ -10,7 +10,7 @@ ghost use Rattle.clone_chain.specs.Look.{notify_type_of, number_at, look_to, Rea
 use notify::notify::NotifyType;
 use octets::be16_at;
 use octets::limits::NOTIFY_HEADER;
-use octets::number::{Number, number_of};
+use octets::number::Number;
 use octets::wire::NOTIFY_PAYLOAD;
 use payload::payload::{LENGTH, NOTIFY_TYPE, SPI_SIZE};
 use reader::read::{Reading, read_short, refuse};
@@ -85,10 +85,10 @@ fn clone_number(body: &[u8], at: usize, notify_type: u16, size: usize) -> u8
     }
     let spi_size = spi_size_at(body, at);
     if spi_size != 0 {
-        return number_of(Number::BadNotify);
+        return u8::from(Number::BadNotify);
     }
     if size != NOTIFY_HEADER {
-        return number_of(Number::BadDataSize);
+        return u8::from(Number::BadDataSize);
     }
     0
 }

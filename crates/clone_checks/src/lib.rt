@@ -10,7 +10,7 @@ ghost use Rattle.cloning.specs.Clone.{clone_request, early_clone, whole_clone_ch
 use clone_chain::read::CloneReading;
 use octets::flag::is_yes;
 use octets::limits::{BODY_MOST, IKE_PLACES, IKE_SHARE, PEER_RECORDS_MOST, RESPONSE_ROOM};
-use octets::number::{Number, number_of};
+use octets::number::Number;
 use octets::operator::not_operator;
 use records::ike::IkeRecord;
 
@@ -111,5 +111,5 @@ pub fn late_clone(
     let deleting = is_yes(entry.deleting);
     let limited = PEER_RECORDS_MOST <= records;
     let full = IKE_SHARE <= own;
-    number_of(whole_number(read.clone, deleting, free, limited, taken, full))
+    u8::from(whole_number(read.clone, deleting, free, limited, taken, full))
 }

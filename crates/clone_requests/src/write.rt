@@ -11,7 +11,7 @@ use address::pair::Pair;
 use asking::ask::{Ask, CloneAsk};
 use notify::notify::NotifyType;
 use octets::limits::{ADDRESS_OCTETS, ADDRESSES_MOST, REQUEST_ROOM};
-use octets::number::{Number, number_of};
+use octets::number::Number;
 use octets::wire::NOTIFY_PAYLOAD;
 use requests::request::{Written, not_written};
 use writing::put_notify;
@@ -85,7 +85,7 @@ pub fn put_clone(asked: CloneAsk, out: &mut [u8]) -> Written
     let none = [0u8; 0];
     let end = put_notify(out, 0, 0, clone_type(asked), &none);
     Written {
-        number: number_of(Number::Done),
+        number: u8::from(Number::Done),
         first: NOTIFY_PAYLOAD,
         length: end as u16,
     }

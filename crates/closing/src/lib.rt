@@ -7,7 +7,7 @@ ghost use Rattle.tables.specs.Changes.{is_own_child, bad_closing, bad_marking, c
 ghost use Rattle.tables.specs.Changes.{ike_closing, ipsec_closing, ike_marking};
 
 use octets::limits::IKE_PLACES;
-use octets::number::{Number, number_of};
+use octets::number::Number;
 use octets::operator::not_operator;
 use records::ike::{IkeRecord, mark_deletion, no_ike};
 use records::ipsec::{IpsecRecord, no_ipsec};
@@ -44,7 +44,7 @@ pub fn ike_closing(size: usize, spi: u64, operator: u8, place: usize, entry: Ike
     ensures { result ≡ ike_closing size spi operator place entry }
 {
     let bad = is_bad_closing(size, spi, operator);
-    let number = number_of(closing_number(bad, is_own(place, entry, operator)));
+    let number = u8::from(closing_number(bad, is_own(place, entry, operator)));
     IkeChange {
         number,
         place: place_if(number, place, IKE_PLACES),
@@ -80,7 +80,7 @@ pub fn ipsec_closing(
     ensures { result ≡ ipsec_closing size spi operator place entry owned «of» }
 {
     let bad = is_bad_closing(size, spi as u64, operator);
-    let number = number_of(closing_number(bad, is_own_child(entry, owned, of, operator)));
+    let number = u8::from(closing_number(bad, is_own_child(entry, owned, of, operator)));
     IpsecChange {
         number,
         place: place_if(number, place, size),
@@ -104,7 +104,7 @@ pub fn ike_marking(spi: u64, operator: u8, place: usize, entry: IkeRecord) -> Ik
     ensures { result ≡ ike_marking spi operator place entry }
 {
     let bad = is_bad_marking(spi, operator);
-    let number = number_of(closing_number(bad, is_own(place, entry, operator)));
+    let number = u8::from(closing_number(bad, is_own(place, entry, operator)));
     IkeChange {
         number,
         place: place_if(number, place, IKE_PLACES),

@@ -9,7 +9,7 @@ ghost use Rattle.redirecting.specs.Times.{kept};
 ghost use Rattle.deciding_redirects.specs.Decision.{asked, data_checks, decision_number, after_number, told_of};
 
 use initiator::response::same_octets;
-use octets::number::{Number, number_of};
+use octets::number::Number;
 use reading_redirects::{nonce_of, redirect_malformed, type_told};
 use redirect::identity::nonce_fits;
 use redirecting::exchange::{Exchange, allows, exchange_of, is_init};
@@ -40,7 +40,7 @@ fn data_number(exchange: Exchange, sent: &[u8], data: &[u8]) -> u8
     ensures { result ≡ first_failed (data_checks exchange sent.now «data».now) }
 {
     if redirect_malformed(data) {
-        return number_of(Number::BadRedirect);
+        return u8::from(Number::BadRedirect);
     }
     let nonce = nonce_of(data, 0);
     if is_init(exchange) {
@@ -48,17 +48,17 @@ fn data_number(exchange: Exchange, sent: &[u8], data: &[u8]) -> u8
             if is_same(nonce, sent) {
                 return 0;
             }
-            return number_of(Number::WrongNonce);
+            return u8::from(Number::WrongNonce);
         }
-        return number_of(Number::BadRedirect);
+        return u8::from(Number::BadRedirect);
     }
     if nonce.len() != 0 {
-        return number_of(Number::WrongExchange);
+        return u8::from(Number::WrongExchange);
     }
     if allows(exchange) {
         return 0;
     }
-    number_of(Number::WrongExchange)
+    u8::from(Number::WrongExchange)
 }
 
 // The number of the decision; 0 where the REDIRECT is accepted. `sent` is the nonce sent, at which only IKE_SA_INIT

@@ -7,7 +7,7 @@ ghost use Rattle.paths.specs.Calls.{answer};
 ghost use Rattle.paths.specs.Choice.{choice};
 ghost use Rattle.paths.specs.Columns.{columns, paths_of, started_columns, sampled_columns, lost_columns};
 
-use octets::number::{Number, number_of};
+use octets::number::Number;
 use paths::choice::{PathChoice, is_better, told_of};
 use paths::columns::{ROUND_TRIP, kind_of, milliseconds_of, path_of};
 use paths::limits::PATHS_MOST;
@@ -130,7 +130,7 @@ pub fn unmavreth_choose_path(
 {
     if count as usize > PATHS_MOST {
         return PathChoice {
-            number: number_of(Number::NoSuchPath),
+            number: u8::from(Number::NoSuchPath),
             ordinal: 0,
         };
     }

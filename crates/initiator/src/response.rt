@@ -7,7 +7,7 @@ ghost use Rattle.initiator.specs.Response.{refusal, AssessedAs};
 use asking::fits::cookie_fits;
 use findings::seen::Tally;
 use notify::notify::{NotifyKind, NotifyType};
-use octets::number::{Number, number_of};
+use octets::number::Number;
 use reader::read::read;
 use values::cookie;
 
@@ -167,5 +167,5 @@ pub fn assess(sent: &[u8], first: u8, body: &[u8]) -> Assessment
         }
         return refuse(r.number, r.offset, r.ordinal);
     }
-    refuse(number_of(Number::BadArgument), 0, 0)
+    refuse(u8::from(Number::BadArgument), 0, 0)
 }

@@ -8,7 +8,8 @@
 --
 --   Number     an enum, as `octets/src/number.rt` declares it: a name for each number
 --   number_of   the number for it
-use Rattle.std.specs.Prelude.{ℕ}
+--   told        the number that checks come to: that of the refusal, and Done's where there is none
+use Rattle.std.specs.Prelude.{ℕ, Result, Ok, Err}
 use Rattle.octets.specs.declared.number.Number.{Number}
 use Rattle.octets.specs.declared.number.Number.TheVariants.{Done, BadArgument, OutputTooShort, BodyTooLong}
 use Rattle.octets.specs.declared.number.Number.TheVariants.{NoSuchRecord, MobikeNotAgreed}
@@ -54,3 +55,7 @@ number_of NoCloneRequest = 44
 number_of NoSuchPath = 50
 number_of TooManyMilliseconds = 51
 number_of NoPathQualifies = 52
+
+abbrev pub told : Result (Unit {0}) Number → ℕ
+told (Ok _) = number_of Done
+told (Err n) = number_of n

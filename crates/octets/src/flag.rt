@@ -12,5 +12,5 @@ pub fn is_yes(flag: u8) -> bool
 pub fn zero_or_one(flag: u8) -> u8
     ensures { result ≡ zero_or_one flag }
 {
-    if flag == 0 { 0 } else { 1 }
+    u8::from(is_yes(flag))
 }

@@ -17,9 +17,7 @@ pub fn be16_at(octets: &[u8], at: usize) -> u16
     requires { at + 2 ≤ length octets.now }
     ensures { result ≡ be16 octets.now at }
 {
-    let high = octets[at] as u16;
-    let low = octets[at + 1] as u16;
-    high * 256 + low
+    u16::from_be_bytes([octets[at], octets[at + 1]])
 }
 
 // An address as it travels: the octets given, zeros after them, sixteen in all. IPv4 or IPv6 is only a
@@ -28,12 +26,7 @@ pub fn padded_to_16(octets: &[u8]) -> [u8; ADDRESS_OCTETS]
     ensures { result ≡ padded octets.now }
 {
     let mut out = [0u8; ADDRESS_OCTETS];
-    let mut i = 0;
-    while i < ADDRESS_OCTETS {
-        if i < octets.len() {
-            out[i] = octets[i];
-        }
-        i += 1;
-    }
+    let n = octets.len().min(ADDRESS_OCTETS);
+    out[..n].copy_from_slice(&octets[..n]);
     out
 }

@@ -8,9 +8,5 @@ use crate::limits::OPERATORS;
 pub fn not_operator(operator: u8) -> bool
     ensures { result ≡ not (is_operator operator) }
 {
-    if (operator as usize) < OPERATORS {
-        false
-    } else {
-        true
-    }
+    OPERATORS <= operator as usize
 }

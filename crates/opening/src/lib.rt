@@ -9,7 +9,7 @@ ghost use Rattle.tables.specs.Changes.{bad_adding, adding_number, both_number, b
 
 use address::pair::pair_fits;
 use octets::limits::{IKE_PLACES, IKE_SHARE, IPSEC_PLACES, IPSEC_SHARE, OPERATORS};
-use octets::number::{Number, number_of};
+use octets::number::Number;
 use octets::operator::not_operator;
 use records::ike::{IkeRecord, new_ike};
 use records::ipsec::IpsecRecord;
@@ -145,7 +145,7 @@ pub fn both_opening(
     ensures { result ≡ both_opening size o taken free child_taken child_free own child_own }
 {
     let fits = opening_fits(size, o);
-    let number = number_of(both_number(
+    let number = u8::from(both_number(
         fits,
         taken < IKE_PLACES,
         child_taken < size,
@@ -181,7 +181,7 @@ pub fn ipsec_opening(
 {
     let bad = is_bad_adding(size, spi as u64, owner, operator);
     let mine = is_own(owned, of, operator);
-    let number = number_of(adding_number(bad, mine, taken < size, IPSEC_SHARE <= own, free < size));
+    let number = u8::from(adding_number(bad, mine, taken < size, IPSEC_SHARE <= own, free < size));
     let pair = of.pair;
     IpsecChange {
         number,

@@ -3,7 +3,7 @@ ghost use Rattle.std.specs.Prelude.{◌≡◌, ◌&&◌, not};
 ghost use Rattle.std.specs.Float.Ieee.{is_nan};
 ghost use Rattle.paths.specs.Choice.{is_better, pick};
 
-use octets::number::{Number, number_of};
+use octets::number::Number;
 
 // With 50 and 52 the ordinal is 0.
 #[repr(C)]
@@ -38,7 +38,7 @@ pub fn told_of(found: bool, ordinal: u32) -> PathChoice
         return PathChoice { number: 0, ordinal };
     }
     PathChoice {
-        number: number_of(Number::NoPathQualifies),
+        number: u8::from(Number::NoPathQualifies),
         ordinal: 0,
     }
 }

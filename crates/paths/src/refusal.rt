@@ -4,14 +4,14 @@ ghost use Rattle.octets.specs.Checks.{first_failed};
 ghost use Rattle.paths.specs.Calls.{start_checks, path_check, milliseconds_check, event_checks};
 
 use crate::limits::{MILLISECONDS_MOST, PATHS_MOST};
-use octets::number::{Number, number_of};
+use octets::number::Number;
 
 // Of a start with so many paths.
 pub fn start_number(count: u32) -> u8
     ensures { result ≡ first_failed (start_checks count) }
 {
     if count as usize > PATHS_MOST {
-        return number_of(Number::NoSuchPath);
+        return u8::from(Number::NoSuchPath);
     }
     0
 }
@@ -21,12 +21,12 @@ fn path_number(count: u32, ordinal: u32) -> u8
     ensures { result ≡ first_failed (path_check count ordinal ∷ []) }
 {
     if count as usize > PATHS_MOST {
-        return number_of(Number::NoSuchPath);
+        return u8::from(Number::NoSuchPath);
     }
     if ordinal < count {
         return 0;
     }
-    number_of(Number::NoSuchPath)
+    u8::from(Number::NoSuchPath)
 }
 
 // Of a round trip, or of how long was waited.
@@ -34,7 +34,7 @@ fn milliseconds_number(milliseconds: u32) -> u8
     ensures { result ≡ first_failed (milliseconds_check milliseconds ∷ []) }
 {
     if milliseconds > MILLISECONDS_MOST {
-        return number_of(Number::TooManyMilliseconds);
+        return u8::from(Number::TooManyMilliseconds);
     }
     0
 }

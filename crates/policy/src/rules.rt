@@ -11,7 +11,7 @@ ghost use Rattle.policy.specs.Change.{policy_setting};
 use address::address::{both_fit, width_of};
 use address::pair::Pair;
 use octets::limits::{ADDRESS_OCTETS, OPERATORS, RULES_MOST};
-use octets::number::{Number, number_of};
+use octets::number::Number;
 use octets::operator::not_operator;
 use prefix::prefix::prefix_matches;
 
@@ -165,7 +165,7 @@ pub fn set_policy(count: u16, rules: [Rule; RULES_MOST], operator: u8) -> Policy
     ensures { result ≡ policy_setting count rules operator }
 {
     let n = count as usize;
-    let number = number_of(policy_number(n, rules, operator));
+    let number = u8::from(policy_number(n, rules, operator));
     if number == 0 {
         let kept = kept_rules(rules, n);
         PolicyChange {

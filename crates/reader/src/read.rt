@@ -10,7 +10,7 @@ use findings::seen::{Seen, nothing_seen};
 use findings::state::{CRITICAL, OFFSET, PAYLOADS, STATE_SIZE, State, seen_of};
 use noting::note::content_noted;
 use octets::limits::{BODY_MOST, NOTIFY_HEADER};
-use octets::number::{Number, number_of};
+use octets::number::Number;
 use payload::payload::{Fault, Found, payload_at};
 
 // What a reading gives: its number, the offset of a fault, how many payloads stand before it, and what the payloads
@@ -50,7 +50,7 @@ fn stop(state: &mut State, f: Fault, at: usize) -> u8
     if let Fault::Critical(payload_type) = f {
         state[CRITICAL] = payload_type as u16;
     }
-    number_of(fault_number(f))
+    u8::from(fault_number(f))
 }
 
 // The chain from `at` on, where a payload of type `payload_type` stands, after what the numbers say was seen: one
@@ -62,7 +62,7 @@ pub fn scan_from(payload_type: u8, body: &[u8], at: usize, state: &mut State) ->
 {
     if payload_type == 0 {
         if at == body.len() {
-            return number_of(Number::Done);
+            return u8::from(Number::Done);
         }
         return stop(state, Fault::Leftover, at);
     }
@@ -107,7 +107,7 @@ fn reading_of(number: u8, state: &State) -> Reading
             seen: seen_of(state),
         };
     }
-    if number == number_of(Number::UnknownCritical) {
+    if number == u8::from(Number::UnknownCritical) {
         return refuse(
             number,
             (state[CRITICAL] % 256) as u8,
@@ -135,7 +135,7 @@ pub fn read(first: u8, body: &[u8]) -> Reading
     ensures { ReadAs first body.now result }
 {
     if BODY_MOST < body.len() {
-        return refuse(number_of(Number::BodyTooLong), 0, 0, 0);
+        return refuse(u8::from(Number::BodyTooLong), 0, 0, 0);
     }
     let mut state = [0u16; STATE_SIZE];
     let number = scan_from(first, body, 0, &mut state);

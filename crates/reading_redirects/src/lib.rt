@@ -10,7 +10,7 @@ ghost use Rattle.redirect.specs.Read.{redirect_malformed, from_malformed, redire
 ghost use Rattle.redirect.specs.Read.{supported_checks, type_told, gateway_read, stands_at, IdentityOf, NonceOf};
 ghost use Rattle.redirect.specs.Identity.{identity_fits};
 
-use octets::number::{Number, number_of};
+use octets::number::Number;
 use redirect::identity::identity_fits;
 use redirect::told::GatewayRead;
 use redirect::wire::IDENTITY_HEADER;
@@ -74,7 +74,7 @@ fn number_if(malformed: bool) -> u8
     ensures { result ≡ first_failed (malformed gives BadRedirect ∷ []) }
 {
     if malformed {
-        return number_of(Number::BadRedirect);
+        return u8::from(Number::BadRedirect);
     }
     0
 }

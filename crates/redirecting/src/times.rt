@@ -5,7 +5,7 @@ ghost use Rattle.redirecting.specs.Limits.{redirects_most};
 ghost use Rattle.redirecting.specs.Times.{kept, before_last, is_recent, how_many, time_checks, keeping};
 
 use crate::limits::{PERIOD_SECONDS, REDIRECTS_MOST};
-use octets::number::{Number, number_of};
+use octets::number::Number;
 
 // The times, oldest first, and how many of the places hold one; a count over five reads as five. A fresh record is all
 // zeros.
@@ -74,10 +74,10 @@ pub fn time_number(record: Accepted, time: u64) -> u8
     ensures { result ≡ first_failed (time_checks (kept «record») time) }
 {
     if is_before_last(record, time) {
-        return number_of(Number::TimeBeforeLast);
+        return u8::from(Number::TimeBeforeLast);
     }
     if REDIRECTS_MOST <= recent_count(record, time) {
-        return number_of(Number::TooManyRedirects);
+        return u8::from(Number::TooManyRedirects);
     }
     0
 }

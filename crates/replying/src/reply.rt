@@ -6,7 +6,7 @@ ghost use Rattle.replying.specs.Reply.{moved, list_replaced};
 
 use deciding::decide::{Decision, Effect, effect_number, says_done};
 use findings::seen::{Offsets, Seen, nothing_seen};
-use octets::number::{Number, number_of};
+use octets::number::Number;
 use records::ike::Marks;
 use responding::respond::{Response, no_response};
 use verdict::update::verdict_told;
@@ -60,7 +60,7 @@ pub fn error_reply(number: u8, offset: u16, ordinal: u16, response: Response) ->
 pub fn refusal(number: Number) -> Reply
     ensures { result ≡ refusal_reply (number_of number) }
 {
-    error_reply(number_of(number), 0, 0, no_response())
+    error_reply(u8::from(number), 0, 0, no_response())
 }
 
 // All that is told of a decision but the tables.
@@ -72,7 +72,7 @@ pub fn reply_to(d: Decision, seen: Seen, response: Response) -> Reply
     let update = d.update;
     let list = d.list;
     Reply {
-        number: number_of(verdict_told(verdict)),
+        number: u8::from(verdict_told(verdict)),
         update: effect_number(update),
         list: effect_number(list),
         first: response.first,

@@ -12,7 +12,7 @@ use asking::ask::Ask;
 use asking::fits::request_fits;
 use notify::notify::NotifyType;
 use octets::limits::{ADDRESS_OCTETS, ADDRESSES_MOST, REQUEST_ROOM};
-use octets::number::{Number, number_of};
+use octets::number::Number;
 use putting::put::{put_if, put_nats, put_no_nats, put_tail, tail_type, type_if};
 
 // The number, the type of the first payload (0: none) and the octets written.
@@ -67,7 +67,7 @@ pub fn put_request(
         cookie,
     );
     Written {
-        number: number_of(Number::Done),
+        number: u8::from(Number::Done),
         first: type_if(ask.update, to_no_nats),
         length: end as u16,
     }
@@ -77,7 +77,7 @@ pub fn not_written(number: Number) -> Written
     ensures { result ≡ not_written (number_of number) }
 {
     Written {
-        number: number_of(number),
+        number: u8::from(number),
         first: 0,
         length: 0,
     }

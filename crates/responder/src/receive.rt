@@ -8,7 +8,6 @@ use answering::packet::Packet;
 use checking::check::early_number;
 use checking::lookup::Looked;
 use findings::seen::Seen;
-use octets::number::number_of;
 use reader::read::{Reading, read_short, refuse};
 use records::ike::Marks;
 
@@ -56,7 +55,7 @@ pub fn received_at(
         room,
         operator,
     );
-    let number = number_of(early);
+    let number = u8::from(early);
     if number != 0 {
         let none = refuse(number, 0, 0, 0);
         return Received {

@@ -10,7 +10,7 @@ ghost use Rattle.routability.specs.Ending.{place_by, entry_after, ending_of};
 use initiator::response::{Assessment, NO_OUTCOME, Outcome, assess, outcome_number, refuse};
 use octets::flag::is_yes;
 use octets::limits::{BODY_MOST, IKE_PLACES, IPSEC_PLACES};
-use octets::number::{Number, number_of};
+use octets::number::Number;
 use octets::operator::not_operator;
 use records::check::{PendingCheck, is_pending};
 use records::ike::{IkeRecord, no_ike, uncheck};
@@ -107,7 +107,7 @@ pub fn tell(
         result ≡ check_told size (ltb place ike_places) entry q }
 {
     let early = early_response(size, place, entry, spi, id, first, body, operator);
-    let number = number_of(early);
+    let number = u8::from(early);
     if number != 0 {
         return refuse(number, 0, 0);
     }

@@ -7,7 +7,7 @@ ghost use Rattle.writing.specs.Notify.{placed};
 ghost use Rattle.redirect.specs.Wire.{identity_header, fqdn_most};
 ghost use Rattle.redirect.specs.Write.{gateway_octets, unfit, write_checks, DataWrittenAs};
 
-use octets::number::{Number, number_of};
+use octets::number::Number;
 use redirect::identity::{identity_fits, no_nonce_or};
 use redirect::told::DataWritten;
 use redirect::wire::{IDENTITY_HEADER, REDIRECT_ROOM};
@@ -33,10 +33,10 @@ fn write_number(malformed: bool, room: usize) -> u8
     ensures { result ≡ first_failed (write_checks malformed room) }
 {
     if room < REDIRECT_ROOM {
-        return number_of(Number::OutputTooShort);
+        return u8::from(Number::OutputTooShort);
     }
     if malformed {
-        return number_of(Number::BadRedirect);
+        return u8::from(Number::BadRedirect);
     }
     0
 }

@@ -5,10 +5,10 @@ use Rattle.clone_answers.proofs.clone_at.Goals as goal
 
 pub read_clone-read-requires : goal.read_clone-read-requires
 read_clone-read-requires c =
-    let told = c.number_of-early.ensures ∙ c.early_clone.ensures in
+    let told = c.from-early.ensures ∙ c.early_clone.ensures in
     (passed _ _ _ (sym told ∙ c.if-early-ne0.false)).short
 
 pub respond_clone-response-requires : goal.respond_clone-response-requires
 respond_clone-response-requires c =
-    let told = c.number_of-early.ensures ∙ c.early_clone.ensures in
+    let told = c.from-early.ensures ∙ c.early_clone.ensures in
     (passed _ _ _ (sym told ∙ c.if-early-ne0.false)).room

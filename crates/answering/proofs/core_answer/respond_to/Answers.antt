@@ -25,7 +25,7 @@ returns-then-read-number_of c =
     let k = c.cookie-k in
     let o = c.respond_decided-response in
     let read = c.requires.body_len_bound.1 in
-    let whole = c.if-read-number_of.true ∙ c.number_of.ensures in
+    let whole = c.if-read-from.true ∙ c.from.ensures in
     let q = asked_by a.packet a.nat_source.now a.nat_destination.now a.body.now in (
       c.answer_to.ensures
           ∙ done_result a.accepted q a.marks a.read read whole d.result w.result k.result.now
@@ -40,7 +40,7 @@ returns c =
     let a = c.args in
     let e = c.refuse_chain-reply in
     let read = c.requires.body_len_bound.1 in
-    let broken : (a.read.number ≡ 0 → ⊥) = λ x. c.if-read-number_of.false (x ∙ sym c.number_of.ensures) in
+    let broken : (a.read.number ≡ 0 → ⊥) = λ x. c.if-read-from.false (x ∙ sym c.from.ensures) in
     let q = asked_by a.packet a.nat_source.now a.nat_destination.now a.body.now in (
       c.unchanged.ensures ∙ refused_result a.accepted q a.marks a.read read broken e.result e.ensures.value,
       e.ensures.out_after ∙ ap (placed a.out.now 0) (refused_response a.accepted q a.marks a.read read broken),

@@ -30,4 +30,4 @@ pub returns : goal.returns
 returns c =
     let a = c.args in
     let u = unfit a.sent.now a.first a.body.now (sym c.cookie_fits.ensures ∙ c.if-cookie_fits.false) in
-    assessed a.sent.now a.first a.body.now _ (c.refuse-2.ensures ∙ rw c.number_of.ensures u)
+    assessed a.sent.now a.first a.body.now _ (c.refuse-2.ensures ∙ rw c.from.ensures u)

@@ -5,7 +5,7 @@ use Rattle.reader.proofs.read.+scan_from.Goals as goal
 
 pub returns-then-at-body : goal.returns-then-at-body
 returns-then-at-body t c =
-    rw c.number_of.ensures
+    rw c.from.ensures
     (whole c.args.state.now _ _ _ c.requires.1 c.requires.0 c.if-payload_type-eq0.true c.if-at-body.true)
 
 pub returns-then-payload_type-eq0 : goal.returns-then-payload_type-eq0

@@ -10,11 +10,11 @@ returns-then-number-eq0 c = rw (c.if-number-eq0.true, c.seen_of.ensures)
 pub returns-then-number-number_of : goal.returns-then-number-number_of
 unfolding reading_of
 returns-then-number-number_of c =
-    rw (ne_eqb _ _ c.if-number-eq0.false, eq-eqb _ _ (c.if-number-number_of.true ∙ c.number_of.ensures))
+    rw (ne_eqb _ _ c.if-number-eq0.false, eq-eqb _ _ (c.if-number-from.true ∙ c.from.ensures))
     c.refuse.ensures
 
 pub returns : goal.returns
 unfolding reading_of
 returns c =
-    let other = ne_eqb _ _ (λ z. c.if-number-number_of.false (z ∙ sym c.number_of.ensures)) in
+    let other = ne_eqb _ _ (λ z. c.if-number-from.false (z ∙ sym c.from.ensures)) in
     rw (ne_eqb _ _ c.if-number-eq0.false, other) c.refuse-2.ensures

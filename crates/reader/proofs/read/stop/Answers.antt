@@ -59,7 +59,7 @@ module _ (s : List ℕ) (long : length s ≡ state_size) (at number : ℕ) where
 pub returns : goal.returns
 returns c =
     let s = c.args.state.now in
-    let e = rw c.fault_number.ensures at c.number_of.ensures in
+    let e = rw c.fault_number.ensures at c.from.ensures in
     elim c.match-f.branch [
       | in-Critical w ↦
           rw (w.state-is, w.in-Critical.is)

@@ -96,4 +96,4 @@ returns c =
     c.put_tail-end.ensures in
     let size : c.put_tail-end.result ≡ length (request_octets q) = omega (arith, all.offset) in
     let first = first_type_lem ready c.type_if.result (c.type_if.ensures (notification update_sa_addresses []) []) in
-    (rw (c.number_of.ensures, size, first), all.octets)
+    (rw (c.from.ensures, size, first), all.octets)

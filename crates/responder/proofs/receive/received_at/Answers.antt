@@ -5,5 +5,5 @@ use Rattle.responder.proofs.receive.received_at.Goals as goal
 
 pub read_short-read-requires : goal.read_short-read-requires
 read_short-read-requires c =
-    let told = c.number_of-number.ensures ∙ c.early_number-early.ensures in
+    let told = c.from-number.ensures ∙ c.early_number-early.ensures in
     (passed _ _ _ _ (sym told ∙ c.if-number-ne0.false)).short
