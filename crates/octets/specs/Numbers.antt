@@ -56,6 +56,6 @@ number_of NoSuchPath = 50
 number_of TooManyMilliseconds = 51
 number_of NoPathQualifies = 52
 
-abbrev pub told : Result (Unit {0}) Number → ℕ
+abbrev pub told : {A : Type 0} → Result A Number → ℕ
 told (Ok _) = number_of Done
 told (Err n) = number_of n
