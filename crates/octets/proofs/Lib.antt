@@ -5,7 +5,6 @@ pub mod Zip
 pub mod Tests
 pub mod Mapped
 pub mod Places
-pub mod Each
 pub mod Below
 pub mod Checks
 pub mod Rooms
