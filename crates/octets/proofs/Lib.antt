@@ -9,3 +9,4 @@ pub mod Below
 pub mod Checks
 pub mod Rooms
 pub mod Iterators
+pub mod Same
