@@ -8,23 +8,30 @@ ghost use Rattle.address.specs.Address.{address_fits, both_fit};
 use octets::limits::{ADDRESS_OCTETS, ADDRESSES_MOST, IP4_OCTETS, IP6_OCTETS};
 
 #[repr(C)]
-#[derive(Clone, Copy)]
+#[derive(Clone, Copy, Default, PartialEq, Eq, Debug)]
 pub struct Address {
     pub family: u8,
     pub octets: [u8; ADDRESS_OCTETS],
+}
+
+impl Address {
+    // Whether its octets are an address of its family.
+    pub fn fits(self) -> bool
+        ensures { result ≡ address_fits self.family self.octets }
+    {
+        address_fits(self.family, self.octets)
+    }
 }
 
 // How many octets an address of this family has; a family that is not known has none.
 pub fn width_of(family: u8) -> u16
     ensures { result ≡ width_of family }
 {
-    if family == 4 {
-        return IP4_OCTETS as u16;
+    match family {
+        4 => IP4_OCTETS as u16,
+        6 => IP6_OCTETS as u16,
+        _ => 0,
     }
-    if family == 6 {
-        return IP6_OCTETS as u16;
-    }
-    0
 }
 
 // The list as it is stored: each of the first n addresses with its family, and nothing in the places after them.
@@ -36,19 +43,12 @@ pub fn addresses_of(
     requires { n ≤ addresses_most }
     ensures { result ≡ addresses_of n families octets }
 {
-    let none = Address {
-        family: 0,
-        octets: [0u8; ADDRESS_OCTETS],
-    };
-    let mut out = [none; ADDRESSES_MOST];
-    let mut i = 0;
-    while i < n {
-        let o = octets[i];
+    let mut out = [Address::default(); ADDRESSES_MOST];
+    for i in 0..n {
         out[i] = Address {
             family: families[i],
-            octets: o,
+            octets: octets[i],
         };
-        i += 1;
     }
     out
 }
@@ -82,19 +82,11 @@ pub fn octets_of(addresses: [Address; ADDRESSES_MOST]) -> [[u8; ADDRESS_OCTETS];
     out
 }
 
-// Whether the octets from `from` on are all zero.
-pub fn zero_from(octets: [u8; ADDRESS_OCTETS], from: usize) -> bool
-    requires { from ≤ address_octets }
-    ensures { result ≡ all is_zero (drop from octets) }
+// Whether octets are all zero.
+fn all_zero(octets: &[u8]) -> bool
+    ensures { result ≡ all is_zero octets.now }
 {
-    let mut i = from;
-    while i < ADDRESS_OCTETS {
-        if octets[i] != 0 {
-            return false;
-        }
-        i += 1;
-    }
-    true
+    octets.iter().all(|octet| *octet == 0)
 }
 
 // Whether sixteen octets are an address of a family.
@@ -102,33 +94,20 @@ pub fn address_fits(family: u8, octets: [u8; ADDRESS_OCTETS]) -> bool
     ensures { result ≡ address_fits family octets }
 {
     let width = width_of(family) as usize;
-    if width == 0 {
-        return false;
-    }
-    zero_from(octets, width)
+    width != 0 && all_zero(&octets[width..])
 }
 
 // Whether two addresses are of one family.
 pub fn both_fit(family: u8, source: [u8; ADDRESS_OCTETS], destination: [u8; ADDRESS_OCTETS]) -> bool
     ensures { result ≡ both_fit family source destination }
 {
-    if address_fits(family, source) {
-        address_fits(family, destination)
-    } else {
-        false
-    }
+    address_fits(family, source) && address_fits(family, destination)
 }
 
 // Whether two addresses have the same octets.
+#[tactic(auto, using(octets::proofs::Same::same_from_eq))]
 pub fn same_address(a: [u8; ADDRESS_OCTETS], b: [u8; ADDRESS_OCTETS]) -> bool
     ensures { result ≡ same_octets address_octets a b }
 {
-    let mut i = 0;
-    while i < ADDRESS_OCTETS {
-        if a[i] != b[i] {
-            return false;
-        }
-        i += 1;
-    }
-    true
+    a == b
 }

@@ -6,7 +6,7 @@ use crate::address::both_fit;
 use octets::limits::ADDRESS_OCTETS;
 
 #[repr(C)]
-#[derive(Clone, Copy)]
+#[derive(Clone, Copy, Default, PartialEq, Eq, Debug)]
 pub struct Pair {
     pub family: u8,
     pub source: [u8; ADDRESS_OCTETS],
@@ -15,11 +15,18 @@ pub struct Pair {
     pub destination_port: u16,
 }
 
-// Whether both addresses are of the pair's family.
+impl Pair {
+    // Whether both addresses are of the pair's family.
+    pub fn fits(self) -> bool
+        ensures { result ≡ pair_fits self }
+    {
+        both_fit(self.family, self.source, self.destination)
+    }
+}
+
+// The same, as a function: it goes once no crate calls it.
 pub fn pair_fits(pair: Pair) -> bool
     ensures { result ≡ pair_fits pair }
 {
-    let source = pair.source;
-    let destination = pair.destination;
-    both_fit(pair.family, source, destination)
+    pair.fits()
 }

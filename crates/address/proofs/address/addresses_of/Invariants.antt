@@ -1,5 +1,5 @@
 -- The loop's invariant: the first i addresses are those of the joined list.
-use Prim.Native.Nat.{◌≤◌, ◌-◌}
+use Prim.Native.Nat.{◌≤◌}
 use mathlib.Core.Path.{◌≡◌}
 use Rattle.octets.specs.Limits.{addresses_most}
 use Rattle.octets.proofs.Zip.{joined}
@@ -8,6 +8,3 @@ use Rattle.address.proofs.address.addresses_of.Given as goal
 
 abbrev pub invariant-loop-i : goal.invariant-loop-i
 invariant-loop-i l = (l.i ≤ l.n) × (l.out ≡ joined address_of no_address l.families l.octets addresses_most l.i)
-
-abbrev pub decreases-loop-i : goal.decreases-loop-i
-decreases-loop-i l = l.n - l.i
