@@ -15,7 +15,7 @@ swap false true c = refl
 swap false false c = refl
 
 -- the number 0 first, and then those above it
-first_below : (f : ℕ → Bool) (n : ℕ) → all_below f (suc n) ≡ f 0 && all_below (λ (i : ℕ). f (suc i)) n
+pub first_below : (f : ℕ → Bool) (n : ℕ) → all_below f (suc n) ≡ f 0 && all_below (λ (i : ℕ). f (suc i)) n
 first_below f zero = refl
 first_below f (suc n) =
     ap (λ (b : Bool). f (suc n) && b) (first_below f n)
