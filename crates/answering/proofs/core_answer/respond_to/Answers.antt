@@ -17,8 +17,8 @@ respond_decided-response-requires-clause-response_room_in_bounds c =
     rw c.cookie-k.ensures (cookie_part a.packet.first a.body.now a.read.seen read) in
     (c.requires.response_room_in_bounds, short)
 
-pub returns-then-read-number_of : goal.returns-then-read-number_of
-returns-then-read-number_of c =
+pub returns-then-read-from : goal.returns-then-read-from
+returns-then-read-from c =
     let a = c.args in
     let d = c.decide-d in
     let w = c.wants_nats-wanted in

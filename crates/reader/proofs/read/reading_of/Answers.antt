@@ -7,9 +7,9 @@ pub returns-then-number-eq0 : goal.returns-then-number-eq0
 unfolding reading_of
 returns-then-number-eq0 c = rw (c.if-number-eq0.true, c.seen_of.ensures)
 
-pub returns-then-number-number_of : goal.returns-then-number-number_of
+pub returns-then-number-from : goal.returns-then-number-from
 unfolding reading_of
-returns-then-number-number_of c =
+returns-then-number-from c =
     rw (ne_eqb _ _ c.if-number-eq0.false, eq-eqb _ _ (c.if-number-from.true ∙ c.from.ensures))
     c.refuse.ensures
 
