@@ -1,74 +1,60 @@
-// The reader's answer: its number with its words, and what that means here. The numbers are 02's, E4.
-use crate::print::{count, number, octets, text};
+// The reader's answer: its number with its words, and what that means here.
+use crate::print::{octets, payloads};
 use crate::walk::Place;
-use crate::words::number_words;
-use crate::{fields, why};
+use crate::why;
+use crate::words::{number_words, reader_number};
 use octets::limits::BODY_MOST;
+use octets::number::Number;
 use std::io;
 
-// Which payload it is, or how many there are before octets that are none.
-fn show_place(rt: &impl Print, n: u8, at: usize, ordinal: usize) -> io::Result<()> {
-    if n == 65 {
-        text(rt, b"behind ")?;
-        count(rt, ordinal, b" payload", b" payloads")?;
-    } else {
-        text(rt, b"payload ")?;
-        number(rt, ordinal)?;
-    }
-    text(rt, b" at offset ")?;
-    number(rt, at)?;
-    text(rt, b": ")
-}
-
 // What is wrong at this place.
-fn show_why(rt: &impl Print, n: u8, body: &[u8], p: Place) -> io::Result<()> {
-    let at = p.at;
-    let payload = fields::part(body, at, body.len());
-    match n {
-        61 => why::chain_length(rt, payload),
-        62 => why::notify_shape(rt, payload),
-        63 => why::data_size(rt, payload),
-        64 => why::conflict(rt, payload, p.none_additional),
-        65 => why::leftover(rt, payload),
-        _ => why::critical(rt, p.payload_type),
+fn show_why(rt: &impl Print, number: Option<Number>, body: &[u8], place: Place) -> io::Result<()> {
+    let payload = place.payload(body);
+    match number {
+        Some(Number::BadChainLength) => why::chain_length(rt, payload),
+        Some(Number::BadNotify) => why::notify_shape(rt, payload),
+        Some(Number::BadDataSize) => why::data_size(rt, payload),
+        Some(Number::Repeated) => why::conflict(rt, payload, place.none_additional),
+        Some(Number::OctetsAfterEnd) => {
+            print!(rt; "{} after the end", octets(payload.octets.len()))
+        }
+        _ => print!(rt;
+            "the critical payload type {} is not known",
+            place.payload_type
+        ),
     }
 }
 
-// What the number means here; `payloads` stand before the place, or in all.
-fn show_meaning(rt: &impl Print, n: u8, body: &[u8], p: Place, payloads: usize) -> io::Result<()> {
-    match n {
-        0 => {
-            text(rt, b"read whole: ")?;
-            count(rt, payloads, b" payload", b" payloads")
+// What the number means here; `count` payloads stand before the place, or in all.
+fn show_meaning(
+    rt: &impl Print,
+    number: Option<Number>,
+    body: &[u8],
+    place: Place,
+    count: usize,
+) -> io::Result<()> {
+    match number {
+        Some(Number::Done) => return print!(rt; "read whole: {}", payloads(count)),
+        Some(Number::BodyTooLong) => {
+            let size = octets(body.len());
+            return print!(rt; "the body has {size}, at most {BODY_MOST} are allowed");
         }
-        3 => {
-            text(rt, b"the body has ")?;
-            octets(rt, body.len())?;
-            text(rt, b", at most ")?;
-            number(rt, BODY_MOST)?;
-            text(rt, b" are allowed")
-        }
-        _ => {
-            show_place(rt, n, p.at, payloads)?;
-            show_why(rt, n, body, p)
-        }
+        Some(Number::OctetsAfterEnd) => print!(rt; "behind {}", payloads(count))?,
+        _ => print!(rt; "payload {count}")?,
     }
+    print!(rt; " at offset {}: ", place.at)?;
+    show_why(rt, number, body, place)
 }
 
 pub fn show_answer(
     rt: &impl Print,
-    n: u8,
+    told: u8,
     body: &[u8],
-    p: Place,
-    payloads: usize,
+    place: Place,
+    count: usize,
 ) -> io::Result<()> {
-    text(rt, b"answer ")?;
-    number(rt, n as usize)?;
-    text(rt, b": ")?;
-    number_words(rt, n)?;
-    text(rt, b"\n")?;
-    show_meaning(rt, n, body, p, payloads)?;
-    text(rt, b" (")?;
-    number(rt, n as usize)?;
-    text(rt, b")\n")
+    let number = reader_number(told);
+    println!(rt; "answer {told}: {}", number_words(number))?;
+    show_meaning(rt, number, body, place, count)?;
+    println!(rt; " ({told})")
 }

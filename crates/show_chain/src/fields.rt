@@ -1,65 +1,61 @@
 // The fields of a payload, by the octets from its first on. Each is 0 where the octets do not reach: nothing here is
 // asked of what the reader found, so that a fault can be looked at as well.
-use octets::be16_at;
+ghost use Rattle.std.specs.Prelude.{◌<◌};
+
 use octets::limits::{NOTIFY_HEADER, PAYLOAD_HEADER};
 
-// The octets from `from` up to `to`, or up to their end.
-pub fn part(octets: &[u8], from: usize, to: usize) -> &[u8] {
-    let n = octets.len();
-    if to < n {
-        if from < to {
-            return &octets[from..to];
-        }
-        return &octets[to..to];
+// The octets from a payload's first on, up to the end of the body.
+#[derive(Clone, Copy)]
+pub struct Payload<'a> {
+    pub octets: &'a [u8],
+}
+
+// A number of two octets, high octet first.
+fn number_of(octets: &[u8]) -> u16 {
+    match octets {
+        [high, low] => u16::from_be_bytes([*high, *low]),
+        _ => 0,
     }
-    if from < n {
-        return &octets[from..];
+}
+
+impl<'a> Payload<'a> {
+    // The octets from `from` up to `to`, or up to their end.
+    fn part(self, from: usize, to: usize) -> &'a [u8] {
+        let end = to.min(self.octets.len());
+        self.octets.get(from..end).unwrap_or(&[])
     }
-    &octets[n..]
-}
 
-fn octet_at(octets: &[u8], at: usize) -> u8 {
-    if at < octets.len() { octets[at] } else { 0 }
-}
-
-fn number_at(octets: &[u8], at: usize) -> u16 {
-    if 2 <= octets.len() {
-        if at <= octets.len() - 2 {
-            return be16_at(octets, at);
-        }
+    pub fn next_type(self) -> u8 {
+        self.octets.first().copied().unwrap_or(0)
     }
-    0
-}
 
-pub fn next_type(payload: &[u8]) -> u8 {
-    octet_at(payload, 0)
-}
+    pub fn length(self) -> usize {
+        usize::from(number_of(self.part(2, 4)))
+    }
 
-pub fn length(payload: &[u8]) -> usize {
-    number_at(payload, 2) as usize
-}
+    pub fn spi_size(self) -> usize
+        ensures { result < 256 }
+    {
+        usize::from(self.octets.get(5).copied().unwrap_or(0))
+    }
 
-pub fn spi_size(payload: &[u8]) -> usize {
-    octet_at(payload, 5) as usize
-}
+    pub fn notify_type(self) -> u16 {
+        number_of(self.part(6, 8))
+    }
 
-pub fn notify_type(payload: &[u8]) -> u16 {
-    number_at(payload, 6)
-}
+    // What stands behind the header.
+    pub fn content(self) -> &'a [u8] {
+        self.part(PAYLOAD_HEADER, self.length())
+    }
 
-// What stands behind the header of a payload.
-pub fn content(payload: &[u8]) -> &[u8] {
-    part(payload, PAYLOAD_HEADER, length(payload))
-}
+    // The SPI of a Notify.
+    pub fn spi(self) -> &'a [u8] {
+        let end = NOTIFY_HEADER + self.spi_size();
+        self.part(NOTIFY_HEADER, end.min(self.length()))
+    }
 
-// The SPI of a Notify.
-pub fn spi(payload: &[u8]) -> &[u8] {
-    let behind = part(payload, NOTIFY_HEADER, length(payload));
-    part(behind, 0, spi_size(payload))
-}
-
-// The data of a Notify.
-pub fn data(payload: &[u8]) -> &[u8] {
-    let behind = part(payload, NOTIFY_HEADER, length(payload));
-    part(behind, spi_size(payload), behind.len())
+    // The data of a Notify.
+    pub fn data(self) -> &'a [u8] {
+        self.part(NOTIFY_HEADER + self.spi_size(), self.length())
+    }
 }

@@ -1,82 +1,45 @@
 // What is given on standard input: hex digits or octets.
+ghost use Rattle.std.specs.Prelude.{◌<◌, IfSome};
 
-// Where a digit is due or may be, none: white space, or the high half of an octet that has not begun.
-pub const NO_DIGIT: u8 = 16;
-
-// Neither a hex digit nor white space.
-const OTHER: u8 = 17;
-
-// The octets that digits stand for: how many are whole, and the high half of the next.
-#[derive(Clone, Copy)]
-pub struct Decoded {
-    pub high: u8,
-    pub count: usize,
+fn is_space(octet: u8) -> bool {
+    matches!(octet, b' ' | b'\t' | b'\r' | b'\n')
 }
 
-// The value of a hex digit, or what the octet is instead.
-fn digit_of(octet: u8) -> u8 {
+// The value of a hex digit.
+fn digit_of(octet: u8) -> Option<u8>
+    ensures { IfSome result (λ digit. digit < 16) }
+{
     match octet {
-        b'0'..=b'9' => octet - b'0',
-        b'a'..=b'f' => octet - b'a' + 10,
-        b'A'..=b'F' => octet - b'A' + 10,
-        b' ' | b'\t' | b'\r' | b'\n' => NO_DIGIT,
-        _ => OTHER,
+        b'0'..=b'9' => Some(octet - b'0'),
+        b'a'..=b'f' => Some(octet - b'a' + 10),
+        b'A'..=b'F' => Some(octet - b'A' + 10),
+        _ => None,
     }
+}
+
+// The octet of two digits.
+fn octet_of(high: u8, low: u8) -> Option<u8> {
+    Some(digit_of(high)? * 16 + digit_of(low)?)
 }
 
 // Whether there are only hex digits and white space.
 pub fn is_hex(given: &[u8]) -> bool {
-    let mut i = 0;
-    while i < given.len() {
-        if digit_of(given[i]) == OTHER {
-            return false;
-        }
-        i += 1;
-    }
-    true
+    given
+        .iter()
+        .all(|octet| is_space(*octet) || digit_of(*octet).is_some())
 }
 
-// The octet of two digits.
-fn joined(high: u8, low: u8) -> u8 {
-    if high < 16 {
-        if low < 16 {
-            return high * 16 + low;
-        }
-    }
-    0
-}
-
-// What was decoded and one octet of the text more. White space may stand anywhere.
-fn decode_one(so_far: Decoded, octet: u8, out: &mut [u8]) -> Decoded {
-    let digit = digit_of(octet);
-    let high = so_far.high;
-    let count = so_far.count;
-    if digit >= NO_DIGIT {
-        return so_far;
-    }
-    if high >= NO_DIGIT {
-        return Decoded { high: digit, count };
-    }
-    if count < out.len() {
-        out[count] = joined(high, digit);
-        return Decoded {
-            high: NO_DIGIT,
-            count: count + 1,
+// The octets that the digits stand for, at the front of the room; none where half an octet is left over. White space
+// may stand anywhere.
+pub fn decode<'a>(given: &[u8], room: &'a mut [u8]) -> Option<&'a [u8]> {
+    let mut digits = given.iter().filter(|octet| !is_space(**octet));
+    let mut count = 0;
+    for place in room.iter_mut() {
+        let Some(high) = digits.next() else {
+            break;
         };
+        *place = octet_of(*high, *digits.next()?)?;
+        count += 1;
     }
-    so_far
-}
-
-// Puts the octets that the digits stand for at the front of `out`.
-pub fn decode(digits: &[u8], out: &mut [u8]) -> Decoded {
-    let mut decoded = Decoded {
-        high: NO_DIGIT,
-        count: 0,
-    };
-    let mut i = 0;
-    while i < digits.len() {
-        decoded = decode_one(decoded, digits[i], out);
-        i += 1;
-    }
-    decoded
+    Some(&room[..count])
 }

@@ -27,7 +27,6 @@ mod words;
 use answer::show_answer;
 use given::{decode, is_hex};
 use input::read_full;
-use print::text;
 use std::io;
 use walk::show_payloads;
 
@@ -36,43 +35,34 @@ const ROOM: usize = 65536;
 
 // The chain of these octets, of which the first is a type.
 fn show_octets(rt: &impl Print, octets: &[u8]) -> io::Result<()> {
-    if octets.len() == 0 {
-        return text(
-            rt,
-            b"no input: give the first payload's type and then the body\n",
-        );
-    }
-    let first = octets[0];
-    let body = &octets[1..];
-    let r = reader::read::read(first, body);
-    let mut payloads = r.ordinal;
-    if r.number == 0 {
-        let seen = r.seen;
-        let tally = seen.tally;
-        payloads = tally.payloads;
-    }
-    let p = show_payloads(rt, body, first, payloads as usize)?;
-    show_answer(rt, r.number, body, p, payloads as usize)
+    let Some((first, body)) = octets.split_first() else {
+        return println!(rt; "no input: give the first payload's type and then the body");
+    };
+    let reading = reader::read::read(*first, body);
+    let payloads = if reading.number == 0 {
+        reading.seen.tally.payloads
+    } else {
+        reading.ordinal
+    };
+    let place = show_payloads(rt, body, *first, usize::from(payloads))?;
+    show_answer(rt, reading.number, body, place, usize::from(payloads))
 }
 
 // The octets that hex digits stand for, of which half an octet may be left over.
 fn show_hex(rt: &impl Print, digits: &[u8]) -> io::Result<()> {
-    let mut octets = [0u8; ROOM];
-    let h = decode(digits, &mut octets);
-    if h.high < given::NO_DIGIT {
-        return text(rt, b"an odd number of hex digits\n");
+    let mut room = [0u8; ROOM];
+    match decode(digits, &mut room) {
+        Some(octets) => show_octets(rt, octets),
+        None => println!(rt; "an odd number of hex digits"),
     }
-    show_octets(rt, fields::part(&octets, 0, h.count))
 }
 
 fn main(rt: HostRuntime) -> io::Result<()> {
-    let mut input = [0u8; ROOM];
-    let n = read_full(&mut rt.stdin(), &mut input)?;
-    if n == input.len() {
-        return text(&rt, b"too much input: at most 65535 octets are read\n");
-    }
-    let given = &input[..n];
-    if is_hex(given) {
+    let mut room = [0u8; ROOM];
+    let given = read_full(&mut rt.stdin(), &mut room)?;
+    if given.len() == ROOM {
+        println!(rt; "too much input: at most 65535 octets are read")
+    } else if is_hex(given) {
         show_hex(&rt, given)
     } else {
         show_octets(&rt, given)

@@ -1,38 +1,37 @@
-// Writes words, numbers and octets to standard output.
-use std::io;
+// Counts and octets, as they are printed.
+use std::fmt;
 
-pub fn text(rt: &impl Print, words: &[u8]) -> io::Result<()> {
-    rt.write_all(words)
+// So many of what one is called `one`.
+#[derive(Clone, Copy)]
+pub struct Count {
+    n: usize,
+    one: &'static str,
 }
 
-pub fn number(rt: &impl Print, n: usize) -> io::Result<()> {
-    print!(rt; "{n}")
+pub fn octets(n: usize) -> Count {
+    Count { n, one: "octet" }
 }
 
-// So many of what one is called `one`, and several `several`.
-pub fn count(rt: &impl Print, n: usize, one: &[u8], several: &[u8]) -> io::Result<()> {
-    number(rt, n)?;
-    if n == 1 {
-        text(rt, one)
-    } else {
-        text(rt, several)
+pub fn payloads(n: usize) -> Count {
+    Count { n, one: "payload" }
+}
+
+impl fmt::Display for Count {
+    fn fmt<W: fmt::Write>(&self, f: &mut fmt::Formatter<W>) -> fmt::Result {
+        let plural = if self.n == 1 { "" } else { "s" };
+        write!(f, "{} {}{plural}", self.n, self.one)
     }
 }
 
-pub fn octets(rt: &impl Print, n: usize) -> io::Result<()> {
-    count(rt, n, b" octet", b" octets")
-}
+// Octets in hex, two digits for each and nothing between.
+#[derive(Clone, Copy)]
+pub struct Hex<'a>(pub &'a [u8]);
 
-fn hex_octet(rt: &impl Print, octet: u8) -> io::Result<()> {
-    print!(rt; "{octet:02x}")
-}
-
-// Two digits an octet, nothing between.
-pub fn hex(rt: &impl Print, octets: &[u8]) -> io::Result<()> {
-    let mut i = 0;
-    while i < octets.len() {
-        hex_octet(rt, octets[i])?;
-        i += 1;
+impl<'a> fmt::Display for Hex<'a> {
+    fn fmt<W: fmt::Write>(&self, f: &mut fmt::Formatter<W>) -> fmt::Result {
+        for octet in self.0 {
+            write!(f, "{octet:02x}")?;
+        }
+        Ok(())
     }
-    Ok(())
 }

@@ -1,5 +1,5 @@
 // The walk along the payloads that the reader found to have no fault, by their headers alone.
-use crate::fields;
+use crate::fields::Payload;
 use crate::lines::show_payload;
 use notify::notify::NotifyType;
 use octets::wire::NOTIFY_PAYLOAD;
@@ -13,59 +13,41 @@ pub struct Place {
     pub none_additional: bool,
 }
 
-pub fn start(first: u8) -> Place {
-    Place {
-        at: 0,
-        payload_type: first,
-        none_additional: false,
-    }
-}
-
-// The offset behind a payload of so many octets at `at`, or that of the body's end.
-fn behind(body: &[u8], at: usize, size: usize) -> usize {
-    let n = body.len();
-    if at <= n {
-        if size <= n - at {
-            return at + size;
+impl Place {
+    fn start(first: u8) -> Place {
+        Place {
+            at: 0,
+            payload_type: first,
+            none_additional: false,
         }
     }
-    n
-}
 
-fn is_none_additional(payload_type: u8, payload: &[u8]) -> bool {
-    if payload_type == NOTIFY_PAYLOAD {
-        return fields::notify_type(payload) == NotifyType::NO_ADDITIONAL_ADDRESSES;
+    // The payload that stands here.
+    pub fn payload(self, body: &[u8]) -> Payload<'_> {
+        Payload {
+            octets: body.get(self.at..).unwrap_or(&[]),
+        }
     }
-    false
-}
 
-// The place behind this one.
-fn next(body: &[u8], p: Place) -> Place {
-    let at = p.at;
-    let payload = fields::part(body, at, body.len());
-    let here = is_none_additional(p.payload_type, payload);
-    Place {
-        at: behind(body, at, fields::length(payload)),
-        payload_type: fields::next_type(payload),
-        none_additional: p.none_additional || here,
+    // The place behind this one, at the body's end at most.
+    fn next(self, body: &[u8]) -> Place {
+        let payload = self.payload(body);
+        let here = self.payload_type == NOTIFY_PAYLOAD
+            && payload.notify_type() == NotifyType::NO_ADDITIONAL_ADDRESSES;
+        Place {
+            at: self.at.saturating_add(payload.length()).min(body.len()),
+            payload_type: payload.next_type(),
+            none_additional: self.none_additional || here,
+        }
     }
 }
 
 // Shows so many payloads from the body's front on, and tells the place behind them.
 pub fn show_payloads(rt: &impl Print, body: &[u8], first: u8, count: usize) -> io::Result<Place> {
-    let mut p = start(first);
-    let mut ordinal = 0;
-    while ordinal < count {
-        let at = p.at;
-        show_payload(
-            rt,
-            p.payload_type,
-            fields::part(body, at, body.len()),
-            at,
-            ordinal,
-        )?;
-        p = next(body, p);
-        ordinal += 1;
+    let mut place = Place::start(first);
+    for ordinal in 0..count {
+        show_payload(rt, body, place, ordinal)?;
+        place = place.next(body);
     }
-    Ok(p)
+    Ok(place)
 }

@@ -1,6 +1,6 @@
-// What is wrong at a payload, in words, by the octets from its first on.
-use crate::fields;
-use crate::print::{number, octets, text};
+// What is wrong at a payload, in words.
+use crate::fields::Payload;
+use crate::print::octets;
 use crate::words::notify_name;
 use notify::notify::NotifyType;
 use octets::limits::{
@@ -9,114 +9,72 @@ use octets::limits::{
 };
 use std::io;
 
-fn at_least(rt: &impl Print, n: usize) -> io::Result<()> {
-    text(rt, b", at least ")?;
-    number(rt, n)?;
-    text(rt, b" are needed")
-}
-
-// 61: under a header's octets are left, or the length is under a header's or past the end.
-pub fn chain_length(rt: &impl Print, payload: &[u8]) -> io::Result<()> {
-    let left = payload.len();
-    let length = fields::length(payload);
-    if left < PAYLOAD_HEADER {
-        octets(rt, left)?;
-        text(rt, b" left")?;
-        return at_least(rt, PAYLOAD_HEADER);
-    }
-    text(rt, b"the length is ")?;
-    octets(rt, length)?;
-    if length < PAYLOAD_HEADER {
-        at_least(rt, PAYLOAD_HEADER)
+// Under a header's octets are left, or the length is under a header's or past the end.
+pub fn chain_length(rt: &impl Print, payload: Payload<'_>) -> io::Result<()> {
+    let left = octets(payload.octets.len());
+    let length = octets(payload.length());
+    if payload.octets.len() < PAYLOAD_HEADER {
+        print!(rt; "{left} left, at least {PAYLOAD_HEADER} are needed")
+    } else if payload.length() < PAYLOAD_HEADER {
+        print!(rt; "the length is {length}, at least {PAYLOAD_HEADER} are needed")
     } else {
-        text(rt, b", past the end: ")?;
-        octets(rt, left)?;
-        text(rt, b" left")
+        print!(rt; "the length is {length}, past the end: {left} left")
     }
 }
 
-// 62: a Notify shorter than its header, an SPI past its length, or one where its type has none.
-pub fn notify_shape(rt: &impl Print, payload: &[u8]) -> io::Result<()> {
-    let length = fields::length(payload);
+// A Notify shorter than its header, an SPI past its length, or one where its type has none.
+pub fn notify_shape(rt: &impl Print, payload: Payload<'_>) -> io::Result<()> {
+    let length = payload.length();
     if length < NOTIFY_HEADER {
-        text(rt, b"a Notify of ")?;
-        octets(rt, length)?;
-        return at_least(rt, NOTIFY_HEADER);
+        return print!(rt;
+            "a Notify of {}, at least {NOTIFY_HEADER} are needed",
+            octets(length)
+        );
     }
-    let spi_size = fields::spi_size(payload);
-    notify_name(rt, fields::notify_type(payload))?;
-    text(rt, b" has an SPI of ")?;
-    octets(rt, spi_size)?;
-    if length - NOTIFY_HEADER < spi_size {
-        text(rt, b", past its length of ")?;
-        number(rt, length)
+    let name = notify_name(payload.notify_type());
+    print!(rt; "{name} has an SPI of {}", octets(payload.spi_size()))?;
+    if length - NOTIFY_HEADER < payload.spi_size() {
+        print!(rt; ", past its length of {length}")
     } else {
-        text(rt, b", none is allowed")
+        print!(rt; ", none is allowed")
     }
-}
-
-fn two(rt: &impl Print, a: usize, between: &[u8], b: usize) -> io::Result<()> {
-    number(rt, a)?;
-    text(rt, between)?;
-    number(rt, b)
 }
 
 // The data octets that a notify type may have.
-fn allowed(rt: &impl Print, notify_type: u16) -> io::Result<()> {
+fn show_allowed(rt: &impl Print, notify_type: u16) -> io::Result<()> {
     match notify_type {
-        NotifyType::NAT_DETECTION_SOURCE_IP => number(rt, NAT_OCTETS)?,
-        NotifyType::NAT_DETECTION_DESTINATION_IP => number(rt, NAT_OCTETS)?,
-        NotifyType::ADDITIONAL_IP4_ADDRESS => number(rt, IP4_OCTETS)?,
-        NotifyType::ADDITIONAL_IP6_ADDRESS => number(rt, IP6_OCTETS)?,
-        NotifyType::COOKIE2 => two(rt, COOKIE_LEAST, b" to ", COOKIE_MOST)?,
-        NotifyType::NO_NATS_ALLOWED => two(rt, NO_NATS_LEAST, b" or ", NO_NATS_MOST)?,
-        _ => {
-            return text(rt, b"none is allowed");
+        NotifyType::NAT_DETECTION_SOURCE_IP | NotifyType::NAT_DETECTION_DESTINATION_IP => {
+            print!(rt; "{NAT_OCTETS} are allowed")
         }
+        NotifyType::ADDITIONAL_IP4_ADDRESS => print!(rt; "{IP4_OCTETS} are allowed"),
+        NotifyType::ADDITIONAL_IP6_ADDRESS => print!(rt; "{IP6_OCTETS} are allowed"),
+        NotifyType::COOKIE2 => print!(rt; "{COOKIE_LEAST} to {COOKIE_MOST} are allowed"),
+        NotifyType::NO_NATS_ALLOWED => {
+            print!(rt; "{NO_NATS_LEAST} or {NO_NATS_MOST} are allowed")
+        }
+        _ => print!(rt; "none is allowed"),
     }
-    text(rt, b" are allowed")
 }
 
-// 63: a size that the type does not have.
-pub fn data_size(rt: &impl Print, payload: &[u8]) -> io::Result<()> {
-    let notify_type = fields::notify_type(payload);
-    let data = fields::data(payload);
-    notify_name(rt, notify_type)?;
-    text(rt, b" has ")?;
-    octets(rt, data.len())?;
-    text(rt, b", ")?;
-    allowed(rt, notify_type)
+// A size that the type does not have.
+pub fn data_size(rt: &impl Print, payload: Payload<'_>) -> io::Result<()> {
+    let notify_type = payload.notify_type();
+    let name = notify_name(notify_type);
+    print!(rt; "{name} has {}, ", octets(payload.data().len()))?;
+    show_allowed(rt, notify_type)
 }
 
-// 64: a second one of its type, or NO_ADDITIONAL_ADDRESSES and an address.
-pub fn conflict(rt: &impl Print, payload: &[u8], none_additional: bool) -> io::Result<()> {
-    let notify_type = fields::notify_type(payload);
+// A second one of its type, or NO_ADDITIONAL_ADDRESSES and an address.
+pub fn conflict(rt: &impl Print, payload: Payload<'_>, none_additional: bool) -> io::Result<()> {
+    let notify_type = payload.notify_type();
+    let name = notify_name(notify_type);
     match notify_type {
         NotifyType::ADDITIONAL_IP4_ADDRESS | NotifyType::ADDITIONAL_IP6_ADDRESS => {
-            notify_name(rt, notify_type)?;
-            return text(rt, b" beside NO_ADDITIONAL_ADDRESSES");
+            print!(rt; "{name} beside NO_ADDITIONAL_ADDRESSES")
         }
-        _ => {}
-    }
-    if notify_type == NotifyType::NO_ADDITIONAL_ADDRESSES {
-        if !none_additional {
-            notify_name(rt, notify_type)?;
-            return text(rt, b" beside an additional address");
+        NotifyType::NO_ADDITIONAL_ADDRESSES if !none_additional => {
+            print!(rt; "{name} beside an additional address")
         }
+        _ => print!(rt; "a second {name}"),
     }
-    text(rt, b"a second ")?;
-    notify_name(rt, notify_type)
-}
-
-// 65: what is left.
-pub fn leftover(rt: &impl Print, payload: &[u8]) -> io::Result<()> {
-    octets(rt, payload.len())?;
-    text(rt, b" after the end")
-}
-
-// 7: the type is not known.
-pub fn critical(rt: &impl Print, payload_type: u8) -> io::Result<()> {
-    text(rt, b"the critical payload type ")?;
-    number(rt, payload_type as usize)?;
-    text(rt, b" is not known")
 }

@@ -1,72 +1,103 @@
 // The words for the reader's numbers, and the names of payload and notify types, as `host/words/words.txt` has them.
-use crate::print::{number, text};
 use notify::notify::NotifyType;
-use std::io;
+use octets::number::Number;
+use std::fmt;
+
+// The numbers that the reader gives.
+const READER: [Number; 8] = [
+    Number::Done,
+    Number::BodyTooLong,
+    Number::BadChainLength,
+    Number::BadNotify,
+    Number::BadDataSize,
+    Number::Repeated,
+    Number::OctetsAfterEnd,
+    Number::UnknownCritical,
+];
+
+// The number of the reader that is told so.
+pub fn reader_number(told: u8) -> Option<Number> {
+    READER.iter().copied().find(|n| u8::from(*n) == told)
+}
 
 // The words for a number of the reader.
-pub fn number_words(rt: &impl Print, n: u8) -> io::Result<()> {
-    match n {
-        0 => text(rt, b"done"),
-        3 => text(rt, b"body too long"),
-        61 => text(rt, b"a payload cut short or of a length that cannot be"),
-        62 => text(rt, b"a Notify of a length or with an SPI that cannot be"),
-        63 => text(rt, b"notification data of a wrong size"),
-        64 => text(rt, b"a repeated or contradictory notification"),
-        65 => text(rt, b"octets after the end"),
-        7 => text(rt, b"unknown critical payload"),
-        _ => text(rt, b"not a number of the library"),
+pub fn number_words(number: Option<Number>) -> &'static str {
+    match number {
+        Some(Number::Done) => "done",
+        Some(Number::BodyTooLong) => "body too long",
+        Some(Number::BadChainLength) => "a payload cut short or of a length that cannot be",
+        Some(Number::BadNotify) => "a Notify of a length or with an SPI that cannot be",
+        Some(Number::BadDataSize) => "notification data of a wrong size",
+        Some(Number::Repeated) => "a repeated or contradictory notification",
+        Some(Number::OctetsAfterEnd) => "octets after the end",
+        Some(Number::UnknownCritical) => "unknown critical payload",
+        _ => "not a number of the library",
     }
 }
 
-// A type that has no name here.
-fn type_number(rt: &impl Print, t: usize) -> io::Result<()> {
-    text(rt, b"type ")?;
-    number(rt, t)
+// A payload or notify type: its name, or its number where it has none here.
+#[derive(Clone, Copy)]
+pub struct Name {
+    name: Option<&'static str>,
+    number: u16,
 }
 
-// The name of a notify type, or its number.
-pub fn notify_name(rt: &impl Print, t: u16) -> io::Result<()> {
-    match t {
-        NotifyType::UNSUPPORTED_CRITICAL_PAYLOAD => text(rt, b"UNSUPPORTED_CRITICAL_PAYLOAD"),
-        NotifyType::INVALID_SYNTAX => text(rt, b"INVALID_SYNTAX"),
-        NotifyType::NO_ADDITIONAL_SAS => text(rt, b"NO_ADDITIONAL_SAS"),
-        NotifyType::UNACCEPTABLE_ADDRESSES => text(rt, b"UNACCEPTABLE_ADDRESSES"),
-        NotifyType::UNEXPECTED_NAT_DETECTED => text(rt, b"UNEXPECTED_NAT_DETECTED"),
-        NotifyType::TEMPORARY_FAILURE => text(rt, b"TEMPORARY_FAILURE"),
-        NotifyType::NAT_DETECTION_SOURCE_IP => text(rt, b"NAT_DETECTION_SOURCE_IP"),
-        NotifyType::NAT_DETECTION_DESTINATION_IP => text(rt, b"NAT_DETECTION_DESTINATION_IP"),
-        NotifyType::MOBIKE_SUPPORTED => text(rt, b"MOBIKE_SUPPORTED"),
-        NotifyType::ADDITIONAL_IP4_ADDRESS => text(rt, b"ADDITIONAL_IP4_ADDRESS"),
-        NotifyType::ADDITIONAL_IP6_ADDRESS => text(rt, b"ADDITIONAL_IP6_ADDRESS"),
-        NotifyType::NO_ADDITIONAL_ADDRESSES => text(rt, b"NO_ADDITIONAL_ADDRESSES"),
-        NotifyType::UPDATE_SA_ADDRESSES => text(rt, b"UPDATE_SA_ADDRESSES"),
-        NotifyType::COOKIE2 => text(rt, b"COOKIE2"),
-        NotifyType::NO_NATS_ALLOWED => text(rt, b"NO_NATS_ALLOWED"),
-        NotifyType::CLONE_IKE_SA_SUPPORTED => text(rt, b"CLONE_IKE_SA_SUPPORTED"),
-        NotifyType::CLONE_IKE_SA => text(rt, b"CLONE_IKE_SA"),
-        _ => type_number(rt, t as usize),
+impl fmt::Display for Name {
+    fn fmt<W: fmt::Write>(&self, f: &mut fmt::Formatter<W>) -> fmt::Result {
+        match self.name {
+            Some(name) => write!(f, "{name}"),
+            None => write!(f, "type {}", self.number),
+        }
     }
 }
 
-// The name of a payload type, or its number. The names are those of RFC 7296, 3.2.
-pub fn payload_name(rt: &impl Print, t: u8) -> io::Result<()> {
-    match t {
-        33 => text(rt, b"Security Association"),
-        34 => text(rt, b"Key Exchange"),
-        35 => text(rt, b"Identification - Initiator"),
-        36 => text(rt, b"Identification - Responder"),
-        37 => text(rt, b"Certificate"),
-        38 => text(rt, b"Certificate Request"),
-        39 => text(rt, b"Authentication"),
-        40 => text(rt, b"Nonce"),
-        41 => text(rt, b"Notify"),
-        42 => text(rt, b"Delete"),
-        43 => text(rt, b"Vendor ID"),
-        44 => text(rt, b"Traffic Selector - Initiator"),
-        45 => text(rt, b"Traffic Selector - Responder"),
-        46 => text(rt, b"Encrypted and Authenticated"),
-        47 => text(rt, b"Configuration"),
-        48 => text(rt, b"Extensible Authentication"),
-        _ => type_number(rt, t as usize),
+pub fn notify_name(number: u16) -> Name {
+    let name = match number {
+        NotifyType::UNSUPPORTED_CRITICAL_PAYLOAD => Some("UNSUPPORTED_CRITICAL_PAYLOAD"),
+        NotifyType::INVALID_SYNTAX => Some("INVALID_SYNTAX"),
+        NotifyType::NO_ADDITIONAL_SAS => Some("NO_ADDITIONAL_SAS"),
+        NotifyType::UNACCEPTABLE_ADDRESSES => Some("UNACCEPTABLE_ADDRESSES"),
+        NotifyType::UNEXPECTED_NAT_DETECTED => Some("UNEXPECTED_NAT_DETECTED"),
+        NotifyType::TEMPORARY_FAILURE => Some("TEMPORARY_FAILURE"),
+        NotifyType::NAT_DETECTION_SOURCE_IP => Some("NAT_DETECTION_SOURCE_IP"),
+        NotifyType::NAT_DETECTION_DESTINATION_IP => Some("NAT_DETECTION_DESTINATION_IP"),
+        NotifyType::MOBIKE_SUPPORTED => Some("MOBIKE_SUPPORTED"),
+        NotifyType::ADDITIONAL_IP4_ADDRESS => Some("ADDITIONAL_IP4_ADDRESS"),
+        NotifyType::ADDITIONAL_IP6_ADDRESS => Some("ADDITIONAL_IP6_ADDRESS"),
+        NotifyType::NO_ADDITIONAL_ADDRESSES => Some("NO_ADDITIONAL_ADDRESSES"),
+        NotifyType::UPDATE_SA_ADDRESSES => Some("UPDATE_SA_ADDRESSES"),
+        NotifyType::COOKIE2 => Some("COOKIE2"),
+        NotifyType::NO_NATS_ALLOWED => Some("NO_NATS_ALLOWED"),
+        NotifyType::CLONE_IKE_SA_SUPPORTED => Some("CLONE_IKE_SA_SUPPORTED"),
+        NotifyType::CLONE_IKE_SA => Some("CLONE_IKE_SA"),
+        _ => None,
+    };
+    Name { name, number }
+}
+
+// The names are those of RFC 7296, 3.2.
+pub fn payload_name(number: u8) -> Name {
+    let name = match number {
+        33 => Some("Security Association"),
+        34 => Some("Key Exchange"),
+        35 => Some("Identification - Initiator"),
+        36 => Some("Identification - Responder"),
+        37 => Some("Certificate"),
+        38 => Some("Certificate Request"),
+        39 => Some("Authentication"),
+        40 => Some("Nonce"),
+        41 => Some("Notify"),
+        42 => Some("Delete"),
+        43 => Some("Vendor ID"),
+        44 => Some("Traffic Selector - Initiator"),
+        45 => Some("Traffic Selector - Responder"),
+        46 => Some("Encrypted and Authenticated"),
+        47 => Some("Configuration"),
+        48 => Some("Extensible Authentication"),
+        _ => None,
+    };
+    Name {
+        name,
+        number: u16::from(number),
     }
 }
