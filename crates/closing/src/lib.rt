@@ -9,8 +9,8 @@ ghost use Rattle.tables.specs.Changes.{ike_closing, ipsec_closing, ike_marking};
 use octets::limits::IKE_PLACES;
 use octets::number::Number;
 use octets::operator::not_operator;
-use records::ike::{IkeRecord, mark_deletion, no_ike};
-use records::ipsec::{IpsecRecord, no_ipsec};
+use records::ike::IkeRecord;
+use records::ipsec::IpsecRecord;
 use tables::calls::{IkeChange, IpsecChange, is_bad_list, is_own, place_if};
 
 // The number of a closing, and of a deletion mark: a bad argument, no such record, or 0.
@@ -48,7 +48,7 @@ pub fn ike_closing(size: usize, spi: u64, operator: u8, place: usize, entry: Ike
     IkeChange {
         number,
         place: place_if(number, place, IKE_PLACES),
-        entry: no_ike(),
+        entry: IkeRecord::none(),
     }
 }
 
@@ -84,7 +84,7 @@ pub fn ipsec_closing(
     IpsecChange {
         number,
         place: place_if(number, place, size),
-        entry: no_ipsec(),
+        entry: IpsecRecord::none(),
     }
 }
 
@@ -108,6 +108,6 @@ pub fn ike_marking(spi: u64, operator: u8, place: usize, entry: IkeRecord) -> Ik
     IkeChange {
         number,
         place: place_if(number, place, IKE_PLACES),
-        entry: mark_deletion(entry),
+        entry: entry.deletion_marked(),
     }
 }

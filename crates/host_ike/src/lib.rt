@@ -7,14 +7,15 @@ ghost use Rattle.tables.specs.Calls.{open_both, close_ike, mark_deletion};
 
 use closing::{ike_closing, ike_marking};
 use lent_closed::closed::release_if;
-use lent_ike::ike::{ike_at, ike_count, ike_place, ike_store};
-use lent_ipsec::places::{ipsec_count, ipsec_place, ipsec_store};
+use lent_ike::ike::{ike_at, ike_count, ike_place};
+use lent_ipsec::places::ipsec_place;
 use lent_shares::shares::ipsec_count_of;
 use octets::limits::IKE_PLACES;
 use opening::both_opening;
 use records::ike::IkeRecord;
 use records::ipsec::IpsecRecord;
 use tables::calls::Opening;
+use walks::store;
 
 // Opens an IKE record and its first IPsec record, each at the lowest free place of its table, or neither.
 pub fn unmavreth_open(
@@ -25,7 +26,7 @@ pub fn unmavreth_open(
     ensures { let opened = open_both ike.old ipsec.old opening in
         (result ≡ opened.number) × (ike.new ≡ opened.ike) × (ipsec.new ≡ opened.ipsec) }
 {
-    let size = ipsec_count(ipsec);
+    let size = ipsec.len();
     let taken = ike_place(ike, opening.spi);
     let free = ike_place(ike, 0);
     let child_taken = ipsec_place(ipsec, opening.child);
@@ -43,8 +44,8 @@ pub fn unmavreth_open(
         own,
         child_own,
     );
-    ike_store(ike, c.place, c.entry);
-    ipsec_store(ipsec, c.child_place, c.child);
+    store(ike, c.place, c.entry);
+    store(ipsec, c.child_place, c.child);
     c.number
 }
 
@@ -58,11 +59,11 @@ pub fn unmavreth_close_ike(
     ensures { let closed = close_ike ike.old ipsec.old spi operator in
         (result ≡ closed.number) × (ike.new ≡ closed.ike) × (ipsec.new ≡ closed.ipsec) }
 {
-    let size = ipsec_count(ipsec);
+    let size = ipsec.len();
     let place = ike_place(ike, spi);
     let entry = ike_at(ike, place);
     let c = ike_closing(size, spi, operator, place, entry);
-    ike_store(ike, c.place, c.entry);
+    store(ike, c.place, c.entry);
     release_if(ipsec, c.number == 0, spi);
     c.number
 }
@@ -75,6 +76,6 @@ pub fn unmavreth_mark_deletion(ike: &mut [IkeRecord; IKE_PLACES], spi: u64, oper
     let place = ike_place(ike, spi);
     let entry = ike_at(ike, place);
     let c = ike_marking(spi, operator, place, entry);
-    ike_store(ike, c.place, c.entry);
+    store(ike, c.place, c.entry);
     c.number
 }

@@ -2,19 +2,15 @@
 ghost use Rattle.std.specs.Prelude.{◌≡◌, cond, map};
 ghost use Rattle.records.specs.Records.{released};
 
-use records::ipsec::{IpsecRecord, release};
+use records::ipsec::IpsecRecord;
 
 // Closes every record that is in use and has this owner.
+#[tactic(auto, using(walks::proofs::Upto::upto_turn, walks::proofs::Upto::upto_done))]
 pub fn release_all(records: &mut [IpsecRecord], owner: u64)
     ensures { records.new ≡ map (released owner) records.old }
 {
-    let mut place = 0;
-    while place < records.len() {
-        if records[place].owner == owner {
-            let x = records[place];
-            records[place] = release(x, owner);
-        }
-        place += 1;
+    for record in records.iter_mut() {
+        record.release(owner);
     }
 }
 

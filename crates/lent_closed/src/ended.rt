@@ -4,7 +4,7 @@ ghost use Rattle.records.specs.Records.{follows, released};
 
 use crate::closed::release_all;
 use address::pair::Pair;
-use lent_owned::owned::follow_if;
+use lent_owned::owned::follow_all;
 use records::ipsec::IpsecRecord;
 
 // Closes the records of an owner that is closed; else moves them, if the owner's pair was confirmed.
@@ -15,7 +15,7 @@ pub fn end_owned(records: &mut [IpsecRecord], closes: bool, moves: bool, owner: 
 {
     if closes {
         release_all(records, owner);
-    } else {
-        follow_if(records, moves, owner, pair);
+    } else if moves {
+        follow_all(records, owner, pair);
     }
 }

@@ -1,47 +1,38 @@
-// The lent IPsec list: how many records it has, the lowest place with an SPI, and the record at a place, read and
-// stored.
-ghost use Rattle.std.specs.Prelude.{◌≡◌, length, get_or, set};
+// The lent IPsec list: the lowest place with an SPI, and the record at a place.
+ghost use Rattle.std.specs.Prelude.{◌≡◌, eqb, get_or, length, position};
 ghost use Rattle.octets.specs.Lists.{place_of};
 ghost use Rattle.records.specs.Records.{ipsec_spi, no_ipsec};
 
-use records::ipsec::{IpsecRecord, no_ipsec};
+use records::ipsec::IpsecRecord;
 
-// How many records are lent.
-pub fn ipsec_count(records: &[IpsecRecord]) -> usize
-    ensures { result ≡ length records.now }
+// The lowest place with this SPI, if any.
+fn position_of(records: &[IpsecRecord], spi: u32) -> Option<usize>
+    ensures { result ≡ position (λ r. eqb (ipsec_spi r) spi) records.now }
 {
-    records.len()
+    records.iter().position(|r| r.spi == spi)
 }
 
 // The lowest place with this SPI, or the list's length where there is none; of SPI 0, the lowest free place.
+#[tactic(auto, using(octets::proofs::Iterators::position_is))]
 pub fn ipsec_place(records: &[IpsecRecord], spi: u32) -> usize
     ensures { result ≡ place_of ipsec_spi spi records.now }
 {
-    let mut place = 0;
-    while place < records.len() {
-        if records[place].spi == spi {
-            return place;
-        }
-        place += 1;
-    }
-    place
+    position_of(records, spi).unwrap_or(records.len())
 }
 
 // The record at a place; a closed one past the end.
 pub fn ipsec_at(records: &[IpsecRecord], place: usize) -> IpsecRecord
     ensures { result ≡ get_or records.now place no_ipsec }
 {
-    if place < records.len() {
-        return records[place];
+    match records.get(place) {
+        Some(record) => *record,
+        None => IpsecRecord::none(),
     }
-    no_ipsec()
 }
 
-// Stores a record at a place; nothing past the end.
-pub fn ipsec_store(records: &mut [IpsecRecord], place: usize, new: IpsecRecord)
-    ensures { records.new ≡ set records.old place new }
+// How many records are lent: it goes once no crate calls it.
+pub fn ipsec_count(records: &[IpsecRecord]) -> usize
+    ensures { result ≡ length records.now }
 {
-    if place < records.len() {
-        records[place] = new;
-    }
+    records.len()
 }

@@ -11,7 +11,7 @@ use address::pair::pair_fits;
 use octets::limits::{IKE_PLACES, IKE_SHARE, IPSEC_PLACES, IPSEC_SHARE, OPERATORS};
 use octets::number::Number;
 use octets::operator::not_operator;
-use records::ike::{IkeRecord, new_ike};
+use records::ike::IkeRecord;
 use records::ipsec::IpsecRecord;
 use tables::calls::{BothChange, IpsecChange, Opening, is_bad_list, is_own, place_if};
 
@@ -113,9 +113,7 @@ pub fn both_number(
 pub fn ike_of(o: Opening) -> IkeRecord
     ensures { result ≡ ike_of o }
 {
-    let agreed = o.agreed;
-    let pair = o.pair;
-    new_ike(o.spi, agreed, pair)
+    IkeRecord::new(o.spi, o.agreed, o.pair)
 }
 
 pub fn child_of(o: Opening) -> IpsecRecord

@@ -6,7 +6,7 @@ use octets::limits::{COOKIE_LEAST, COOKIE_MOST};
 
 // The cookie that our request carries, zeros behind it, and the message ID of that request. All 0 is none.
 #[repr(C)]
-#[derive(Clone, Copy)]
+#[derive(Clone, Copy, Default)]
 pub struct PendingCheck {
     pub length: u8,
     pub octets: [u8; COOKIE_MOST],
@@ -17,45 +17,51 @@ pub struct PendingCheck {
 pub fn cookie_sized(n: usize) -> bool
     ensures { result ≡ cookie_sized n }
 {
-    if n < COOKIE_LEAST {
-        return false;
-    }
-    n <= COOKIE_MOST
+    COOKIE_LEAST <= n && n <= COOKIE_MOST
 }
 
-pub fn no_check() -> PendingCheck
-    ensures { result ≡ no_check }
-{
-    PendingCheck {
-        length: 0,
-        octets: [0u8; COOKIE_MOST],
-        id: 0,
+impl PendingCheck {
+    #[tactic(auto, using(crate::proofs::Zeros::check_zero))]
+    pub fn none() -> PendingCheck
+        ensures { result ≡ no_check }
+    {
+        PendingCheck::default()
     }
-}
 
-// The check by a request of ours with this cookie and this ID; none where the cookie has another length.
-pub fn check_of(cookie: &[u8], id: u32) -> PendingCheck
-    ensures { result ≡ check_of cookie.now id }
-{
-    let n = cookie.len();
-    if cookie_sized(n) {
-        let mut octets = [0u8; COOKIE_MOST];
-        let mut i = 0;
-        while i < n {
-            octets[i] = cookie[i];
-            i += 1;
+    // The check that a request of ours with this cookie and ID makes; none with a cookie that cannot be sent.
+    #[tactic(auto, unfolding(crate::specs::Pending::check_of))]
+    pub fn of(cookie: &[u8], id: u32) -> PendingCheck
+        ensures { result ≡ check_of cookie.now id }
+    {
+        let n = cookie.len();
+        if !cookie_sized(n) {
+            return PendingCheck::none();
         }
-        return PendingCheck {
+        let mut octets = [0u8; COOKIE_MOST];
+        octets[..n].copy_from_slice(cookie);
+        PendingCheck {
             length: n as u8,
             octets,
             id,
-        };
+        }
     }
-    no_check()
+
+    pub fn is_pending(self) -> bool
+        ensures { result ≡ is_pending self }
+    {
+        cookie_sized(self.length as usize)
+    }
+}
+
+// As functions: they go once no crate calls them.
+pub fn check_of(cookie: &[u8], id: u32) -> PendingCheck
+    ensures { result ≡ check_of cookie.now id }
+{
+    PendingCheck::of(cookie, id)
 }
 
 pub fn is_pending(check: PendingCheck) -> bool
     ensures { result ≡ is_pending check }
 {
-    cookie_sized(check.length as usize)
+    check.is_pending()
 }

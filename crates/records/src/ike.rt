@@ -1,17 +1,17 @@
 // IKE records: a new one, a clone, a closed one, and what a request, the end of a check or a deletion mark changes in one.
 ghost use Rattle.std.specs.Prelude.{◌≡◌};
-ghost use Rattle.records.specs.Records.{settled, fresh_ike, new_ike, no_ike, clone_of, marks_in, remarked, relisted};
-ghost use Rattle.records.specs.Records.{unchecked, deletion_marked};
+ghost use Rattle.records.specs.Records.{settled, fresh_ike, new_ike, clone_of, marks_in, remarked, relisted};
+ghost use Rattle.records.specs.Records.{unchecked, deletion_marked, of_operator, of_peer, no_ike};
 
-use crate::check::{PendingCheck, no_check};
+use crate::check::PendingCheck;
 use address::address::Address;
 use address::pair::Pair;
 use octets::flag::zero_or_one;
-use octets::limits::{ADDRESS_OCTETS, ADDRESSES_MOST};
+use octets::limits::ADDRESSES_MOST;
 
 // What is agreed when a record is opened; no request changes it. Yes or no is an octet, 0 or any other.
 #[repr(C)]
-#[derive(Clone, Copy)]
+#[derive(Clone, Copy, Default)]
 pub struct Agreed {
     pub mobike: u8,
     pub cloning: u8,
@@ -24,7 +24,7 @@ pub struct Agreed {
 // A place is free when its SPI is 0. A mark is the least message ID that exceeds it: 0 for none, and the ID and one for
 // an ID.
 #[repr(C)]
-#[derive(Clone, Copy)]
+#[derive(Clone, Copy, Default)]
 pub struct IkeRecord {
     pub spi: u64,
     pub agreed: Agreed,
@@ -49,90 +49,147 @@ pub struct Marks {
     pub unknown: u32,
 }
 
-// As it is stored.
-pub fn settle(given: Agreed) -> Agreed
-    ensures { result ≡ settled given }
-{
-    Agreed {
-        mobike: zero_or_one(given.mobike),
-        cloning: zero_or_one(given.cloning),
-        operator: given.operator,
-        peer: given.peer,
+impl Agreed {
+    // As it is stored.
+    pub fn settled(self) -> Agreed
+        ensures { result ≡ settled self }
+    {
+        Agreed {
+            mobike: zero_or_one(self.mobike),
+            cloning: zero_or_one(self.cloning),
+            ..self
+        }
     }
 }
 
-// A record with no marks, an empty list, no tally and no check.
-pub fn fresh_ike(spi: u64, agreed: Agreed, pair: Pair) -> IkeRecord
-    ensures { result ≡ fresh_ike spi agreed pair }
-{
-    let none = Address {
-        family: 0,
-        octets: [0u8; ADDRESS_OCTETS],
-    };
-    IkeRecord {
-        spi,
-        agreed,
-        pair,
-        update_mark: 0,
-        list_mark: 0,
-        count: 0,
-        addresses: [none; ADDRESSES_MOST],
-        unknown: 0,
-        check: no_check(),
-        deleting: 0,
+impl IkeRecord {
+    // A free place.
+    #[tactic(auto, using(crate::proofs::Zeros::ike_zero))]
+    pub fn none() -> IkeRecord
+        ensures { result ≡ no_ike }
+    {
+        IkeRecord::default()
+    }
+
+    // A record with no marks, an empty list, no tally and no check.
+    fn fresh(spi: u64, agreed: Agreed, pair: Pair) -> IkeRecord
+        ensures { result ≡ fresh_ike spi agreed pair }
+    {
+        IkeRecord {
+            spi,
+            agreed,
+            pair,
+            ..IkeRecord::none()
+        }
+    }
+
+    // A record as it is opened.
+    pub fn new(spi: u64, agreed: Agreed, pair: Pair) -> IkeRecord
+        ensures { result ≡ new_ike spi agreed pair }
+    {
+        IkeRecord::fresh(spi, agreed.settled(), pair)
+    }
+
+    // The clone of the record under another SPI.
+    pub fn cloned(self, spi: u64) -> IkeRecord
+        ensures { result ≡ clone_of spi self }
+    {
+        IkeRecord::fresh(spi, self.agreed, self.pair)
+    }
+
+    pub fn marks(self) -> Marks
+        ensures { result ≡ marks_in self }
+    {
+        Marks {
+            agreed: self.agreed,
+            update_mark: self.update_mark,
+            list_mark: self.list_mark,
+            unknown: self.unknown,
+        }
+    }
+
+    // The record with these marks and this tally, and with the pair and the check if it moves.
+    pub fn remarked(self, marks: Marks, moves: bool, pair: Pair, check: PendingCheck) -> IkeRecord
+        ensures { result ≡ remarked marks moves pair check self }
+    {
+        let mut new = IkeRecord {
+            update_mark: marks.update_mark,
+            list_mark: marks.list_mark,
+            unknown: marks.unknown,
+            ..self
+        };
+        if moves {
+            new.pair = pair;
+            new.check = check;
+        }
+        new
+    }
+
+    // The record with another list.
+    pub fn relisted(self, count: u16, addresses: [Address; ADDRESSES_MOST]) -> IkeRecord
+        ensures { result ≡ relisted count addresses self }
+    {
+        IkeRecord {
+            count,
+            addresses,
+            ..self
+        }
+    }
+
+    // The record whose check has ended.
+    pub fn unchecked(self) -> IkeRecord
+        ensures { result ≡ unchecked self }
+    {
+        IkeRecord {
+            check: PendingCheck::none(),
+            ..self
+        }
+    }
+
+    // The record, marked as being deleted.
+    pub fn deletion_marked(self) -> IkeRecord
+        ensures { result ≡ deletion_marked self }
+    {
+        IkeRecord {
+            deleting: 1,
+            ..self
+        }
+    }
+
+    // Whether the record is in use and the operator's.
+    pub fn is_of_operator(&self, operator: u8) -> bool
+        ensures { result ≡ of_operator operator self.now }
+    {
+        self.spi != 0 && self.agreed.operator == operator
+    }
+
+    // Whether it is the operator's and has the peer number; being deleted or not.
+    pub fn is_of_peer(&self, operator: u8, peer: u32) -> bool
+        ensures { result ≡ of_peer operator peer self.now }
+    {
+        self.is_of_operator(operator) && self.agreed.peer == peer
     }
 }
 
-// A record as it is opened.
-pub fn new_ike(spi: u64, agreed: Agreed, pair: Pair) -> IkeRecord
-    ensures { result ≡ new_ike spi agreed pair }
-{
-    let stored = settle(agreed);
-    fresh_ike(spi, stored, pair)
-}
-
-// A place that is closed.
+// As functions: they go once no crate calls them.
 pub fn no_ike() -> IkeRecord
     ensures { result ≡ no_ike }
 {
-    let pair = Pair {
-        family: 0,
-        source: [0u8; ADDRESS_OCTETS],
-        destination: [0u8; ADDRESS_OCTETS],
-        source_port: 0,
-        destination_port: 0,
-    };
-    let agreed = Agreed {
-        mobike: 0,
-        cloning: 0,
-        operator: 0,
-        peer: 0,
-    };
-    new_ike(0, agreed, pair)
+    IkeRecord::none()
 }
 
-// The clone of a record under another SPI.
 pub fn clone_of(spi: u64, original: IkeRecord) -> IkeRecord
     ensures { result ≡ clone_of spi original }
 {
-    let agreed = original.agreed;
-    let pair = original.pair;
-    fresh_ike(spi, agreed, pair)
+    original.cloned(spi)
 }
 
 pub fn marks_of(entry: IkeRecord) -> Marks
     ensures { result ≡ marks_in entry }
 {
-    let agreed = entry.agreed;
-    Marks {
-        agreed,
-        update_mark: entry.update_mark,
-        list_mark: entry.list_mark,
-        unknown: entry.unknown,
-    }
+    entry.marks()
 }
 
-// The record with these marks and this tally, and with the pair and the check if it moves.
 pub fn remark(
     entry: IkeRecord,
     marks: Marks,
@@ -142,41 +199,17 @@ pub fn remark(
 ) -> IkeRecord
     ensures { result ≡ remarked marks moves pair check entry }
 {
-    let mut new = entry;
-    new.update_mark = marks.update_mark;
-    new.list_mark = marks.list_mark;
-    new.unknown = marks.unknown;
-    if moves {
-        new.pair = pair;
-        new.check = check;
-    }
-    new
+    entry.remarked(marks, moves, pair, check)
 }
 
-// The record with another list.
 pub fn relist(entry: IkeRecord, count: u16, addresses: [Address; ADDRESSES_MOST]) -> IkeRecord
     ensures { result ≡ relisted count addresses entry }
 {
-    let mut new = entry;
-    new.count = count;
-    new.addresses = addresses;
-    new
+    entry.relisted(count, addresses)
 }
 
-// The record whose check has ended.
 pub fn uncheck(entry: IkeRecord) -> IkeRecord
     ensures { result ≡ unchecked entry }
 {
-    let mut new = entry;
-    new.check = no_check();
-    new
-}
-
-// The record, marked as being deleted.
-pub fn mark_deletion(entry: IkeRecord) -> IkeRecord
-    ensures { result ≡ deletion_marked entry }
-{
-    let mut new = entry;
-    new.deleting = 1;
-    new
+    entry.unchecked()
 }

@@ -7,10 +7,9 @@ returns c =
     let a = c.args in
     rw (
       c.release_if.ensures,
-      c.ike_store.ensures,
+      c.store.ensures,
       c.ike_closing-c.ensures,
       c.ike_at-entry.ensures,
       c.ike_place-place.ensures,
-      c.ipsec_count-size.ensures,
     )
     (closes_ike_lem a.ike.now c.told-ike a.ipsec.now a.spi a.operator)

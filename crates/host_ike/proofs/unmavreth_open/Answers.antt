@@ -6,8 +6,8 @@ pub returns : goal.returns
 returns c =
     let a = c.args in
     rw (
-      c.ipsec_store.ensures,
-      c.ike_store.ensures,
+      c.store-2.ensures,
+      c.store.ensures,
       c.both_opening-c.ensures,
       c.ipsec_count_of-child_own.ensures,
       c.ike_count-own.ensures,
@@ -15,6 +15,5 @@ returns c =
       c.ipsec_place-child_taken.ensures,
       c.ike_place-free.ensures,
       c.ike_place-taken.ensures,
-      c.ipsec_count-size.ensures,
     )
     (opens_both_lem a.ike.now c.told-ike a.ipsec.now a.opening)

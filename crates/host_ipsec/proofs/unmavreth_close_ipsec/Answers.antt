@@ -6,12 +6,11 @@ pub returns : goal.returns
 returns c =
     let a = c.args in
     rw (
-      c.ipsec_store.ensures,
+      c.store.ensures,
       c.ipsec_closing-c.ensures,
       c.ike_at-found.ensures,
       c.ike_place-owned.ensures,
       c.ipsec_at-entry.ensures,
       c.ipsec_place-place.ensures,
-      c.ipsec_count-size.ensures,
     )
     (closes_ipsec_lem a.ike.now c.told-ike a.ipsec.now a.spi a.operator)

@@ -6,13 +6,12 @@ pub returns : goal.returns
 returns c =
     let a = c.args in
     rw (
-      c.ipsec_store.ensures,
+      c.store.ensures,
       c.ipsec_opening-c.ensures,
       c.ipsec_count_of-own.ensures,
       c.ipsec_place-free.ensures,
       c.ipsec_place-taken.ensures,
       c.ike_at-found.ensures,
       c.ike_place-owned.ensures,
-      c.ipsec_count-size.ensures,
     )
     (opens_ipsec_lem a.ike.now c.told-ike a.ipsec.now a.spi a.owner a.operator)

@@ -1,2 +1,0 @@
--- Records counted one after the other.
-pub mod Counted

@@ -1,2 +1,0 @@
--- Laws of one record.
-pub mod Stays
