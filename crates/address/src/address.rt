@@ -2,7 +2,7 @@
 ghost use Rattle.std.specs.Prelude.{◌≡◌, ◌≤◌, drop};
 ghost use Rattle.octets.specs.Limits.{addresses_most, address_octets};
 ghost use Rattle.octets.specs.Lists.{all, same_octets};
-ghost use Rattle.address.specs.Address.{width_of, addresses_of, families_of, octets_of, is_zero};
+ghost use Rattle.address.specs.Address.{width_of, addresses_of, is_zero};
 ghost use Rattle.address.specs.Address.{address_fits, both_fit};
 
 use octets::limits::{ADDRESS_OCTETS, ADDRESSES_MOST, IP4_OCTETS, IP6_OCTETS};
@@ -49,35 +49,6 @@ pub fn addresses_of(
             family: families[i],
             octets: octets[i],
         };
-    }
-    out
-}
-
-// The families of a stored list.
-pub fn families_of(addresses: [Address; ADDRESSES_MOST]) -> [u8; ADDRESSES_MOST]
-    ensures { result ≡ families_of addresses }
-{
-    let mut out = [0u8; ADDRESSES_MOST];
-    let mut i = 0;
-    while i < ADDRESSES_MOST {
-        let a = addresses[i];
-        out[i] = a.family;
-        i += 1;
-    }
-    out
-}
-
-// A stored list's octets, as they travel.
-pub fn octets_of(addresses: [Address; ADDRESSES_MOST]) -> [[u8; ADDRESS_OCTETS]; ADDRESSES_MOST]
-    ensures { result ≡ octets_of addresses }
-{
-    let mut out = [[0u8; ADDRESS_OCTETS]; ADDRESSES_MOST];
-    let mut i = 0;
-    while i < ADDRESSES_MOST {
-        let a = addresses[i];
-        let octets = a.octets;
-        out[i] = octets;
-        i += 1;
     }
     out
 }

@@ -1,3 +1,4 @@
 pub mod Ask
 pub mod Draft
 pub mod Fits
+pub mod Wanted

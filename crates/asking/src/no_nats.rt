@@ -14,17 +14,17 @@ pub fn no_nats_octets(pair: Pair) -> [u8; NO_NATS_MOST]
     ensures { result ≡ placed (replicate no_nats_most 0) 0 (pair_octets pair) }
 {
     let width = width_of(pair.family) as usize;
-    let source = pair.source;
-    let destination = pair.destination;
+    let source_port = pair.source_port.to_be_bytes();
+    let destination_port = pair.destination_port.to_be_bytes();
     let ports = [
-        (pair.source_port / 256) as u8,
-        (pair.source_port % 256) as u8,
-        (pair.destination_port / 256) as u8,
-        (pair.destination_port % 256) as u8,
+        source_port[0],
+        source_port[1],
+        destination_port[0],
+        destination_port[1],
     ];
     let mut octets = [0u8; NO_NATS_MOST];
-    copy_octets(&mut octets, 0, &source[..width]);
-    copy_octets(&mut octets, width, &destination[..width]);
+    copy_octets(&mut octets, 0, &pair.source[..width]);
+    copy_octets(&mut octets, width, &pair.destination[..width]);
     copy_octets(&mut octets, width + width, &ports);
     octets
 }

@@ -5,9 +5,8 @@ ghost use Rattle.asking.specs.Draft.{draft};
 ghost use Rattle.clone_requests.specs.WrittenAny.{WrittenAnyAs};
 
 use crate::chain::AddressList;
-use address::address::{families_of, octets_of};
 use address::pair::Pair;
-use asking::ask::{AskOctets, ask_of, clone_ask_of};
+use asking::ask::{Ask, AskOctets, CloneAsk, Wanted};
 use clone_requests::write::write_any;
 use requests::request::Written;
 
@@ -31,20 +30,13 @@ pub fn unmavreth_write(
         let q = draft (ask_of ask) pair families octets nat-source nat-destination cookie.now in
         WrittenAnyAs (clone_ask_of ask) q out.old result out.new }
 {
-    let wanted = ask_of(ask);
-    let asked = clone_ask_of(ask);
-    let list = addresses.list;
-    let families = families_of(list);
-    let octets = octets_of(list);
-    write_any(
-        asked,
-        wanted,
+    let wanted = Wanted {
+        ask: Ask::from(ask),
         pair,
-        families,
-        octets,
+        addresses: &addresses.list,
         nat_source,
         nat_destination,
         cookie,
-        out,
-    )
+    };
+    Written::from(write_any(CloneAsk::from(ask), wanted, out))
 }

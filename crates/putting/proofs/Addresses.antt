@@ -1,15 +1,17 @@
 -- Laws of the additional addresses that are written one behind the other.
-use Prim.Native.Nat.{ℕ, zero, suc, ◌+◌, ◌-◌, ◌*◌, ◌≤◌}
-use mathlib.Core.Path.{◌≡◌, refl, ◌∙◌}
-use mathlib.Core.List.{List, [], ◌∷◌, ◌++◌, zip_with}
-use mathlib.Core.Bool.{not}
+use Prim.Native.Nat.{ℕ, zero, suc, ◌+◌, ◌*◌, ◌<◌, ◌≤◌}
+use mathlib.Core.Path.{◌≡◌, refl, ap, ◌∙◌}
+use mathlib.Core.List.{List, [], ◌∷◌, ◌++◌, zip_with, map}
+use mathlib.Core.Bool.{Bool, true, false, not}
 use native.Mathlib.Omega.{arith}
-use native.Mathlib.Numerals.{add-one}
-use borrow.Author.Tests.{ne_eqb}
+use borrow.Author.Tests.{ne_eqb, eqb-true, eqb-false}
 use lib.Dec.{eqb}
-use lib.ListN.{length, take, drop, get_or, length-append, length-take}
-use lib.Seq.{drop-cons}
-use Rattle.address.specs.Address.{width_of}
+use lib.ListN.{length, take, drop, get_or, length-append, length-take, length-map}
+use lib.Seq.{drop-cons, take-length}
+use Rattle.std.proofs.lemmas.List.{take_more, map-append, drop_all, take-map}
+use Rattle.octets.specs.Wire.{notify_payload}
+use Rattle.address.specs.Address.{width_of, families_of, octets_of, no_address}
+use Rattle.address.specs.declared.address.Address.{Address}
 use Rattle.address.proofs.Width.{width_small}
 use Rattle.writing.specs.Notify.{Notification, first_type, chained}
 use Rattle.writing.proofs.Chained.{chained_append, length-one}
@@ -37,47 +39,59 @@ list_length (f ∷ fs) (o ∷ os) next =
     rw (chained_append one rest next, length-append (chained one (first_type rest next)) (chained rest next))
     (omega (arith, address_length (first_type rest next) f o, list_length fs os next))
 
--- what is left of the lists, from the address at i on
-module _ (families : List ℕ) (addresses : List (List ℕ)) where
-  abbrev pub part : ℕ → ℕ → List Notification
-  part left i = address_notifies (take left (drop i families)) (take left (drop i addresses))
+-- the type of the first of so many addresses, or of what follows them where there are none
+pub list_type : (count : ℕ) (families : List ℕ) (addresses : List (List ℕ)) (next r : ℕ) → count ≤ length families
+    → count ≤ length addresses → TypeIf (not (eqb count 0)) next r
+    → r ≡ first_type (address_notifies (take count families) (take count addresses)) next
+unfolding zip_with
+list_type zero families addresses next r f a t = t (address_notify 0 []) []
+list_type (suc n) [] addresses next r f a t = absurd (omega arith)
+list_type (suc n) (x ∷ xs) [] next r f a t = absurd (omega arith)
+list_type (suc n) (x ∷ xs) (y ∷ ys) next r f a t = t (address_notify 0 []) [] ∙ rw (ne_eqb (suc n) 0 (λ e. omega arith))
 
-  pub part_none : (left i : ℕ) → left ≡ 0 → part left i ≡ []
-  unfolding zip_with
-  part_none left i e = rw e
+-- so many as there are, are all
+pub all_taken : (xs : List Address)
+    → address_notifies (take (length xs) (families_of xs)) (take (length xs) (octets_of xs))
+    ≡ address_notifies (families_of xs) (octets_of xs)
+all_taken xs = rw (take-map (λ (a : Address). a.family) (length xs) xs, take-map (λ (a : Address). a.octets) (length xs) xs, take-length xs)
 
-  pub part_step : (left i : ℕ) → (left ≡ 0 → ⊥) → i + left ≤ length families → i + left ≤ length addresses
-      → part left i ≡ (address_notify (get_or families i 0) (get_or addresses i []) ∷ []) ++ part (left - 1) (i + 1)
-  unfolding zip_with
-  part_step zero i h f a = absurd (h refl)
-  part_step (suc left) i h f a =
-      let less : suc left - 1 ≡ left = omega arith in
-      rw (drop-cons families i 0 (omega arith), drop-cons addresses i [] (omega arith), less, add-one i)
+abbrev pub notify_of : Address → Notification
+notify_of a = address_notify a.family a.octets
 
-  pub part_length : (left i next : ℕ) → length (chained (part left i) next) ≤ left * address_room
-  part_length left i next =
-      omega (
-        arith,
-        list_length (take left (drop i families)) (take left (drop i addresses)) next,
-        length-take left (drop i families),
-      )
+pub notifies_of : (xs : List Address) → address_notifies (families_of xs) (octets_of xs) ≡ map notify_of xs
+unfolding zip_with
+notifies_of [] = refl
+notifies_of (x ∷ xs) = ap (λ (ys : List Notification). notify_of x ∷ ys) (notifies_of xs)
 
-  pub part_type : (left i next r : ℕ) → i + left ≤ length families → i + left ≤ length addresses
-      → TypeIf (not (eqb left 0)) next r → r ≡ first_type (part left i) next
-  unfolding zip_with
-  part_type zero i next r f a t = t (address_notify 0 []) []
-  part_type (suc left) i next r f a t =
-      rw (drop-cons families i 0 (omega arith), drop-cons addresses i [] (omega arith))
-      (t (address_notify 0 []) [] ∙ rw (ne_eqb (suc left) 0 (λ e. omega arith)))
+-- The first i of the addresses are written, and those from i on are left.
+module _ (xs : List Address) where
+  abbrev pub written : ℕ → List Notification
+  written i = map notify_of (take i xs)
 
-  -- the type of what follows the first of `left`
-  pub next_type : (left i next r : ℕ) → i + left ≤ length families → i + left ≤ length addresses → (left ≡ 0 → ⊥)
-      → TypeIf (not (eqb left 1)) next r → r ≡ first_type (part (left - 1) (i + 1)) next
-  next_type zero i next r f a h t = absurd (h refl)
-  next_type (suc left) i next r f a h t =
-      let less : suc left - 1 ≡ left = omega arith in
-      rw less (part_type left (i + 1) next r (omega arith) (omega arith) (rw (last_one left) at t))
+  abbrev pub left : ℕ → List Notification
+  left i = map notify_of (drop i xs)
+
+  pub one_more : (i : ℕ) (d : Address) → i < length xs → written (i + 1) ≡ written i ++ (notify_of (get_or xs i d) ∷ [])
+  one_more i d h = rw (take_more xs i d h) (map-append notify_of (take i xs) (get_or xs i d ∷ []))
+
+  pub type_here : (i next : ℕ) → i < length xs → first_type (left i) next ≡ notify_payload
+  type_here i next h = rw (drop-cons xs i no_address h)
+
+  pub type_behind : (i next r : ℕ) → i < length xs → TypeIf (not (eqb (i + 1) (length xs))) next r
+      → r ≡ first_type (left (i + 1)) next
+  type_behind i next r h t = go (eqb (i + 1) (length xs)) refl
     where
-      last_one : (n : ℕ) → eqb (suc n) 1 ≡ eqb n 0
-      last_one zero = refl
-      last_one (suc n) = rw (ne_eqb (suc (suc n)) 1 (λ e. omega arith), ne_eqb (suc n) 0 (λ e. omega arith))
+      go : (b : Bool) → eqb (i + 1) (length xs) ≡ b → r ≡ first_type (left (i + 1)) next
+      go true e =
+          let end : length xs ≤ i + 1 = omega (arith, eqb-true (i + 1) (length xs) e) in
+          rw (drop_all (i + 1) xs end) ((rw e at t) (notify_of no_address) [])
+      go false e =
+          let more : i + 1 < length xs = omega (arith, eqb-false (i + 1) (length xs) e, h) in
+          rw (type_here (i + 1) next more) ((rw e at t) (notify_of no_address) [])
+
+  pub written_length : (i next : ℕ) → i ≤ length xs → length (chained (written i) next) ≤ i * address_room
+  written_length i next h =
+      let first = take i xs in
+      let families = length-map first (λ (a : Address). a.family) in
+      rw (← notifies_of first)
+      (omega (arith, list_length (families_of first) (octets_of first) next, families, length-take i xs))

@@ -5,7 +5,7 @@ use mathlib.Core.List.{List, [], ◌∷◌, ◌++◌, zip_with}
 use mathlib.Core.Bool.{Bool, true, false, not}
 use native.Mathlib.Omega.{arith}
 use lib.Dec.{eqb}
-use lib.ListN.{length, take, length-append}
+use lib.ListN.{length, take, length-append, length-take}
 use Rattle.octets.specs.Limits.{addresses_most, cookie_most}
 use Rattle.octets.specs.Wire.{no_additional_addresses, cookie2}
 use Rattle.writing.specs.Notify.{Notification, notification, first_type, chained}
@@ -14,7 +14,7 @@ use Rattle.writing.specs.Parts.{cookie_notifies}
 use Rattle.asking.specs.Draft.{if_asked, address_notifies, tail_notifies}
 use Rattle.putting.specs.Put.{address_room, tail_room, TypeIf, TailType}
 use Rattle.putting.proofs.Asked.{length-asked}
-use Rattle.putting.proofs.Addresses.{part_length, part_type}
+use Rattle.putting.proofs.Addresses.{list_length, list_type}
 
 -- NO_ADDITIONAL_ADDRESSES, if it is asked for
 abbrev pub none_more : Bool → List Notification
@@ -33,7 +33,7 @@ pub tail_typed : (asked : Bool) (count size to-cookie to-list r : ℕ) → TypeI
 tail_typed asked count size to-cookie to-list r a b c families addresses cookie f o e =
     let listed = address_notifies (take count families) (take count addresses) in
     let at-cookie : to-cookie ≡ first_type (cookie_notifies cookie) 0 = rw e (a (notification cookie2 cookie) []) in
-    let at-list : to-list ≡ first_type listed to-cookie = part_type families addresses count 0 to-cookie to-list
+    let at-list : to-list ≡ first_type listed to-cookie = list_type count families addresses to-cookie to-list
     (omega arith) (omega arith) b in
     c (notification no_additional_addresses []) []
     ∙ rw (
@@ -66,7 +66,8 @@ module _ (asked : Bool) (count : ℕ) (families : List ℕ) (addresses : List (L
       (omega (
         arith,
         list_room asked count (first_type two 0) c h,
-        part_length families addresses count 0 next,
+        list_length (take count families) (take count addresses) next,
+        length-take count families,
         length-asked (not (eqb (length cookie) 0)) (notification cookie2 cookie) 0,
         k,
       ))

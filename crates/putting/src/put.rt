@@ -1,7 +1,8 @@
 // The parts of a request, each put into the output behind the one before it, and the payload types between them.
-ghost use Rattle.std.specs.Prelude.{◌≡◌, true, [], ◌∷◌, ◌+◌, ◌*◌, ◌≤◌, length, take, drop};
+ghost use Rattle.std.specs.Prelude.{◌≡◌, true, [], ◌∷◌, ◌+◌, ◌*◌, ◌≤◌, length};
 ghost use Rattle.octets.specs.Limits.{notify_header, nat_octets, addresses_most, cookie_most};
 ghost use Rattle.octets.specs.Wire.{no_nats_allowed};
+ghost use Rattle.address.specs.Address.{families_of, octets_of};
 ghost use Rattle.writing.specs.Notify.{notification};
 ghost use Rattle.writing.specs.Wrote.{Wrote};
 ghost use Rattle.asking.specs.Draft.{if_asked, address_notify_type, address_notify, address_notifies, pair_octets};
@@ -9,11 +10,11 @@ ghost use Rattle.writing.specs.Parts.{nat_notifies};
 ghost use Rattle.asking.specs.Draft.{tail_notifies};
 ghost use Rattle.putting.specs.Put.{no_nats_room, nats_room, address_room, tail_room, TypeIf, TailType};
 
-use address::address::width_of;
+use address::address::{Address, width_of};
 use address::pair::Pair;
 use asking::no_nats::no_nats_octets;
 use notify::notify::NotifyType;
-use octets::limits::{ADDRESS_OCTETS, ADDRESSES_MOST, PORT_SIZE};
+use octets::limits::PORT_SIZE;
 use octets::wire::NOTIFY_PAYLOAD;
 use writing::put_notify;
 
@@ -56,42 +57,28 @@ pub fn address_notify_type(family: u8) -> u16
 }
 
 // Writes one additional address, and returns the offset after it.
-pub fn put_address(
-    out: &mut [u8],
-    at: usize,
-    next: u8,
-    family: u8,
-    octets: [u8; ADDRESS_OCTETS],
-) -> usize
+pub fn put_address(out: &mut [u8], at: usize, next: u8, address: Address) -> usize
     requires { at + address_room ≤ length out.old }
-    ensures { Wrote out.old at (address_notify family octets ∷ []) next out.new result }
+    ensures { let notify = address_notify address.family address.octets in
+        Wrote out.old at (notify ∷ []) next out.new result }
 {
-    let notify_type = address_notify_type(family);
-    let width = width_of(family) as usize;
-    put_notify(out, at, next, notify_type, &octets[..width])
+    let notify_type = address_notify_type(address.family);
+    let width = width_of(address.family) as usize;
+    put_notify(out, at, next, notify_type, &address.octets[..width])
 }
 
-// Writes `left` addresses from the one at `i` on; `next` is the type of what follows the last.
-pub fn put_addresses(
-    out: &mut [u8],
-    at: usize,
-    next: u8,
-    families: [u8; ADDRESSES_MOST],
-    addresses: [[u8; ADDRESS_OCTETS]; ADDRESSES_MOST],
-    i: usize,
-    left: usize,
-) -> usize
-    requires { (i + left ≤ addresses_most) × (at + left * address_room ≤ length out.old) }
-    ensures { let notifies = address_notifies (take left (drop i families)) (take left (drop i addresses)) in
+// Writes additional addresses one behind the other; `next` is the type of what follows the last.
+pub fn put_addresses(out: &mut [u8], at: usize, next: u8, addresses: &[Address]) -> usize
+    requires { at + length addresses.now * address_room ≤ length out.old }
+    ensures { let notifies = address_notifies (families_of addresses.now) (octets_of addresses.now) in
         Wrote out.old at notifies next out.new result }
 {
-    if left == 0 {
-        return at;
+    let mut end = at;
+    for (i, address) in addresses.iter().enumerate() {
+        let following = type_if(i + 1 != addresses.len(), next);
+        end = put_address(out, end, following, *address);
     }
-    let family = families[i];
-    let address = addresses[i];
-    let end = put_address(out, at, type_if(left != 1, next), family, address);
-    put_addresses(out, end, next, families, addresses, i + 1, left - 1)
+    end
 }
 
 // NO_NATS_ALLOWED with the packet's addresses and ports, if it is asked for.
@@ -161,27 +148,27 @@ pub fn put_tail(
     out: &mut [u8],
     at: usize,
     no_additional: bool,
-    count: usize,
-    families: [u8; ADDRESSES_MOST],
-    addresses: [[u8; ADDRESS_OCTETS]; ADDRESSES_MOST],
+    addresses: &[Address],
     cookie: &[u8],
 ) -> usize
     requires tail_room_in_bounds { (at + tail_room ≤ length out.old) × (length cookie.now ≤ cookie_most) }
-    requires count_le_addresses_most { (count ≤ addresses_most) × (no_additional ≡ true → count ≡ 0) }
-    ensures { let notifies = tail_notifies no_additional count families addresses cookie.now in
+    requires count_le_addresses_most { let count = length addresses.now in
+        (count ≤ addresses_most) × (no_additional ≡ true → count ≡ 0) }
+    ensures { let count = length addresses.now in
+        let families = families_of addresses.now in
+        let notifies = tail_notifies no_additional count families (octets_of addresses.now) cookie.now in
         Wrote out.old at notifies 0 out.new result }
 {
-    let none = [0u8; 0];
     let after = tail_type(false, 0, cookie.len());
-    let before = tail_type(false, count, cookie.len());
+    let before = tail_type(false, addresses.len(), cookie.len());
     let listed = put_if(
         out,
         at,
         no_additional,
         before,
         NotifyType::NO_ADDITIONAL_ADDRESSES,
-        &none,
+        &[],
     );
-    let end = put_addresses(out, listed, after, families, addresses, 0, count);
+    let end = put_addresses(out, listed, after, addresses);
     put_if(out, end, cookie.len() != 0, 0, NotifyType::COOKIE2, cookie)
 }

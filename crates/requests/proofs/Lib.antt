@@ -2,3 +2,4 @@
 pub mod Ways
 pub mod Whole
 pub mod Longest
+pub mod Asked

@@ -4,9 +4,8 @@ ghost use Rattle.asking.specs.Ask.{ask_of, clone_ask_of};
 ghost use Rattle.asking.specs.Draft.{draft};
 ghost use Rattle.clone_requests.specs.WrittenAny.{WrittenAnyAs};
 
-use address::address::{families_of, octets_of};
 use address::pair::Pair;
-use asking::ask::{AskOctets, ask_of, clone_ask_of};
+use asking::ask::AskOctets;
 use host::chain::AddressList;
 use requests::request::Written;
 

@@ -10,6 +10,6 @@ returns c =
     let n = c.put_notify-end in
     let t = c.clone_type in
     let x = notification t.result [] in (
-      rw (c.from.ensures, n.ensures.value, ← t.ensures, length-one x 0),
+      rw (n.ensures.value, ← t.ensures, length-one x 0),
       rw (← t.ensures, chained_one x 0) n.ensures.out_after,
     )

@@ -1,34 +1,31 @@
 -- `clone_requests::write::write_any` meets its contract, by the ways out.
 -- Assumes nothing.
-use Rattle.std.proofs.Common.{sym, ◌∙◌}
-use Rattle.asking.specs.Draft.{draft}
+use Rattle.std.proofs.Common.{refl, sym, ◌∙◌}
+use Rattle.asking.specs.Wanted.{draft_of}
 use Rattle.clone_requests.proofs.Ways.{as_ever, not_alone, no_room, done}
 use Rattle.clone_requests.proofs.write.write_any.Goals as goal
+
+pub returns-then-not-asks_clone : goal.returns-then-not-asks_clone
+returns-then-not-asks_clone c =
+    let a = c.args in
+    as_ever a.asked (draft_of a.wanted) a.out.now _ (sym c.asks_clone.ensures ∙ c.if-not-asks_clone.true) _
+    c.write.ensures
+
+pub returns-then-not-clone_alone : goal.returns-then-not-clone_alone
+returns-then-not-clone_alone c =
+    let a = c.args in
+    not_alone a.asked (draft_of a.wanted) a.out.now _ (sym c.asks_clone.ensures ∙ c.if-not-asks_clone.false)
+    (sym c.clone_alone.ensures ∙ c.if-not-clone_alone.true) refl
 
 pub returns-then-out-lt-REQUEST_ROOM : goal.returns-then-out-lt-REQUEST_ROOM
 returns-then-out-lt-REQUEST_ROOM c =
     let a = c.args in
-    let q = draft a.ask a.pair a.families a.addresses a.nat_source.now a.nat_destination.now a.cookie.now in
-    no_room a.asked q a.out.now _ (sym c.asks_clone-asks.ensures ∙ c.if-asks.true)
-    (sym c.clone_alone.ensures ∙ c.if-clone_alone.true) c.if-out-lt-REQUEST_ROOM.true c.not_written.ensures
-
-pub returns-then-clone_alone : goal.returns-then-clone_alone
-returns-then-clone_alone c =
-    let a = c.args in
-    let q = draft a.ask a.pair a.families a.addresses a.nat_source.now a.nat_destination.now a.cookie.now in
-    let p = c.put_clone.ensures in
-    done a.asked q a.out.now _ (sym c.asks_clone-asks.ensures ∙ c.if-asks.true)
-    (sym c.clone_alone.ensures ∙ c.if-clone_alone.true) c.if-out-lt-REQUEST_ROOM.false _ p.0 p.1
-
-pub returns-then-asks : goal.returns-then-asks
-returns-then-asks c =
-    let a = c.args in
-    let q = draft a.ask a.pair a.families a.addresses a.nat_source.now a.nat_destination.now a.cookie.now in
-    not_alone a.asked q a.out.now _ (sym c.asks_clone-asks.ensures ∙ c.if-asks.true)
-    (sym c.clone_alone.ensures ∙ c.if-clone_alone.false) c.not_written-then-asks.ensures
+    no_room a.asked (draft_of a.wanted) a.out.now _ (sym c.asks_clone.ensures ∙ c.if-not-asks_clone.false)
+    (sym c.clone_alone.ensures ∙ c.if-not-clone_alone.false) c.if-out-lt-REQUEST_ROOM.true refl
 
 pub returns : goal.returns
 returns c =
     let a = c.args in
-    let q = draft a.ask a.pair a.families a.addresses a.nat_source.now a.nat_destination.now a.cookie.now in
-    as_ever a.asked q a.out.now _ (sym c.asks_clone-asks.ensures ∙ c.if-asks.false) _ c.write.ensures
+    let p = c.put_clone.ensures in
+    done a.asked (draft_of a.wanted) a.out.now _ (sym c.asks_clone.ensures ∙ c.if-not-asks_clone.false)
+    (sym c.clone_alone.ensures ∙ c.if-not-clone_alone.false) c.if-out-lt-REQUEST_ROOM.false _ p.0 p.1

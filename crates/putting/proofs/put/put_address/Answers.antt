@@ -10,5 +10,5 @@ returns c =
     let n = c.put_notify.ensures in
     let k = c.address_notify_type-notify_type.ensures in
     let w = c.width_of-width.ensures in
-    wrote_one a.out.now a.at (address_notify a.family a.octets) a.next _ _ (rw (← w) n.value)
+    wrote_one a.out.now a.at (address_notify a.address.family a.address.octets) a.next _ _ (rw (← w) n.value)
     (rw (← k, ← w) n.out_after)

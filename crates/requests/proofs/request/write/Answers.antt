@@ -1,26 +1,21 @@
 -- `requests::request::write` meets its contract, by the three ways out.
 -- Assumes nothing.
-use Rattle.std.proofs.Common.{sym, ◌∙◌}
-use Rattle.asking.specs.Draft.{draft}
+use Rattle.std.proofs.Common.{refl, sym, ◌∙◌}
+use Rattle.asking.specs.Wanted.{draft_of}
 use Rattle.requests.proofs.Ways.{unfit, no_room, done}
 use Rattle.requests.proofs.request.write.Goals as goal
 
+pub returns-then-not-fits : goal.returns-then-not-fits
+returns-then-not-fits c =
+    unfit (draft_of c.args.wanted) c.args.out.now _ (sym c.fits.ensures ∙ c.if-not-fits.true) refl
+
 pub returns-then-out-lt-ROOM : goal.returns-then-out-lt-ROOM
 returns-then-out-lt-ROOM c =
-    let a = c.args in
-    let q = draft a.ask a.pair a.families a.addresses a.nat_source.now a.nat_destination.now a.cookie.now in
-    no_room q a.out.now _ (sym c.request_fits.ensures ∙ c.if-request_fits.true) c.if-out-lt-ROOM.true
-    c.not_written.ensures
-
-pub returns-then-request_fits : goal.returns-then-request_fits
-returns-then-request_fits c =
-    let a = c.args in
-    let q = draft a.ask a.pair a.families a.addresses a.nat_source.now a.nat_destination.now a.cookie.now in
-    let p = c.put_request.ensures in
-    done q a.out.now _ (sym c.request_fits.ensures ∙ c.if-request_fits.true) c.if-out-lt-ROOM.false _ p.0 p.1
+    no_room (draft_of c.args.wanted) c.args.out.now _ (sym c.fits.ensures ∙ c.if-not-fits.false) c.if-out-lt-ROOM.true
+    refl
 
 pub returns : goal.returns
 returns c =
-    let a = c.args in
-    let q = draft a.ask a.pair a.families a.addresses a.nat_source.now a.nat_destination.now a.cookie.now in
-    unfit q a.out.now _ (sym c.request_fits.ensures ∙ c.if-request_fits.false) c.not_written-2.ensures
+    let p = c.put_request.ensures in
+    done (draft_of c.args.wanted) c.args.out.now _ (sym c.fits.ensures ∙ c.if-not-fits.false) c.if-out-lt-ROOM.false _
+    p.0 p.1
