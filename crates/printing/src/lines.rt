@@ -13,9 +13,9 @@ use wording::word::put_word;
 // What every line has room in.
 pub const LINE_ROOM: usize = 128;
 
-const SPACE: u8 = 32;
+const SPACE: u8 = b' ';
 
-const LINE_END: u8 = 10;
+const LINE_END: u8 = b'\n';
 
 // The line of an entry. Returns its length, as each of these does.
 pub fn put_entry_line(out: &mut [u8], ordinal: u64, number: u8, update: u8, list: u8) -> usize
@@ -48,11 +48,9 @@ fn put_pair(out: &mut [u8], at: usize, pair: Pair) -> usize
     ensures upper_bound { result ≤ at + 84 }
     ensures puts { Puts (pair_words pair) line_end out.old at out.new result }
 {
-    let source = pair.source;
-    let destination = pair.destination;
     let a = put_short(out, at, pair.family as u16, SPACE);
-    let b = put_address(out, a, source, SPACE);
-    let c = put_address(out, b, destination, SPACE);
+    let b = put_address(out, a, pair.source, SPACE);
+    let c = put_address(out, b, pair.destination, SPACE);
     let d = put_short(out, c, pair.source_port, SPACE);
     put_short(out, d, pair.destination_port, LINE_END)
 }

@@ -13,13 +13,11 @@ pub fn put_outcome(out: &mut [u8], at: usize, done: &[u8], told: u8, after: u8) 
     ensures fact { let word = outcome_word done.now told in
         Puts (word ∷ []) after out.old at out.new result }
 {
-    if told == 1 {
-        return put_word(out, at, done, after);
+    match told {
+        1 => put_word(out, at, done, after),
+        2 => put_word(out, at, b"stale", after),
+        _ => put_word(out, at, b"none", after),
     }
-    if told == 2 {
-        return put_word(out, at, b"stale", after);
-    }
-    put_word(out, at, b"none", after)
 }
 
 // The table's word.
@@ -29,7 +27,8 @@ pub fn put_table(out: &mut [u8], at: usize, ipsec: bool, after: u8) -> usize
     ensures puts { Puts (table_word ipsec ∷ []) after out.old at out.new result }
 {
     if ipsec {
-        return put_word(out, at, b"ipsec", after);
+        put_word(out, at, b"ipsec", after)
+    } else {
+        put_word(out, at, b"ike", after)
     }
-    put_word(out, at, b"ike", after)
 }

@@ -5,15 +5,12 @@ ghost use Rattle.wording.specs.Puts.{Puts};
 
 use octets::limits::ADDRESS_OCTETS;
 
-// A digit of hex: 87 is ten before `a`.
+// A digit of hex.
 fn hex_digit(d: u8) -> u8
     requires { d < 16 }
     ensures { result ≡ hex_digit d }
 {
-    if d < 10 {
-        return 48 + d;
-    }
-    87 + d
+    if d < 10 { b'0' + d } else { b'a' - 10 + d }
 }
 
 // Octets in hex.
@@ -22,14 +19,11 @@ pub fn put_octets(out: &mut [u8], at: usize, octets: &[u8], after: u8) -> usize
     ensures value { result ≡ at + 2 * length octets.now + 1 }
     ensures puts { Puts (hex octets.now ∷ []) after out.old at out.new result }
 {
-    let mut i = 0;
     let mut to = at;
-    while i < octets.len() {
-        let o = octets[i];
-        out[to] = hex_digit(o / 16);
-        out[to + 1] = hex_digit(o % 16);
+    for octet in octets {
+        out[to] = hex_digit(*octet / 16);
+        out[to + 1] = hex_digit(*octet % 16);
         to += 2;
-        i += 1;
     }
     out[to] = after;
     to + 1

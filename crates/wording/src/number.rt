@@ -14,11 +14,11 @@ fn put_decimal(out: &mut [u8], at: usize, n: u64) -> usize
     ensures out_after { out.new ≡ placed out.old at (decimal n) }
 {
     if n < TWO_DIGITS {
-        out[at] = 48 + (n as u8);
+        out[at] = b'0' + (n as u8);
         return at + 1;
     }
     let next = put_decimal(out, at, n / 10);
-    out[next] = 48 + ((n % 10) as u8);
+    out[next] = b'0' + ((n % 10) as u8);
     next + 1
 }
 
