@@ -12,7 +12,7 @@ use reader::read::read;
 use values::cookie;
 
 // What a response that was read whole comes to, in the words of 01.
-#[derive(Clone, Copy)]
+#[derive(Clone, Copy, PartialEq, Eq, Debug)]
 pub enum Outcome {
     Close,
     NatSeen,
@@ -39,49 +39,49 @@ pub struct Assessment {
 // What is told for an outcome with a refusal.
 pub const NO_OUTCOME: u8 = 0;
 
-pub fn outcome_number(outcome: Outcome) -> u8
-    ensures { result ≡ outcome_number outcome }
-{
-    match outcome {
-        Outcome::Close => 1,
-        Outcome::NatSeen => 2,
-        Outcome::Unacceptable => 3,
-        Outcome::Failed => 4,
-        Outcome::Accepted => 5,
+// As it is told.
+impl From<Outcome> for u8 {
+    ghost from_gives = { λ outcome told. told ≡ outcome_number outcome };
+
+    fn from(outcome: Outcome) -> u8 {
+        match outcome {
+            Outcome::Close => 1,
+            Outcome::NatSeen => 2,
+            Outcome::Unacceptable => 3,
+            Outcome::Failed => 4,
+            Outcome::Accepted => 5,
+        }
     }
 }
 
-// Whether two parts of the same length have the same octets.
+// The same, as a function: it goes once no crate calls it.
+pub fn outcome_number(outcome: Outcome) -> u8
+    ensures { result ≡ outcome_number outcome }
+{
+    u8::from(outcome)
+}
+
+// Whether two parts of the same length have the same octets: it goes once no crate calls it.
+#[tactic(auto, using(octets::proofs::Same::same_from_eq))]
 pub fn same_octets(a: &[u8], b: &[u8]) -> bool
     requires { length a.now ≡ length b.now }
     ensures { result ≡ same_octets (length a.now) a.now b.now }
 {
-    let mut i = 0;
-    while i < a.len() {
-        if a[i] != b[i] {
-            return false;
-        }
-        i += 1;
-    }
-    true
+    a == b
 }
 
 // Whether the response doesn't bring back the cookie that was sent.
-#[tactic(auto, unfolding(crate::specs::Response::closes))]
+#[tactic(auto, using(crate::proofs::Same::same_is), unfolding(crate::specs::Response::closes))]
 pub fn must_close(sent: &[u8], got: &[u8], errors: u16) -> bool
     ensures { result ≡ closes sent.now got.now errors }
 {
-    let asked = sent.len();
-    if asked == 0 {
+    if sent.is_empty() {
         return false;
     }
-    if got.len() == 0 {
-        return errors == 0;
-    }
-    if asked == got.len() {
-        if same_octets(sent, got) { false } else { true }
+    if got.is_empty() {
+        errors == 0
     } else {
-        true
+        sent != got
     }
 }
 
@@ -89,11 +89,10 @@ pub fn must_close(sent: &[u8], got: &[u8], errors: u16) -> bool
 pub fn error_outcome(notify_type: u16) -> Outcome
     ensures { result ≡ error_outcome notify_type }
 {
-    let kind = NotifyType {
+    let error = NotifyType {
         number: notify_type,
-    }
-    .kind();
-    match kind {
+    };
+    match error.kind() {
         NotifyKind::UnexpectedNatDetected => Outcome::NatSeen,
         NotifyKind::UnacceptableAddresses => Outcome::Unacceptable,
         _ => Outcome::Failed,
@@ -105,12 +104,12 @@ pub fn outcome_of(sent: &[u8], got: &[u8], t: Tally) -> Outcome
     ensures { result ≡ outcome_of sent.now got.now t }
 {
     if must_close(sent, got, t.errors) {
-        return Outcome::Close;
+        Outcome::Close
+    } else if t.errors == 0 {
+        Outcome::Accepted
+    } else {
+        error_outcome(t.first_error)
     }
-    if t.errors == 0 {
-        return Outcome::Accepted;
-    }
-    error_outcome(t.first_error)
 }
 
 // What was unknown in the response: errors are known here, and a cookie that wasn't asked for is not.
@@ -120,13 +119,8 @@ pub fn tally_of(sent: &[u8], got: &[u8], t: Tally) -> u32
     ensures { result ≡ tally_of sent.now got.now t }
 {
     let others = t.unknown_notifies - t.errors;
-    let unknown = t.unknown_payloads as u32 + others as u32;
-    if sent.len() == 0 {
-        if got.len() != 0 {
-            return unknown + 1;
-        }
-    }
-    unknown
+    let unasked = sent.is_empty() && !got.is_empty();
+    t.unknown_payloads as u32 + others as u32 + u32::from(unasked)
 }
 
 pub fn refuse(number: u8, offset: u16, ordinal: u16) -> Assessment
@@ -148,24 +142,23 @@ pub fn refuse(number: u8, offset: u16, ordinal: u16) -> Assessment
 pub fn assess(sent: &[u8], first: u8, body: &[u8]) -> Assessment
     ensures { AssessedAs sent.now first body.now result }
 {
-    if cookie_fits(sent.len()) {
-        let r = read(first, body);
-        if r.number == 0 {
-            let seen = r.seen;
-            let t = seen.tally;
-            let got = cookie(body, seen);
-            return Assessment {
-                number: 0,
-                outcome: outcome_number(outcome_of(sent, got, t)),
-                payloads: t.payloads,
-                offset: 0,
-                ordinal: 0,
-                tally: tally_of(sent, got, t),
-                cookie: seen.cookie,
-                cookie_len: seen.cookie_len,
-            };
-        }
+    if !cookie_fits(sent.len()) {
+        return refuse(u8::from(Number::BadArgument), 0, 0);
+    }
+    let r = read(first, body);
+    if r.number != 0 {
         return refuse(r.number, r.offset, r.ordinal);
     }
-    refuse(u8::from(Number::BadArgument), 0, 0)
+    let tally = r.seen.tally;
+    let got = cookie(body, r.seen);
+    Assessment {
+        number: 0,
+        outcome: u8::from(outcome_of(sent, got, tally)),
+        payloads: tally.payloads,
+        offset: 0,
+        ordinal: 0,
+        tally: tally_of(sent, got, tally),
+        cookie: r.seen.cookie,
+        cookie_len: r.seen.cookie_len,
+    }
 }

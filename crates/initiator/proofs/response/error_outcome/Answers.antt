@@ -29,15 +29,15 @@ others OtherStatus u n = refl
 
 pub returns-in-UnexpectedNatDetected : goal.returns-in-UnexpectedNatDetected
 unfolding error_outcome
-returns-in-UnexpectedNatDetected c = rw (← c.kind-kind.ensures, c.in-UnexpectedNatDetected.is)
+returns-in-UnexpectedNatDetected c = rw (← c.kind.ensures, c.in-UnexpectedNatDetected.is)
 
 pub returns-in-UnacceptableAddresses : goal.returns-in-UnacceptableAddresses
 unfolding error_outcome
-returns-in-UnacceptableAddresses c = rw (← c.kind-kind.ensures, c.in-UnacceptableAddresses.is)
+returns-in-UnacceptableAddresses c = rw (← c.kind.ensures, c.in-UnacceptableAddresses.is)
 
 pub returns-in_default : goal.returns-in_default
 unfolding error_outcome
 returns-in_default c =
     let d = c.in_default in
-    rw (← c.kind-kind.ensures)
-    (others c.kind-kind.result d.not-UnacceptableAddresses d.not-UnexpectedNatDetected)
+    rw (← c.kind.ensures)
+    (others c.kind.result d.not-UnacceptableAddresses d.not-UnexpectedNatDetected)
