@@ -1,2 +1,2 @@
 pub mod Core
-pub mod Packet
+pub mod Request

@@ -7,15 +7,15 @@ ghost use Rattle.responding.specs.Put.{Responds};
 ghost use Rattle.responding.specs.Respond.{told_of};
 ghost use Rattle.replying.specs.Reply.{error_reply};
 ghost use Rattle.answering.specs.Core.{chain_error, core_answer, core_response};
-ghost use Rattle.answering.specs.Packet.{asked_by};
+ghost use Rattle.answering.specs.Request.{asked_by};
 
-use crate::packet::Packet;
+use crate::request::LentRequest;
 use deciding::decide::decide;
 use notify::notify::NotifyType;
 use octets::number::Number;
 use reader::read::Reading;
 use records::ike::Marks;
-use replying::reply::{CoreAnswer, Reply, answer_to, error_reply, unchanged};
+use replying::reply::{CoreAnswer, Reply};
 use responding::respond::{Response, put_error, respond_decided, wants_nats};
 use values::cookie;
 
@@ -25,17 +25,15 @@ pub fn put_chain_error(r: Reading, out: &mut [u8]) -> Response
     requires { response_room ≤ length out.old }
     ensures { Responds (chain_error r) out.old out.new result }
 {
-    let none = [0u8; 0];
-    let critical = [r.critical];
     if r.number == u8::from(Number::UnknownCritical) {
         return put_error(
             out,
             NotifyType::UNSUPPORTED_CRITICAL_PAYLOAD,
-            &critical,
-            &none,
+            &[r.critical],
+            &[],
         );
     }
-    put_error(out, NotifyType::INVALID_SYNTAX, &none, &none)
+    put_error(out, NotifyType::INVALID_SYNTAX, &[], &[])
 }
 
 // A chain that is refused: the error, and what is told of it.
@@ -45,7 +43,7 @@ pub fn refuse_chain(r: Reading, out: &mut [u8]) -> Reply
     ensures out_after { out.new ≡ placed out.old 0 (chained (chain_error r) 0) }
 {
     let response = put_chain_error(r, out);
-    error_reply(r.number, r.offset, r.ordinal, response)
+    Reply::error(r.number, r.offset, r.ordinal, response)
 }
 
 // One request that passed checks 1 to 5, by the marks of the record that it means; `accepted` says whether the policy
@@ -53,30 +51,36 @@ pub fn refuse_chain(r: Reading, out: &mut [u8]) -> Reply
 pub fn respond_to(
     accepted: bool,
     marks: Marks,
-    packet: Packet,
+    request: &LentRequest,
     read: Reading,
-    nat_source: &[u8],
-    nat_destination: &[u8],
-    body: &[u8],
     out: &mut [u8],
 ) -> CoreAnswer
     requires response_room_in_bounds { response_room ≤ length out.old }
-    requires nat_source_len { (length nat_source.now ≡ nat_octets) × (length nat_destination.now ≡ nat_octets) }
-    requires body_len_bound { (length body.now ≤ body_most) × (read ≡ reading packet.first body.now) }
-    ensures { let asks = asked_by packet nat_source.now nat_destination.now body.now in
+    requires nat_source_len { (length request.now.nat_source.now ≡ nat_octets) × (length request.now.nat_destination.now ≡ nat_octets) }
+    requires body_len_bound { (length request.now.body.now ≤ body_most) × (read ≡ reading request.now.first request.now.body.now) }
+    ensures { let asks = asked_by request.now in
         (result ≡ core_answer accepted asks marks)
         × (out.new ≡ placed out.old 0 (core_response accepted asks marks)) }
 {
-    let seen = read.seen;
-    if read.number == u8::from(Number::Done) {
-        let pair = packet.pair;
-        let d = decide(accepted, body, seen, pair, packet.id, marks);
-        let wanted = wants_nats(seen);
-        let k = cookie(body, seen);
-        let verdict = d.verdict;
-        let response = respond_decided(verdict, wanted, nat_source, nat_destination, k, out);
-        return answer_to(d, seen, response);
+    if read.number != u8::from(Number::Done) {
+        return CoreAnswer::unchanged(refuse_chain(read, out), marks);
     }
-    let reply = refuse_chain(read, out);
-    unchanged(reply, marks)
+    let seen = read.seen;
+    let d = decide(
+        accepted,
+        request.body,
+        seen,
+        request.pair,
+        request.id,
+        marks,
+    );
+    let response = respond_decided(
+        d.verdict,
+        wants_nats(seen),
+        request.nat_source,
+        request.nat_destination,
+        cookie(request.body, seen),
+        out,
+    );
+    CoreAnswer::decided(d, seen, response)
 }

@@ -2,4 +2,4 @@
 #![tactic(auto)]
 
 pub mod core_answer;
-pub mod packet;
+pub mod request;

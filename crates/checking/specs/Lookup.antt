@@ -1,18 +1,17 @@
 -- Inner. What is looked up for a request, and checks 1 to 5 by that, as the code runs them: `early_number_by` of `Checks`
 -- on it. `handles` of `responder` shows that a request's checks on the tables come to the same.
-use Rattle.std.specs.Prelude.{ℕ, List, ltb}
+use Rattle.std.specs.Prelude.{ℕ, ltb}
 use Rattle.octets.specs.Limits.{ike_places}
 use Rattle.records.specs.Records.{marks_in}
 use Rattle.records.specs.declared.ike.IkeRecord.{IkeRecord}
-use Rattle.answering.specs.Packet.{asked_by}
-use Rattle.answering.specs.declared.packet.Packet.{Packet}
+use Rattle.answering.specs.Request.{asked_by}
+use Rattle.answering.specs.declared.request.LentRequest.{LentRequest}
 use Rattle.checking.specs.Checks.{Request, request_of, early_number_by}
 use Rattle.checking.specs.declared.lookup.Looked.{Looked}
 
--- a request by its packet, the two lent NAT values, its body, its output's length and its operator
-abbrev pub request_by : Packet → List ℕ → List ℕ → List ℕ → ℕ → ℕ → Request
-request_by packet nat-source nat-destination body room operator =
-    request_of packet.spi (asked_by packet nat-source nat-destination body) room operator
+-- a request as it is lent, with its output's length
+abbrev pub request_by : LentRequest → ℕ → Request
+request_by r room = request_of r.spi (asked_by r) room r.operator
 
 abbrev pub looked_up : ℕ → ℕ → IkeRecord → Looked
 looked_up size place r = record { size = size; place = place; marks = marks_in r }

@@ -12,12 +12,14 @@ pub struct Looked {
     pub marks: Marks,
 }
 
-pub fn looked_up(size: usize, place: usize, entry: IkeRecord) -> Looked
-    ensures { result ≡ looked_up size place entry }
-{
-    Looked {
-        size,
-        place,
-        marks: marks_of(entry),
+impl Looked {
+    pub fn new(size: usize, place: usize, entry: IkeRecord) -> Looked
+        ensures { result ≡ looked_up size place entry }
+    {
+        Looked {
+            size,
+            place,
+            marks: marks_of(entry),
+        }
     }
 }

@@ -1,115 +1,79 @@
 // The number of a clone request: its checks before the chain is read, then those by the chain and behind it.
 #![tactic(auto)]
 
-ghost use Rattle.std.specs.Prelude.{◌≡◌, ltb};
+ghost use Rattle.std.specs.Prelude.{◌≡◌, ◌≢◌, ltb, IfErr};
 ghost use Rattle.octets.specs.Checks.{first_failed};
 ghost use Rattle.octets.specs.Limits.{ike_places};
-ghost use Rattle.octets.specs.Numbers.{number_of};
-ghost use Rattle.cloning.specs.Clone.{clone_request, early_clone, whole_clone_checks, late_clone};
+ghost use Rattle.octets.specs.Numbers.{number_of, told};
+ghost use Rattle.cloning.specs.Clone.{early_clone, late_clone};
+ghost use Rattle.cloning.specs.Looked.{request_by, whole_checks_at, late_clone_at};
 
 use clone_chain::read::CloneReading;
+use cloning::clone::{CloneLooked, LentCloneRequest};
 use octets::flag::is_yes;
 use octets::limits::{BODY_MOST, IKE_PLACES, IKE_SHARE, PEER_RECORDS_MOST, RESPONSE_ROOM};
-use octets::number::Number;
+use octets::number::{Number, told};
 use octets::operator::not_operator;
-use records::ike::IkeRecord;
 
-// The checks before the chain is read, in their order.
+// The checks before the chain is read, in their order, for an output of `room` octets; no refusal is told as done.
 #[tactic(auto, unfolding(cloning::specs::Clone::early_clone))]
-pub fn early_clone(
-    place: usize,
-    entry: IkeRecord,
-    spi: u64,
-    new_spi: u64,
-    first: u8,
-    body: &[u8],
+pub fn early_checks(
+    looked: &CloneLooked,
+    request: &LentCloneRequest,
     room: usize,
-    operator: u8,
-) -> Number
-    ensures { let q = clone_request spi new_spi first body.now room operator in
-        number_of result ≡ early_clone (ltb place ike_places) entry q }
+) -> Result<(), Number>
+    ensures value { told result ≡ early_clone (ltb looked.now.place ike_places) looked.now.entry (request_by request.now room) }
+    ensures refused { IfErr result (λ number. number_of number ≢ 0) }
 {
-    let agreed = entry.agreed;
-    if spi == 0 {
-        return Number::BadArgument;
-    }
-    if new_spi == 0 {
-        return Number::BadArgument;
-    }
-    if not_operator(operator) {
-        return Number::BadArgument;
+    let agreed = looked.entry.agreed;
+    if request.spi == 0 || request.new_spi == 0 || not_operator(request.operator) {
+        return Err(Number::BadArgument);
     }
     if room < RESPONSE_ROOM {
-        return Number::OutputTooShort;
+        return Err(Number::OutputTooShort);
     }
-    if BODY_MOST < body.len() {
-        return Number::BodyTooLong;
+    if BODY_MOST < request.body.len() {
+        return Err(Number::BodyTooLong);
     }
-    if IKE_PLACES <= place {
-        return Number::NoSuchRecord;
+    if IKE_PLACES <= looked.place || agreed.operator != request.operator {
+        return Err(Number::NoSuchRecord);
     }
-    if agreed.operator != operator {
-        return Number::NoSuchRecord;
+    if !is_yes(agreed.cloning) {
+        return Err(Number::CloningNotAgreed);
     }
-    if is_yes(agreed.cloning) {
-        Number::Done
-    } else {
-        Number::CloningNotAgreed
-    }
+    Ok(())
 }
 
-// The number of a chain that was read whole, by the checks in their order: CLONE_IKE_SA is there, the record is being
-// deleted, a place is free, the peer is at its limit, the new SPI is taken, the operator is at its share.
-pub fn whole_number(
-    there: bool,
-    deleting: bool,
-    free: bool,
-    limited: bool,
-    taken: bool,
-    full: bool,
-) -> Number
-    ensures { number_of result ≡ first_failed (whole_clone_checks there deleting free limited taken full) }
+// Those of a chain that was read whole, in their order: CLONE_IKE_SA is there, the record is not being deleted and a
+// place is free, the peer is below its limit, the new SPI is not taken, the operator is below its share.
+pub fn whole_checks(there: bool, looked: &CloneLooked) -> Result<(), Number>
+    ensures { told result ≡ first_failed (whole_checks_at there looked.now) }
 {
     if !there {
-        return Number::NoCloneRequest;
+        return Err(Number::NoCloneRequest);
     }
-    if deleting {
-        return Number::CannotCloneNow;
+    if is_yes(looked.entry.deleting) || IKE_PLACES <= looked.free {
+        return Err(Number::CannotCloneNow);
     }
-    if !free {
-        return Number::CannotCloneNow;
+    if PEER_RECORDS_MOST <= looked.records {
+        return Err(Number::PeerAtLimit);
     }
-    if limited {
-        return Number::PeerAtLimit;
+    if looked.taken < IKE_PLACES {
+        return Err(Number::SpiInUse);
     }
-    if taken {
-        return Number::SpiInUse;
+    if IKE_SHARE <= looked.own {
+        return Err(Number::OperatorAtShare);
     }
-    if full {
-        Number::OperatorAtShare
-    } else {
-        Number::Done
-    }
+    Ok(())
 }
 
-// The checks by the chain and behind it.
+// The number of the checks by the chain and behind it, as it is told: a reading has its own so.
 #[tactic(auto, unfolding(cloning::specs::Clone::late_clone))]
-pub fn late_clone(
-    read: CloneReading,
-    entry: IkeRecord,
-    free: bool,
-    records: usize,
-    taken: bool,
-    own: usize,
-) -> u8
-    ensures { result ≡ late_clone read entry free records taken own }
+pub fn late_clone(read: CloneReading, looked: &CloneLooked) -> u8
+    ensures { result ≡ late_clone_at read looked.now }
 {
-    let reading = read.reading;
-    if reading.number != 0 {
-        return reading.number;
+    if read.reading.number != 0 {
+        return read.reading.number;
     }
-    let deleting = is_yes(entry.deleting);
-    let limited = PEER_RECORDS_MOST <= records;
-    let full = IKE_SHARE <= own;
-    u8::from(whole_number(read.clone, deleting, free, limited, taken, full))
+    told(whole_checks(read.clone, looked))
 }

@@ -2,6 +2,7 @@
 -- come to: the table as it was, or one record more under what its checks have shown.
 use Prim.Native.Nat.{ℕ, ◌<◌, ◌≤◌}
 use mathlib.Core.Path.{◌≡◌, refl}
+use Rattle.std.specs.Prelude.{Option, Some, None}
 use mathlib.Core.Logic.{◌⊎◌, inl, inr}
 use mathlib.Core.List.{List, []}
 use mathlib.Core.Bool.{Bool, true, false, cond, ◌&&◌, not}
@@ -9,7 +10,6 @@ use native.Mathlib.Omega.{arith}
 use borrow.Author.Tests.{eqb-true, eqb-false, ltb-true, ltb-false, leb-false, not-false}
 use lib.Dec.{eqb, leb, ltb}
 use lib.ListN.{length, set}
-use lib.Seq.{set_out}
 use Rattle.octets.specs.Limits.{ike_places, peer_records_most, ike_share}
 use Rattle.octets.specs.Lists.{place_of}
 use Rattle.octets.specs.Flags.{is_yes}
@@ -29,6 +29,7 @@ use Rattle.cloning.specs.Clone.{CloneRequest, records_of, early_clone, whole_clo
 use Rattle.cloning.specs.Clone.{clone_notifies, not_cloned, clone_told, Cloned, cloned_as, cloned}
 use Rattle.cloning.specs.Looked.{clone_at, octets_at}
 use Rattle.cloning.specs.declared.clone.CloneAnswer.{CloneAnswer}
+use Rattle.cloning.specs.declared.clone.CloneLooked.{CloneLooked}
 use Rattle.cloning.proofs.Passed.{Passed, passed}
 
 module _ (ike : List IkeRecord) (q : CloneRequest) where
@@ -50,9 +51,18 @@ module _ (ike : List IkeRecord) (q : CloneRequest) where
   abbrev pub own : ℕ
   own = ikes_of q.operator ike
 
+  abbrev pub looked : CloneLooked
+  looked =
+      record { place = place; entry = original; free = free; taken = taken; records = records; own = own }
+
   -- what the code decides by what it looked up
   abbrev pub decided : CloneAnswer
-  decided = clone_at place free taken records own original q
+  decided = clone_at looked q
+
+  -- the table after what it stores
+  abbrev pub stored : Option IkeRecord → List IkeRecord
+  stored None = ike
+  stored (Some e) = set ike free e
 
   abbrev pub read : CloneReading
   read = clone_reading q.first q.body
@@ -69,8 +79,8 @@ module _ (ike : List IkeRecord) (q : CloneRequest) where
       (cond done (cloned_as told octets (set ike free new)) (cloned_as told octets ike))
 
   pub clones : length ike ≡ ike_places
-      → (decided.reply ≡ (cloned ike q).reply) × (set ike decided.place decided.entry ≡ (cloned ike q).ike)
-      × (octets_at place free taken records own original q ≡ (cloned ike q).octets)
+      → (decided.reply ≡ (cloned ike q).reply) × (stored decided.clone ≡ (cloned ike q).ike)
+      × (octets_at looked q ≡ (cloned ike q).octets)
   unfolding cloned clone_at octets_at
   clones long = rw long (go (eqb before 0) (eqb behind 0))
     where
@@ -83,11 +93,11 @@ module _ (ike : List IkeRecord) (q : CloneRequest) where
       go : (b d : Bool)
           → let c = comes before behind b d in
           (cond (not b) (not_cloned before) (clone_told behind read.reading) ≡ c.reply)
-          × (set ike (cond (b && d) free ike_places) new ≡ c.ike)
+          × (stored (cond (b && d) (Some new) None) ≡ c.ike)
           × (cond (not b) [] (chained (clone_notifies behind read.reading) 0) ≡ c.octets)
       go true true = (refl, refl, refl)
-      go true false = (refl, set_out ike ike_places new (omega arith), refl)
-      go false d = (refl, set_out ike ike_places new (omega arith), refl)
+      go true false = (refl, refl, refl)
+      go false d = (refl, refl, refl)
 
   -- the numbers of the checks before the chain, and of those by it and behind it
   abbrev pub early : ℕ

@@ -2,21 +2,34 @@
 ghost use Rattle.std.specs.Prelude.{◌≡◌, ◌<◌};
 ghost use Rattle.values.specs.Values.{no_nats_seen};
 ghost use Rattle.verdict.specs.Verdict.{verdict};
-ghost use Rattle.deciding.specs.Decide.{effect_number, says_done, tallied, has_list, left_off};
+ghost use Rattle.deciding.specs.Decide.{effect_number, tallied, has_list, left_off};
 ghost use Rattle.deciding.specs.Decide.{list_decided, update_decided, decided};
 
 use address::pair::Pair;
 use findings::seen::Seen;
-use octets::limits::{ADDRESSES_MOST, TALLY_MOST};
+use octets::limits::ADDRESSES_MOST;
 use records::ike::Marks;
-use verdict::update::{Verdict, is_accepted, verdict_seen};
+use verdict::update::{Verdict, verdict_seen};
 
 // What became of an update or a list: 01's none, applied or replaced, stale.
-#[derive(Clone, Copy)]
+#[derive(Clone, Copy, PartialEq, Eq)]
 pub enum Effect {
     None,
     Done,
     Stale,
+}
+
+// 01's numbers for what is told of a decision.
+impl From<Effect> for u8 {
+    ghost from_gives = { λ e n. n ≡ effect_number e };
+
+    fn from(e: Effect) -> u8 {
+        match e {
+            Effect::None => 0,
+            Effect::Done => 1,
+            Effect::Stale => 2,
+        }
+    }
 }
 
 // The decision: the verdict on the update (accepted where there is none to refuse), what became of the update and of
@@ -30,52 +43,25 @@ pub struct Decision {
     pub marks: Marks,
 }
 
-// 01's numbers for what is told of a decision.
-pub fn effect_number(e: Effect) -> u8
-    ensures { result ≡ effect_number e }
-{
-    match e {
-        Effect::None => 0,
-        Effect::Done => 1,
-        Effect::Stale => 2,
-    }
-}
-
-// Whether what is told of an update or of a list is that it was applied, or replaced.
-pub fn says_done(told: u8) -> bool
-    ensures { result ≡ says_done told }
-{
-    told == effect_number(Effect::Done)
-}
-
 // The tally with n more; it stays at its greatest value once there.
 pub fn add_tally(old: u32, n: u32) -> u32
     ensures { result ≡ tallied old n }
 {
-    if TALLY_MOST - old < n {
-        return TALLY_MOST;
-    }
-    old + n
+    old.saturating_add(n)
 }
 
 // Whether the request carries a list of additional addresses, an empty one counted.
 pub fn carries_list(seen: Seen) -> bool
     ensures { result ≡ has_list seen }
 {
-    let l = seen.list;
-    if seen.no_additional {
-        true
-    } else {
-        l.count != 0
-    }
+    seen.no_additional || seen.list.count != 0
 }
 
 // How many of n addresses are left off.
 pub fn left_off(n: u16) -> u16
     ensures { result ≡ left_off n }
 {
-    let most = ADDRESSES_MOST as u16;
-    if most < n { n - most } else { 0 }
+    n.saturating_sub(ADDRESSES_MOST as u16)
 }
 
 // Step 3: an ID above the list mark replaces the list; what became of the update is told on.
@@ -83,34 +69,23 @@ pub fn left_off(n: u16) -> u16
 pub fn decide_list(seen: Seen, id: u32, update: Effect, marks: Marks) -> Decision
     ensures { result ≡ list_decided seen id update marks }
 {
-    if carries_list(seen) {
-        if marks.list_mark <= id as u64 {
-            let l = seen.list;
-            let mut new = marks;
-            new.list_mark = id as u64 + 1;
-            return Decision {
-                verdict: Verdict::Accepted,
-                update,
-                list: Effect::Done,
-                left_off: left_off(l.count),
-                marks: new,
-            };
-        }
-        return Decision {
-            verdict: Verdict::Accepted,
-            update,
-            list: Effect::Stale,
-            left_off: 0,
-            marks,
-        };
-    }
-    Decision {
+    let mut decision = Decision {
         verdict: Verdict::Accepted,
         update,
         list: Effect::None,
         left_off: 0,
         marks,
+    };
+    if carries_list(seen) {
+        if marks.list_mark <= id as u64 {
+            decision.list = Effect::Done;
+            decision.left_off = left_off(seen.list.count);
+            decision.marks.list_mark = id as u64 + 1;
+        } else {
+            decision.list = Effect::Stale;
+        }
     }
+    decision
 }
 
 // Step 2, then step 3 unless the update was refused. The verdict is asked for only where the update is not stale.
@@ -126,25 +101,25 @@ pub fn decide_update(
     ensures { let v = verdict accepted (no_nats_seen body.now seen) pair in
         result ≡ update_decided v seen id marks }
 {
-    if seen.update {
-        if marks.update_mark <= id as u64 {
-            let mut received = marks;
-            received.update_mark = id as u64 + 1;
-            let verdict = verdict_seen(accepted, body, seen, pair);
-            if is_accepted(verdict) {
-                return decide_list(seen, id, Effect::Done, received);
-            }
-            return Decision {
-                verdict,
-                update: Effect::None,
-                list: Effect::None,
-                left_off: 0,
-                marks: received,
-            };
-        }
+    if !seen.update {
+        return decide_list(seen, id, Effect::None, marks);
+    }
+    if (id as u64) < marks.update_mark {
         return decide_list(seen, id, Effect::Stale, marks);
     }
-    decide_list(seen, id, Effect::None, marks)
+    let mut received = marks;
+    received.update_mark = id as u64 + 1;
+    let verdict = verdict_seen(accepted, body, seen, pair);
+    if verdict.is_accepted() {
+        return decide_list(seen, id, Effect::Done, received);
+    }
+    Decision {
+        verdict,
+        update: Effect::None,
+        list: Effect::None,
+        left_off: 0,
+        marks: received,
+    }
 }
 
 // Steps 1 to 3 on what was seen in a body, by the marks of the record that the request means.
@@ -161,7 +136,7 @@ pub fn decide(
 {
     let t = seen.tally;
     let unknown = t.unknown_payloads as u32 + t.unknown_notifies as u32;
-    let mut new = marks;
-    new.unknown = add_tally(marks.unknown, unknown);
-    decide_update(accepted, body, seen, pair, id, new)
+    let mut counted = marks;
+    counted.unknown = add_tally(marks.unknown, unknown);
+    decide_update(accepted, body, seen, pair, id, counted)
 }

@@ -5,7 +5,7 @@ ghost use Rattle.std.specs.Prelude.{length};
 ghost use Rattle.cloning.specs.Clone.{clone_request, ClonedAs};
 
 use clone_answers::clone_at;
-use cloning::clone::CloneReply;
+use cloning::clone::{CloneLooked, CloneReply, LentCloneRequest};
 use lent_ike::ike::{ike_at, ike_count, ike_peers, ike_place, ike_store};
 use octets::limits::IKE_PLACES;
 use records::ike::IkeRecord;
@@ -26,16 +26,26 @@ pub fn unmavreth_clone(
         let q = clone_request spi new_spi first body.now room operator in
         ClonedAs ike.old q out.old result ike.new out.new }
 {
+    let request = LentCloneRequest {
+        spi,
+        new_spi,
+        first,
+        body,
+        operator,
+    };
     let place = ike_place(ike, spi);
     let entry = ike_at(ike, place);
-    let free = ike_place(ike, 0);
-    let taken = ike_place(ike, new_spi);
-    let agreed = entry.agreed;
-    let records = ike_peers(ike, operator, agreed.peer);
-    let own = ike_count(ike, operator);
-    let c = clone_at(
-        place, entry, free, taken, records, own, spi, new_spi, first, body, out, operator,
-    );
-    ike_store(ike, c.place, c.entry);
-    c.reply
+    let looked = CloneLooked {
+        place,
+        entry,
+        free: ike_place(ike, 0),
+        taken: ike_place(ike, new_spi),
+        records: ike_peers(ike, operator, entry.agreed.peer),
+        own: ike_count(ike, operator),
+    };
+    let answer = clone_at(&looked, &request, out);
+    if let Some(clone) = answer.clone {
+        ike_store(ike, looked.free, clone);
+    }
+    answer.reply
 }

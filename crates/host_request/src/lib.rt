@@ -1,6 +1,6 @@
 // The call that handles a request, on lent tables: what it goes by is looked up, the request received by that, the
-// operator's lent policy asked where its word counts, and the request handled; what changes in the record is stored. What the record
-// owns follows only after the check that is kept then: see `unmavreth_check`.
+// operator's lent policy asked where its word counts, and the request answered; what changes in the record is stored.
+// What the record owns follows only after the check that is kept then: see `unmavreth_check`.
 #![tactic(auto)]
 
 ghost use Rattle.std.specs.Prelude.{length};
@@ -10,8 +10,9 @@ ghost use Rattle.checking.specs.Checks.{request_of};
 ghost use Rattle.responder.specs.Handle.{HandledAs};
 
 use address::pair::Pair;
-use answering::packet::packet_of;
-use checking::lookup::looked_up;
+use answering::core_answer::respond_to;
+use answering::request::LentRequest;
+use checking::lookup::Looked;
 use lent_ike::ike::{ike_at, ike_change, ike_place};
 use lent_ipsec::places::ipsec_count;
 use lent_policy::rules::accepts_if;
@@ -21,7 +22,6 @@ use records::check::check_of;
 use records::ike::IkeRecord;
 use records::ipsec::IpsecRecord;
 use replying::reply::Reply;
-use responder::handle::handle_at;
 use responder::receive::received_at;
 
 // Handles one INFORMATIONAL request of a peer that is the original initiator: the response goes to the start of `out`,
@@ -51,33 +51,25 @@ pub fn unmavreth_handle(
         HandledAs policies.now ike.old ipsec.now q out.old
         result ike.new out.new }
 {
-    let size = ipsec_count(ipsec);
+    let request = LentRequest {
+        spi,
+        id,
+        pair,
+        nat_source,
+        nat_destination,
+        first,
+        body,
+        check: check_of(cookie, check_id),
+        operator,
+    };
     let place = ike_place(ike, spi);
-    let entry = ike_at(ike, place);
-    let looked = looked_up(size, place, entry);
-    let check = check_of(cookie, check_id);
-    let packet = packet_of(spi, id, pair, first, check);
-    let received = received_at(
-        looked,
-        packet,
-        nat_source,
-        nat_destination,
-        body,
-        out,
-        operator,
-    );
+    let looked = Looked::new(ipsec_count(ipsec), place, ike_at(ike, place));
+    let received = match received_at(looked, &request, out.len()) {
+        Ok(received) => received,
+        Err(number) => return Reply::refusal(number),
+    };
     let accepted = accepts_if(policies, operator as usize, received.asks, pair);
-    let c = handle_at(
-        accepted,
-        looked,
-        packet,
-        received,
-        nat_source,
-        nat_destination,
-        body,
-        out,
-        operator,
-    );
-    ike_change(ike, place, c, pair, check, body);
-    c.reply
+    let answer = respond_to(accepted, looked.marks, &request, received.read, out);
+    ike_change(ike, place, answer, pair, request.check, body);
+    answer.reply
 }

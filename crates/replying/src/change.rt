@@ -2,7 +2,7 @@
 ghost use Rattle.std.specs.Prelude.{◌≡◌};
 ghost use Rattle.replying.specs.Change.{changed_by};
 
-use crate::reply::{CoreAnswer, moves, replaces_list};
+use crate::reply::CoreAnswer;
 use address::pair::Pair;
 use records::check::PendingCheck;
 use records::ike::{IkeRecord, relist, remark};
@@ -19,12 +19,9 @@ pub fn changed(
 ) -> IkeRecord
     ensures { result ≡ changed_by a pair check body.now entry }
 {
-    let marks = a.marks;
-    let after = remark(entry, marks, moves(a), pair, check);
-    if replaces_list(a) {
-        let l = a.list;
-        let addresses = addresses_in(body, l);
-        return relist(after, kept_count(l.count), addresses);
+    let after = remark(entry, a.marks, a.moves(), pair, check);
+    if a.replaces_list() {
+        return relist(after, kept_count(a.list.count), addresses_in(body, a.list));
     }
     after
 }

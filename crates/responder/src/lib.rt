@@ -1,5 +1,4 @@
-// The request handler of the original responder: one INFORMATIONAL request, decided on the record that its SPI means.
+// A request of the original initiator as it comes in, and what its handling comes to as a whole.
 #![tactic(auto)]
 
-pub mod handle;
 pub mod receive;

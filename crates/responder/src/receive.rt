@@ -1,20 +1,21 @@
 // One request as it comes in, by what was looked up for it: checks 1 to 5, its chain read, and whether its pair has to be
-// held against the policy. The policy itself is lent, and looked at between this and `handle`.
-ghost use Rattle.std.specs.Prelude.{◌≡◌, length};
-ghost use Rattle.checking.specs.Lookup.{request_by};
+// held against the policy. The policy itself is lent, and looked at between this and the core's answer.
+ghost use Rattle.std.specs.Prelude.{◌≡◌, ◌≢◌, IfOk, IfErr};
+ghost use Rattle.octets.specs.Numbers.{number_of, told};
+ghost use Rattle.checking.specs.Lookup.{request_by, early_number_at};
 ghost use Rattle.responder.specs.Looked.{asks_policy, received_at};
 
-use answering::packet::Packet;
-use checking::check::early_number;
+use answering::request::LentRequest;
+use checking::check::early_checks;
 use checking::lookup::Looked;
 use findings::seen::Seen;
-use reader::read::{Reading, read_short, refuse};
+use octets::number::Number;
+use reader::read::{Reading, read_short};
 use records::ike::Marks;
 
-// The number of checks 1 to 5; where they pass, the chain as it was read, and whether the policy is asked.
+// A request that passed checks 1 to 5: whether the policy is asked of its pair, and its chain as it was read.
 #[derive(Clone, Copy)]
 pub struct Received {
-    pub number: u8,
     pub asks: bool,
     pub read: Reading,
 }
@@ -23,50 +24,18 @@ pub struct Received {
 pub fn asks_policy(seen: Seen, id: u32, marks: Marks) -> bool
     ensures { result ≡ asks_policy seen id marks }
 {
-    if seen.update {
-        marks.update_mark <= id as u64
-    } else {
-        false
-    }
+    seen.update && marks.update_mark <= id as u64
 }
 
-pub fn received_at(
-    looked: Looked,
-    packet: Packet,
-    nat_source: &[u8],
-    nat_destination: &[u8],
-    body: &[u8],
-    out: &[u8],
-    operator: u8,
-) -> Received
-    ensures { let nat-source = nat_source.now in
-        let nat-destination = nat_destination.now in
-        let room = length out.now in
-        let q = request_by packet nat-source nat-destination body.now room operator in
-        result ≡ received_at looked q }
+pub fn received_at(looked: Looked, request: &LentRequest, room: usize) -> Result<Received, Number>
+    ensures value { told result ≡ early_number_at looked (request_by request.now room) }
+    ensures received { IfOk result (λ received. received ≡ received_at looked (request_by request.now room)) }
+    ensures refused { IfErr result (λ number. number_of number ≢ 0) }
 {
-    let room = out.len();
-    let early = early_number(
-        looked,
-        packet,
-        nat_source,
-        nat_destination,
-        body,
-        room,
-        operator,
-    );
-    let number = u8::from(early);
-    if number != 0 {
-        let none = refuse(number, 0, 0, 0);
-        return Received {
-            number,
-            asks: false,
-            read: none,
-        };
-    }
-    let read = read_short(packet.first, body);
-    let seen = read.seen;
-    let marks = looked.marks;
-    let asks = asks_policy(seen, packet.id, marks);
-    Received { number, asks, read }
+    early_checks(looked, request, room)?;
+    let read = read_short(request.first, request.body);
+    Ok(Received {
+        asks: asks_policy(read.seen, request.id, looked.marks),
+        read,
+    })
 }

@@ -4,7 +4,7 @@ ghost use Rattle.octets.specs.Limits.{cookie_most, nat_octets, notify_header, re
 ghost use Rattle.writing.specs.Notify.{first_type};
 ghost use Rattle.writing.specs.Parts.{cookie_notifies};
 ghost use Rattle.writing.specs.Wrote.{Wrote};
-ghost use Rattle.responding.specs.Respond.{error_then, response_to, no_response, wants_nats};
+ghost use Rattle.responding.specs.Respond.{error_then, response_to, wants_nats};
 ghost use Rattle.responding.specs.Put.{Responds};
 ghost use Rattle.verdict.specs.declared.update.Verdict.TheVariants.{Accepted};
 
@@ -14,8 +14,9 @@ use octets::wire::NOTIFY_PAYLOAD;
 use verdict::update::Verdict;
 use writing::put_notify;
 
-// What is told of a response: the type of its first payload, 0 where nothing was written, and how many octets it has.
-#[derive(Clone, Copy)]
+// What is told of a response: the type of its first payload, and how many octets it has; both 0, the default, where
+// nothing was written.
+#[derive(Clone, Copy, Default)]
 pub struct Response {
     pub first: u8,
     pub length: u16,
@@ -103,13 +104,7 @@ pub fn put_done(
 pub fn wants_nats(seen: Seen) -> bool
     ensures { result ≡ wants_nats seen }
 {
-    let source_there = seen.nat_source != 0;
-    let destination_there = seen.nat_destination != 0;
-    if source_there {
-        destination_there
-    } else {
-        false
-    }
+    seen.nat_source != 0 && seen.nat_destination != 0
 }
 
 // Step 4: the response to a request that was decided with this verdict.
@@ -127,20 +122,9 @@ pub fn respond_decided(
         let xs = response_to verdict wanted nat-source nat_destination.now cookie.now in
         Responds xs out.old out.new result }
 {
-    let none = [0u8; 0];
     match verdict {
         Verdict::Accepted => put_done(out, wanted, nat_source, nat_destination, cookie),
-        Verdict::Altered => put_error(out, NotifyType::UNEXPECTED_NAT_DETECTED, &none, cookie),
-        Verdict::Unacceptable => put_error(out, NotifyType::UNACCEPTABLE_ADDRESSES, &none, cookie),
-    }
-}
-
-// What is told where nothing was written.
-pub fn no_response() -> Response
-    ensures { result ≡ no_response }
-{
-    Response {
-        first: 0,
-        length: 0,
+        Verdict::Altered => put_error(out, NotifyType::UNEXPECTED_NAT_DETECTED, &[], cookie),
+        Verdict::Unacceptable => put_error(out, NotifyType::UNACCEPTABLE_ADDRESSES, &[], cookie),
     }
 }

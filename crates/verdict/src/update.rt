@@ -9,32 +9,31 @@ use findings::seen::Seen;
 use octets::number::Number;
 use values::{NoNats, no_nats_at};
 
-// It is applied, was altered on the way, or is not acceptable.
-#[derive(Clone, Copy)]
+// It is applied, was altered on the way, or is not acceptable. No Result of two refusals, since the definitions and
+// theorems on requests (`verdict`, `response_to`, `update_decided`) go by these three.
+#[derive(Clone, Copy, PartialEq, Eq)]
 pub enum Verdict {
     Accepted,
     Altered,
     Unacceptable,
 }
 
-// The number that a verdict is told with.
-pub fn verdict_told(v: Verdict) -> Number
-    ensures { result ≡ verdict_told v }
-{
-    match v {
-        Verdict::Accepted => Number::Done,
-        Verdict::Altered => Number::AddressesAltered,
-        Verdict::Unacceptable => Number::NotAcceptable,
+impl Verdict {
+    // The number that it is told with.
+    pub fn told(self) -> Number
+        ensures { result ≡ verdict_told self }
+    {
+        match self {
+            Verdict::Accepted => Number::Done,
+            Verdict::Altered => Number::AddressesAltered,
+            Verdict::Unacceptable => Number::NotAcceptable,
+        }
     }
-}
 
-pub fn is_accepted(v: Verdict) -> bool
-    ensures { result ≡ is_accepted v }
-{
-    match v {
-        Verdict::Accepted => true,
-        Verdict::Altered => false,
-        Verdict::Unacceptable => false,
+    pub fn is_accepted(self) -> bool
+        ensures { result ≡ is_accepted self }
+    {
+        matches!(self, Verdict::Accepted)
     }
 }
 
@@ -43,27 +42,12 @@ pub fn is_accepted(v: Verdict) -> bool
 pub fn is_unaltered(n: NoNats, pair: Pair) -> bool
     ensures { result ≡ unaltered n pair }
 {
-    if n.family == 0 {
-        return true;
-    }
-    if n.family != pair.family {
-        return false;
-    }
-    if n.source_port != pair.source_port {
-        return false;
-    }
-    if n.destination_port != pair.destination_port {
-        return false;
-    }
-    let told_source = n.source;
-    let told_destination = n.destination;
-    let source = pair.source;
-    let destination = pair.destination;
-    if same_address(told_source, source) {
-        same_address(told_destination, destination)
-    } else {
-        false
-    }
+    n.family == 0
+        || (n.family == pair.family
+            && n.source_port == pair.source_port
+            && n.destination_port == pair.destination_port
+            && same_address(n.source, pair.source)
+            && same_address(n.destination, pair.destination))
 }
 
 // The verdict, given what NO_NATS_ALLOWED holds.
@@ -71,14 +55,12 @@ pub fn is_unaltered(n: NoNats, pair: Pair) -> bool
 pub fn verdict_on(accepted: bool, n: NoNats, pair: Pair) -> Verdict
     ensures { result ≡ verdict accepted n pair }
 {
-    if is_unaltered(n, pair) {
-        if accepted {
-            Verdict::Accepted
-        } else {
-            Verdict::Unacceptable
-        }
-    } else {
+    if !is_unaltered(n, pair) {
         Verdict::Altered
+    } else if !accepted {
+        Verdict::Unacceptable
+    } else {
+        Verdict::Accepted
     }
 }
 
@@ -86,6 +68,6 @@ pub fn verdict_on(accepted: bool, n: NoNats, pair: Pair) -> Verdict
 pub fn verdict_seen(accepted: bool, body: &[u8], seen: Seen, pair: Pair) -> Verdict
     ensures { result ≡ verdict accepted (no_nats_seen body.now seen) pair }
 {
-    let n = no_nats_at(body, seen.no_nats, seen.no_nats_len);
-    verdict_on(accepted, n, pair)
+    let allowed = no_nats_at(body, seen.no_nats, seen.no_nats_len);
+    verdict_on(accepted, allowed, pair)
 }
