@@ -6,13 +6,11 @@ ghost use Rattle.checking.specs.Checks.{arguments_fit};
 ghost use Rattle.checking.specs.Lookup.{request_by, early_number_at};
 
 use crate::lookup::Looked;
-use address::pair::pair_fits;
 use answering::request::LentRequest;
 use octets::flag::is_yes;
 use octets::limits::{BODY_MOST, IKE_PLACES, IPSEC_PLACES, NAT_OCTETS, RESPONSE_ROOM};
 use octets::number::Number;
 use octets::operator::not_operator;
-use records::check::is_pending;
 
 // Check 1, of a list of `size` IPsec records and of the arguments. Whatever fails gives the same number, so the order
 // is free: with the SPI last a request takes fewer instructions than with it first (`docs/PERFORMANCE.md`).
@@ -24,8 +22,8 @@ pub fn arguments_fit(size: usize, request: &LentRequest) -> bool
     request.nat_source.len() == NAT_OCTETS
         && request.nat_destination.len() == NAT_OCTETS
         && size == IPSEC_PLACES
-        && is_pending(request.check)
-        && pair_fits(request.pair)
+        && request.check.is_pending()
+        && request.pair.fits()
         && request.spi != 0
 }
 

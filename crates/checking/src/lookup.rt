@@ -2,7 +2,7 @@
 ghost use Rattle.std.specs.Prelude.{◌≡◌};
 ghost use Rattle.checking.specs.Lookup.{looked_up};
 
-use records::ike::{IkeRecord, Marks, marks_of};
+use records::ike::{IkeRecord, Marks};
 
 // How many IPsec records are lent, the lowest place with the SPI, and the marks of the record there.
 #[derive(Clone, Copy)]
@@ -19,7 +19,7 @@ impl Looked {
         Looked {
             size,
             place,
-            marks: marks_of(entry),
+            marks: entry.marks(),
         }
     }
 }

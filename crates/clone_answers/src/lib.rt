@@ -16,7 +16,6 @@ use cloning::clone::{CloneAnswer, CloneLooked, CloneReply, LentCloneRequest};
 use notify::notify::NotifyType;
 use octets::number::Number;
 use reader::read::Reading;
-use records::ike::clone_of;
 use responding::respond::{Response, put_error};
 
 // The notify type that a number writes, of a chain that was read whole, if it writes one.
@@ -90,7 +89,7 @@ pub fn clone_at(looked: &CloneLooked, request: &LentCloneRequest, out: &mut [u8]
         length: response.length,
     };
     let clone = if number == 0 {
-        Some(clone_of(request.new_spi, looked.entry))
+        Some(looked.entry.cloned(request.new_spi))
     } else {
         None
     };

@@ -14,11 +14,10 @@ use answering::core_answer::respond_to;
 use answering::request::LentRequest;
 use checking::lookup::Looked;
 use lent_ike::ike::{ike_at, ike_change, ike_place};
-use lent_ipsec::places::ipsec_count;
 use lent_policy::rules::accepts_if;
 use octets::limits::{IKE_PLACES, OPERATORS};
 use policy::rules::Policy;
-use records::check::check_of;
+use records::check::PendingCheck;
 use records::ike::IkeRecord;
 use records::ipsec::IpsecRecord;
 use replying::reply::Reply;
@@ -59,11 +58,11 @@ pub fn unmavreth_handle(
         nat_destination,
         first,
         body,
-        check: check_of(cookie, check_id),
+        check: PendingCheck::of(cookie, check_id),
         operator,
     };
     let place = ike_place(ike, spi);
-    let looked = Looked::new(ipsec_count(ipsec), place, ike_at(ike, place));
+    let looked = Looked::new(ipsec.len(), place, ike_at(ike, place));
     let received = match received_at(looked, &request, out.len()) {
         Ok(received) => received,
         Err(number) => return Reply::refusal(number),

@@ -5,7 +5,7 @@ ghost use Rattle.replying.specs.Change.{changed_by};
 use crate::reply::CoreAnswer;
 use address::pair::Pair;
 use records::check::PendingCheck;
-use records::ike::{IkeRecord, relist, remark};
+use records::ike::IkeRecord;
 use values::{addresses_in, kept_count};
 
 // The record after an answer. The list is built only where it is replaced.
@@ -19,9 +19,9 @@ pub fn changed(
 ) -> IkeRecord
     ensures { result ≡ changed_by a pair check body.now entry }
 {
-    let after = remark(entry, a.marks, a.moves(), pair, check);
+    let after = entry.remarked(a.marks, a.moves(), pair, check);
     if a.replaces_list() {
-        return relist(after, kept_count(a.list.count), addresses_in(body, a.list));
+        return after.relisted(kept_count(a.list.count), addresses_in(body, a.list));
     }
     after
 }

@@ -24,11 +24,10 @@ returns-in-Err c =
     let q = request_of a.spi asks (length a.out.now) a.operator in
     let number =
     rw (
-      c.check_of.ensures,
+      c.of.ensures,
       c.new-looked.ensures,
       c.ike_at.ensures,
       c.ike_place-place.ensures,
-      c.ipsec_count.ensures,
     ) at c.in-Err.ensures.value in
     rw (c.refusal.ensures, number)
     (refused policies ike ipsec q a.out.now c.told-ike (λ e. c.in-Err.ensures.refused (number ∙ e)))
@@ -60,11 +59,10 @@ returns c =
     let q = request_of a.spi asks (length a.out.now) a.operator in
     let number =
     rw (
-      c.check_of.ensures,
+      c.of.ensures,
       c.new-looked.ensures,
       c.ike_at.ensures,
       c.ike_place-place.ensures,
-      c.ipsec_count.ensures,
     ) at c.in-Ok.ensures.value in
     let alike = asked_alike asks (marks_in (meant ike a.spi)) (accepts policies q) in
     rw (
@@ -73,7 +71,7 @@ returns c =
       c.respond_to-answer.ensures.0,
       c.accepts_if-accepted.ensures,
       c.in-Ok.ensures.received,
-      c.check_of.ensures,
+      c.of.ensures,
       c.new-looked.ensures,
       c.ike_at.ensures,
       c.ike_place-place.ensures,
