@@ -4,9 +4,6 @@ ghost use Rattle.entries.specs.Entries.{entry_at};
 ghost use Rattle.entry_calls.specs.EntryCalls.{entry_read};
 
 use entries::ENTRY_SLOTS;
-use entries::kind::kind_number;
-use entries::step::EntryStep;
-use fields::refusal::refusal_number;
 use reading_entries::read_entry;
 
 #[repr(C)]
@@ -25,16 +22,16 @@ pub struct EntryRead {
 pub fn entry_read(trace: &[u8], at: usize) -> EntryRead
     ensures { result ≡ entry_read (entry_at trace.now at) }
 {
-    let mut slots: [u64; ENTRY_SLOTS] = [0; ENTRY_SLOTS];
+    let mut slots = [0; ENTRY_SLOTS];
     match read_entry(trace, at, &mut slots) {
-        EntryStep::Entry(kind, next) => EntryRead {
+        Ok((kind, next)) => EntryRead {
             number: 0,
-            kind: kind_number(kind),
-            next: next,
-            slots: slots,
+            kind: u8::from(kind),
+            next,
+            slots,
         },
-        EntryStep::Refused(why) => EntryRead {
-            number: refusal_number(why),
+        Err(why) => EntryRead {
+            number: u8::from(why),
             kind: 0,
             next: 0,
             slots: [0; ENTRY_SLOTS],

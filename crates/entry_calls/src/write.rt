@@ -4,8 +4,7 @@ ghost use Rattle.entries.specs.Entries.{kind_of};
 ghost use Rattle.entry_calls.specs.EntryCalls.{entry_written, entry_out};
 
 use entries::ENTRY_SLOTS;
-use entries::kind::{Known, kind_of};
-use entries::written::Written;
+use entries::kind::Kind;
 use writing_entries::write_entry;
 
 #[repr(C)]
@@ -29,24 +28,12 @@ pub fn entry_written(
     ensures out_after { let known = kind_of kind in
         out.new ≡ entry_out known source.now slots.now out.old }
 {
-    match kind_of(kind as u64) {
-        Known::Is(known) => match write_entry(out, known, slots, source) {
-            Written::Done(size) => EntryWritten {
-                number: 0,
-                length: size,
-            },
-            Written::TooShort => EntryWritten {
-                number: 2,
-                length: 0,
-            },
-            Written::TooLarge => EntryWritten {
-                number: 22,
-                length: 0,
-            },
-        },
-        Known::Unknown => EntryWritten {
-            number: 21,
-            length: 0,
-        },
+    let written = match Kind::try_from(u64::from(kind)) {
+        Ok(kind) => write_entry(out, kind, slots, source).map_err(|why| u8::from(why)),
+        Err(why) => Err(u8::from(why)),
+    };
+    match written {
+        Ok(length) => EntryWritten { number: 0, length },
+        Err(number) => EntryWritten { number, length: 0 },
     }
 }

@@ -8,11 +8,11 @@ use native.Mathlib.Nat.{add_assoc}
 use borrow.Author.Tests.{ltb-true, eqb-true}
 use lib.Dec.{ltb, eqb}
 use lib.ListN.{length, drop, length-append, length-drop}
+use Rattle.std.specs.Prelude.{Option, Some, None, Result, Ok, Err}
+use Rattle.fields.specs.declared.refusal.Refusal.{Refusal}
 use Rattle.octets.proofs.Small.{both}
-use Rattle.leb128.specs.Leb128.{decoded_at, octets_of}
+use Rattle.leb128.specs.Leb128.{Decoded, decoded_at, octets_of}
 use Rattle.leb128.specs.RoundTrips.{Octets}
-use Rattle.leb128.specs.declared.Decoded.{Decoded}
-use Rattle.leb128.specs.declared.Decoded.TheVariants.{Is, Bad}
 use Rattle.leb128.proofs.RoundTrip.{round_trips}
 use Rattle.leb128.proofs.Octets.{at_least_one}
 use Rattle.fields.specs.Fields.{Field, up_to, address, string, none, ◌then◌, list_of, Value, octets}
@@ -27,8 +27,6 @@ use Rattle.entry_laws.specs.RoundTrips.{EntryReads, EntryTold, Entries}
 use Rattle.entries.specs.declared.kind.Kind.{Kind}
 use Rattle.entries.specs.declared.kind.Kind.TheVariants.{OpenBoth, AddIpsec, CloseIke, CloseIpsec, Request}
 use Rattle.entries.specs.declared.kind.Kind.TheVariants.{Policy, CheckResponse, Clone, MarkDeletion}
-use Rattle.entries.specs.declared.kind.Known.{Known}
-use Rattle.entries.specs.declared.kind.Known.TheVariants as known
 
 -- ---- the numbers of every kind have 64 bits at most
 narrow? : Field → Bool
@@ -64,7 +62,7 @@ pub of_kind_lem : (k : Kind) → RoundTrips (fields_of k)
 of_kind_lem k = each_field (fields_of k) (is_narrow (fields_of k) (kind-narrow? k))
 
 -- ---- kinds by their numbers
-kind_back : (k : Kind) → kind_of (kind_number k) ≡ known.Is k
+kind_back : (k : Kind) → kind_of (kind_number k) ≡ Some k
 kind_back OpenBoth = refl
 kind_back AddIpsec = refl
 kind_back CloseIke = refl
@@ -95,23 +93,27 @@ reads_entry e s at rest h d =
     let x = octets_of (kind_number k) in
     let y = octets (fields_of k) e.values in
     let c : drop at s ≡ x ++ (y ++ rest) = d ∙ append_assoc x y rest in
-    let n : decoded_at s at ≡ Is (kind_number k) (at + length x) =
+    let n : decoded_at s at ≡ Some (kind_number k, at + length x) =
     rw c (round_trips.reads_written (kind_number k) at (y ++ rest) (number_small k)) in
     let r = (of_kind_lem k).reads_written e.values s (at + length x) rest h (moved s at x (y ++ rest) c) in
     record { slots = r.slots; reads = rw (n, kind_back k, r.reads, length-append x y, add_assoc) }
 
-pick : (n i : ℕ) (x k : Kind) (rest : Known) → i ≡ kind_number x → (rest ≡ known.Is k → n ≡ kind_number k)
-    → cond (eqb n i) (known.Is x) rest ≡ known.Is k → n ≡ kind_number k
+pick : (n i : ℕ) (x k : Kind) (rest : Option Kind) → i ≡ kind_number x → (rest ≡ Some k → n ≡ kind_number k)
+    → cond (eqb n i) (Some x) rest ≡ Some k → n ≡ kind_number k
 pick n i x k rest h f e = go (eqb n i) refl e
   where
-    go : (b : Bool) → eqb n i ≡ b → cond b (known.Is x) rest ≡ known.Is k → n ≡ kind_number k
+    go : (b : Bool) → eqb n i ≡ b → cond b (Some x) rest ≡ Some k → n ≡ kind_number k
     go true p q = let a : x ≡ k = cc in eqb-true n i p ∙ h ∙ ap kind_number a
     go false p q = f q
 
-not_known : {k : Kind} → known.Unknown ≡ known.Is k → ⊥
+-- what was read is a pair
+pub ok_parts : (k x : Kind) (n m : ℕ) → ◌≡◌ {A = Result (Kind × ℕ) Refusal} (Ok (k, n)) (Ok (x, m)) → (k ≡ x) × (n ≡ m)
+ok_parts k x n m e = let p : ◌≡◌ {A = Kind × ℕ} (k, n) (x, m) = cc in (ap (λ (q : Kind × ℕ). q.0) p, ap (λ (q : Kind × ℕ). q.1) p)
+
+not_known : {k : Kind} → None ≡ Some k → ⊥
 not_known e = let z : ◌≡◌ {A = ℕ} 0 1 = cc in omega arith
 
-pub kind_was : (n : ℕ) (k : Kind) → kind_of n ≡ known.Is k → n ≡ kind_number k
+pub kind_was : (n : ℕ) (k : Kind) → kind_of n ≡ Some k → n ≡ kind_number k
 kind_was n k =
     pick n 0 OpenBoth k _ refl
     (pick n 1 AddIpsec k _ refl
@@ -126,7 +128,7 @@ told_as_lem : {s : List ℕ} {at : ℕ} {e e' : Entry} {slots slots' : List ℕ}
 told_as_lem p q r t = rw (← p, ← q, ← r) t
 
 module _ (s : List ℕ) (at : ℕ) (o : Octets s) (e : Entry) (slots : List ℕ) (next : ℕ) where
-  after_fields : (n m : ℕ) (k : Kind) → decoded_at s at ≡ Is n m → kind_of n ≡ known.Is k
+  after_fields : (n m : ℕ) (k : Kind) → decoded_at s at ≡ Some (n, m) → kind_of n ≡ Some k
       → (r : Reading (Value (fields_of k)))
       → read_at (fields_of k) s m ≡ r → as_entry k r ≡ read e slots next → EntryTold s at e slots next
   after_fields n m k d h (refused why sl) p q = absurd (not_read q)
@@ -151,18 +153,18 @@ module _ (s : List ℕ) (at : ℕ) (o : Octets s) (e : Entry) (slots : List ℕ)
         inside = t.inside;
       })
 
-  after_kind_lem : (n m : ℕ) → decoded_at s at ≡ Is n m → (k : Known) → kind_of n ≡ k → of_kind s m k ≡ read e slots next
+  after_kind_lem : (n m : ℕ) → decoded_at s at ≡ Some (n, m) → (k : Option Kind) → kind_of n ≡ k → of_kind s m k ≡ read e slots next
       → EntryTold s at e slots next
-  after_kind_lem n m d known.Unknown h q = absurd (not_read q)
-  after_kind_lem n m d (known.Is k) h q = after_fields n m k d h (read_at (fields_of k) s m) refl q
+  after_kind_lem n m d None h q = absurd (not_read q)
+  after_kind_lem n m d (Some k) h q = after_fields n m k d h (read_at (fields_of k) s m) refl q
 
   writes_entry : entry_at s at ≡ read e slots next → EntryTold s at e slots next
   unfolding entry_at
   writes_entry q = go (decoded_at s at) refl q
     where
       go : (d : Decoded) → decoded_at s at ≡ d → after_kind s d ≡ read e slots next → EntryTold s at e slots next
-      go Bad d p = absurd (not_read p)
-      go (Is n m) d p = after_kind_lem n m d (kind_of n) refl p
+      go None d p = absurd (not_read p)
+      go (Some (n, m)) d p = after_kind_lem n m d (kind_of n) refl p
 
 pub entries : Entries
 entries =

@@ -4,10 +4,9 @@ use mathlib.Core.Path.{◌≡◌, refl, ap}
 use mathlib.Core.List.{List, ◌++◌}
 use native.Mathlib.Omega.{arith}
 use lib.ListN.{length}
-use Rattle.leb128.specs.Leb128.{decoded_at, octets_of, groups}
+use Rattle.std.specs.Prelude.{Option, Some, None}
+use Rattle.leb128.specs.Leb128.{Decoded, decoded_at, octets_of, groups}
 use Rattle.leb128.specs.RoundTrips.{Octets}
-use Rattle.leb128.specs.declared.Decoded.{Decoded}
-use Rattle.leb128.specs.declared.Decoded.TheVariants.{Is, Bad}
 use Rattle.leb128.proofs.Octets.{octets_small}
 use Rattle.leb128.proofs.Stable.{first_octets}
 use Rattle.fields.specs.Fields.{Value}
@@ -22,8 +21,6 @@ use Rattle.entry_laws.specs.Sight.{entry_most, entry_sight, InSight}
 use Rattle.entries.specs.declared.kind.Kind.{Kind}
 use Rattle.entries.specs.declared.kind.Kind.TheVariants.{OpenBoth, AddIpsec, CloseIke, CloseIpsec, Request}
 use Rattle.entries.specs.declared.kind.Kind.TheVariants.{Policy, CheckResponse, Clone, MarkDeletion}
-use Rattle.entries.specs.declared.kind.Known.{Known}
-use Rattle.entries.specs.declared.kind.Known.TheVariants as known
 use Rattle.entry_laws.proofs.RoundTrips.{kind_was}
 
 each_kind : (k : Kind) → 1 + sight (fields_of k) ≤ entry_sight
@@ -58,7 +55,7 @@ below Clone = omega arith
 below MarkDeletion = omega arith
 
 -- a known kind has one octet
-kind_octet : (n : ℕ) (k : Kind) → kind_of n ≡ known.Is k → length (octets_of n) ≡ 1
+kind_octet : (n : ℕ) (k : Kind) → kind_of n ≡ Some k → length (octets_of n) ≡ 1
 kind_octet n k e = rw (kind_was n k e) (ap length (octets_small (kind_number k) (below k)))
 
 final_entry : (k : Kind) (r : Reading (Value (fields_of k))) → Final (as_entry k r) → Final r
@@ -75,31 +72,31 @@ module _ (s later : List ℕ) (o : Octets (s ++ later)) (at : ℕ) where
   unfolding entry_at
   in_sight h = rw (number_same s later o at (omega arith)) (go (decoded_at s at) refl)
     where
-      of : (n m : ℕ) → decoded_at s at ≡ Is n m → (k : Known) → kind_of n ≡ k → of_kind (s ++ later) m k ≡ of_kind s m k
-      of n m d known.Unknown e = refl
-      of n m d (known.Is k) e =
+      of : (n m : ℕ) → decoded_at s at ≡ Some (n, m) → (k : Option Kind) → kind_of n ≡ k → of_kind (s ++ later) m k ≡ of_kind s m k
+      of n m d None e = refl
+      of n m d (Some k) e =
           let i = number_is s at n m here d in
           let l = kind_octet n k e in
           let w = each_kind k in
           ap (as_entry k) (decided.in_sight (fields_of k) s later m o (omega (arith, i.place)))
 
       go : (d : Decoded) → decoded_at s at ≡ d → after_kind (s ++ later) d ≡ after_kind s d
-      go Bad e = refl
-      go (Is n m) e = of n m e (kind_of n) refl
+      go None e = refl
+      go (Some (n, m)) e = of n m e (kind_of n) refl
 
   stays : at ≤ length s → Final (entry_at s at) → entry_at (s ++ later) at ≡ entry_at s at
   unfolding entry_at
   stays h z = go (decoded_at s at) refl z
     where
-      of : (m : ℕ) → m ≤ length s → (k : Known) → Final (of_kind s m k) → of_kind (s ++ later) m k ≡ of_kind s m k
-      of m l known.Unknown y = refl
-      of m l (known.Is k) y =
+      of : (m : ℕ) → m ≤ length s → (k : Option Kind) → Final (of_kind s m k) → of_kind (s ++ later) m k ≡ of_kind s m k
+      of m l None y = refl
+      of m l (Some k) y =
           ap (as_entry k) (decided.stays (fields_of k) s later m o l (final_entry k (read_at (fields_of k) s m) y))
 
       go : (d : Decoded) → decoded_at s at ≡ d → Final (after_kind s d)
           → after_kind (s ++ later) (decoded_at (s ++ later) at) ≡ after_kind s (decoded_at s at)
-      go Bad e y = absurd y
-      go (Is n m) e y = rw (number_stays s later o at n m h e, e) (of m (number_is s at n m here e).end (kind_of n) y)
+      go None e y = absurd y
+      go (Some (n, m)) e y = rw (number_stays s later o at n m h e, e) (of m (number_is s at n m here e).end (kind_of n) y)
 
 pub sight_of_an_entry : InSight
 sight_of_an_entry =

@@ -10,9 +10,9 @@ use borrow.Author.Tests.{ltb-false}
 use lib.Dec.{ltb}
 use lib.ListN.{length, take, drop, replicate}
 use lib.Seq.{drop-drop, drop-append_seam, get_or-drop}
+use Rattle.std.specs.Prelude.{Some, None}
 use Rattle.leb128.specs.RoundTrips.{Octets}
-use Rattle.leb128.specs.declared.Decoded.{Decoded}
-use Rattle.leb128.specs.declared.Decoded.TheVariants.{Is, Bad}
+use Rattle.leb128.specs.Leb128.{Decoded}
 use Rattle.fields.specs.Reading.{Reading, read, refused, behind, joined, limited, part_at, listed}
 use Rattle.fields.specs.declared.refusal.Refusal.{Refusal}
 use Rattle.fields.specs.declared.refusal.Refusal.TheVariants.{Cut, TooLarge}
@@ -69,17 +69,17 @@ module _ {A B C : Type 0} (join : A → B → C) where
 pub record Limited {A : Type 0} (most : ℕ) (d : Decoded) (k : ℕ → ℕ → Reading A) (r : Reading A) : Type 0 where
   pub n : ℕ
   pub after : ℕ
-  pub number : d ≡ Is n after
+  pub number : d ≡ Some (n, after)
   pub small : n ≤ most
   pub rest : k n after ≡ r
 
 pub limited_is : {A : Type 0} (most : ℕ) (d : Decoded) (k : ℕ → ℕ → Reading A) (v : A) (slots : List ℕ) (next : ℕ)
     → limited most d k ≡ read v slots next → Limited most d k (read v slots next)
-limited_is most Bad k v slots next e = absurd (not_read e)
-limited_is {A} most (Is n m) k v slots next e = go (ltb most n) refl e
+limited_is most None k v slots next e = absurd (not_read e)
+limited_is {A} most (Some (n, m)) k v slots next e = go (ltb most n) refl e
   where
     go : (b : Bool) → ltb most n ≡ b → cond b (refused TooLarge []) (k n m) ≡ read v slots next
-        → Limited most (Is n m) k (read v slots next)
+        → Limited most (Some (n, m)) k (read v slots next)
     go true p q = absurd (not_read q)
     go false p q = record { n = n; after = m; number = refl; small = ltb-false most n p; rest = q }
 

@@ -9,13 +9,12 @@ use borrow.Author.Tests.{le-ltb, ltb-true, ltb-false, leb-true, eqb-true}
 use lib.Dec.{ltb, leb}
 use lib.ListN.{length, get_or, take, drop, length-append, length-drop}
 use lib.Seq.{drop-append-le, take-append-le, get_or-drop}
+use Rattle.std.specs.Prelude.{Some, None}
 use Rattle.octets.specs.Limits.{address_octets}
 use Rattle.octets.specs.Lists.{all}
 use Rattle.octets.proofs.Small.{both}
-use Rattle.leb128.specs.Leb128.{decoded_at, groups, octets_of, groups_most}
+use Rattle.leb128.specs.Leb128.{Decoded, decoded_at, groups, octets_of, groups_most}
 use Rattle.leb128.specs.RoundTrips.{Octets}
-use Rattle.leb128.specs.declared.Decoded.{Decoded}
-use Rattle.leb128.specs.declared.Decoded.TheVariants.{Is, Bad}
 use Rattle.leb128.proofs.Octets.{groups_small, groups_large}
 use Rattle.leb128.proofs.Stable.{first_octets, stays_read, stays_refused}
 use Rattle.fields.specs.Fields.{Field, up_to, address, string, none, ◌then◌, list_of, Value, fits, octets, each_of}
@@ -95,21 +94,21 @@ module _ {A B C : Type 0} (join : A → B → C) where
   joined_stays (read v sl n) x k l f h z = rw (f tt) (ap (behind join v sl) (h v sl n refl (final_behind v sl (k n) z)))
 
 module _ {A : Type 0} (most : ℕ) where
-  limited_same : (d : Decoded) (k l : ℕ → ℕ → Reading A) → ((n m : ℕ) → d ≡ Is n m → n ≤ most → k n m ≡ l n m)
+  limited_same : (d : Decoded) (k l : ℕ → ℕ → Reading A) → ((n m : ℕ) → d ≡ Some (n, m) → n ≤ most → k n m ≡ l n m)
       → limited most d k ≡ limited most d l
-  limited_same Bad k l h = refl
-  limited_same (Is n m) k l h = go (ltb most n) refl
+  limited_same None k l h = refl
+  limited_same (Some (n, m)) k l h = go (ltb most n) refl
     where
       go : (b : Bool) → ltb most n ≡ b
           → cond (ltb most n) (refused TooLarge []) (k n m) ≡ cond (ltb most n) (refused TooLarge []) (l n m)
       go true p = rw p
       go false p = rw (p, h n m refl (ltb-false most n p))
 
-  limited_stays : (d x : Decoded) (k l : ℕ → ℕ → Reading A) → ((n m : ℕ) → d ≡ Is n m → x ≡ Is n m)
-      → ((n m : ℕ) → d ≡ Is n m → n ≤ most → Final (k n m) → l n m ≡ k n m) → Final (limited most d k)
+  limited_stays : (d x : Decoded) (k l : ℕ → ℕ → Reading A) → ((n m : ℕ) → d ≡ Some (n, m) → x ≡ Some (n, m))
+      → ((n m : ℕ) → d ≡ Some (n, m) → n ≤ most → Final (k n m) → l n m ≡ k n m) → Final (limited most d k)
       → limited most x l ≡ limited most d k
-  limited_stays Bad x k l f h z = absurd z
-  limited_stays (Is n m) x k l f h z = rw (f n m refl) (go (ltb most n) refl z)
+  limited_stays None x k l f h z = absurd z
+  limited_stays (Some (n, m)) x k l f h z = rw (f n m refl) (go (ltb most n) refl z)
     where
       go : (b : Bool) → ltb most n ≡ b → Final (cond b (refused TooLarge []) (k n m))
           → cond (ltb most n) (refused TooLarge []) (l n m) ≡ cond (ltb most n) (refused TooLarge []) (k n m)
@@ -139,7 +138,7 @@ module _ (s later : List ℕ) (o : Octets (s ++ later)) where
       let p : get_or (drop at (s ++ later)) i 0 ≡ get_or (s ++ later) (at + i) 0 = get_or-drop at (s ++ later) i 0 in
       rw (← drop-append-le at s later h, p) (o (at + i))
 
-  pub number_stays : (at n m : ℕ) → at ≤ length s → decoded_at s at ≡ Is n m → decoded_at (s ++ later) at ≡ Is n m
+  pub number_stays : (at n m : ℕ) → at ≤ length s → decoded_at s at ≡ Some (n, m) → decoded_at (s ++ later) at ≡ Some (n, m)
   number_stays at n m h e =
       rw (drop-append-le at s later h)
       (stays_read (drop at s) later at n m (first_octets (drop at s) later (tail_octets at h)) e)
@@ -148,8 +147,8 @@ module _ (s later : List ℕ) (o : Octets (s ++ later)) where
   number_same at h = go (decoded_at s at) refl
     where
       go : (r : Decoded) → decoded_at s at ≡ r → decoded_at (s ++ later) at ≡ r
-      go (Is n m) e = number_stays at n m (omega arith) e
-      go Bad e =
+      go (Some (n, m)) e = number_stays at n m (omega arith) e
+      go None e =
           rw (drop-append-le at s later (omega arith))
           (stays_refused (drop at s) later at (tail_octets at (omega arith)) (simp length-drop (omega arith)) e)
 

@@ -8,12 +8,12 @@ use native.Mathlib.Nat.{add-zero, zero-mul, suc-mul, mul-le-mul_right}
 use borrow.Author.Tests.{le-leb, eq-eqb}
 use lib.ListN.{length, take, drop, replicate, length-append, length-drop, length-replicate, take-append-drop}
 use lib.Seq.{drop-drop, drop_at, length-take-le}
+use Rattle.std.specs.Prelude.{Some}
 use Rattle.octets.specs.Limits.{address_octets}
 use Rattle.octets.specs.Lists.{all}
 use Rattle.octets.proofs.Small.{and_true}
 use Rattle.leb128.specs.Leb128.{decoded_at, octets_of}
 use Rattle.leb128.specs.RoundTrips.{Octets}
-use Rattle.leb128.specs.declared.Decoded.TheVariants.{Is}
 use Rattle.leb128.proofs.RoundTrip.{round_trips}
 use Rattle.leb128.proofs.Stable.{within}
 use Rattle.fields.specs.Fields.{Field, up_to, address, string, none, ◌then◌, list_of, Value, fits, octets, each_of}
@@ -31,11 +31,11 @@ pub record Number (s : List ℕ) (at n next : ℕ) : Type 0 where
   pub written : drop at s ≡ octets_of n ++ drop next s
   pub end : next ≤ length s
 
-pub number_is : (s : List ℕ) (at n next : ℕ) → Octets s → decoded_at s at ≡ Is n next → Number s at n next
+pub number_is : (s : List ℕ) (at n next : ℕ) → Octets s → decoded_at s at ≡ Some (n, next) → Number s at n next
 number_is s at n next o e =
     let t = tail_octets s at o in
     let w = round_trips.writes_read (drop at s) at n next t e in
-    let i = within s at o (Is n next) e in
+    let i = within s at o (Some (n, next)) e in
     let j = i.0 in
     let back : at + (next - at) ≡ next = omega arith in
     record {

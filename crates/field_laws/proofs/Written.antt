@@ -9,11 +9,11 @@ use borrow.Author.Tests.{le-ltb, leb-true, eqb-true}
 use lib.Dec.{leb}
 use lib.ListN.{length, drop, replicate, length-append, length-drop}
 use lib.Seq.{take_at}
+use Rattle.std.specs.Prelude.{Some}
 use Rattle.octets.specs.Limits.{address_octets}
 use Rattle.octets.specs.Lists.{all}
 use Rattle.octets.proofs.Small.{both}
 use Rattle.leb128.specs.Leb128.{decoded_at, octets_of}
-use Rattle.leb128.specs.declared.Decoded.TheVariants.{Is}
 use Rattle.leb128.proofs.RoundTrip.{round_trips}
 use Rattle.fields.specs.Fields.{Field, up_to, address, string, none, ◌then◌, list_of, Value, fits, octets, each_of}
 use Rattle.fields.specs.Fields.{string_most, list_most}
@@ -23,7 +23,7 @@ use Rattle.fields.specs.Slots.{width}
 use Rattle.field_laws.proofs.Parts.{moved}
 
 number_there : (s : List ℕ) (at n : ℕ) (rest : List ℕ) → n < 2 ^ 64 → drop at s ≡ octets_of n ++ rest
-    → decoded_at s at ≡ Is n (at + length (octets_of n))
+    → decoded_at s at ≡ Some (n, at + length (octets_of n))
 number_there s at n rest h e = rw e (round_trips.reads_written n at rest h)
 
 -- octets that stand there are within the buffer

@@ -7,13 +7,14 @@ use borrow.Author.Tests.{lt-leb, le-leb}
 use lib.Dec.{leb}
 use lib.ListN.{length, get_or, drop, length-append}
 use lib.Seq.{drop-drop}
+use Rattle.std.specs.Prelude.{Result, Err}
 use Rattle.leb128.specs.Leb128.{octets_of}
+use Rattle.fields.specs.declared.room.Unfit.{Unfit}
+use Rattle.fields.specs.declared.room.Unfit.TheVariants.{TooShort, TooLarge}
 use Rattle.fields.specs.Fields.{Field, in_order, list_of, octets, each_of, list_most}
 use Rattle.fields.specs.Slots.{width, items_in, all_in, value_in, fits_in}
 use Rattle.fields.specs.Codes.{field_of, table_of, follow, copies, run_from}
 use Rattle.fields.specs.Writing.{octets_in, less_by, room_in}
-use Rattle.fields.specs.declared.room.Room.{Room}
-use Rattle.fields.specs.declared.room.Room.TheVariants.{TooLarge}
 use Rattle.fields.proofs.Lists.{run_copies}
 use Rattle.fields.proofs.Rooms.{first_slot, less_both}
 
@@ -84,11 +85,11 @@ module _ (codes s slots : List ℕ) (slot : ℕ) where
       )
       (ap (λ (l : List ℕ). octets_of k ++ l) (sym (copies_octets s (map field_of codes) k (drop (slot + 1) slots))))
 
-  pub list_large : (room : Room) → list_most < get_or slots slot 0
-      → TooLarge ≡ room_in (list_of (table_of codes)) s (drop slot slots) room
+  pub list_large : (room : Result ℕ Unfit) → list_most < get_or slots slot 0
+      → Err TooLarge ≡ room_in (list_of (table_of codes)) s (drop slot slots) room
   list_large room h = rw (list_fits_lem, lt-leb (get_or slots slot 0) list_most h)
 
-  pub list_room : (room : Room) → get_or slots slot 0 ≤ list_most
+  pub list_room : (room : Result ℕ Unfit) → get_or slots slot 0 ≤ list_most
       → room_in (run_from codes (length codes) (get_or slots slot 0)) s (drop (slot + 1) slots)
       (less_by (length (octets_of (get_or slots slot 0))) room)
       ≡ room_in (list_of (table_of codes)) s (drop slot slots) room

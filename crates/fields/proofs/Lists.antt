@@ -6,16 +6,15 @@ use native.Mathlib.Omega.{arith}
 use native.Mathlib.Nat.{mul-le-mul_right, suc-mul, zero-mul}
 use borrow.Author.Tests.{lt-ltb, le-ltb}
 use lib.ListN.{length, set, replicate, length-set, length-replicate}
+use Rattle.std.specs.Prelude.{Some, None, Ok, Err}
 use Rattle.writing.specs.Notify.{placed}
 use Rattle.writing.proofs.Placed.{placed_then}
 use Rattle.leb128.specs.Leb128.{decoded_at}
-use Rattle.leb128.specs.declared.Decoded.TheVariants.{Is, Bad}
 use Rattle.leb128.proofs.Placed.{placed_cons}
 use Rattle.fields.specs.Fields.{Field, in_order, list_of, Value, list_most}
 use Rattle.fields.specs.Slots.{width}
 use Rattle.fields.specs.Reading.{Reading, read, refused, behind, joined, times, listed, read_at, step_of, slots_of}
 use Rattle.fields.specs.Codes.{field_of, table_of, follow, copies, run_from, ReadsTo}
-use Rattle.fields.specs.declared.step.Step.TheVariants.{At, Refused}
 use Rattle.fields.specs.declared.refusal.Refusal.{Refusal}
 use Rattle.fields.specs.declared.refusal.Refusal.TheVariants.{Cut, TooLarge}
 use Rattle.fields.proofs.Sized.{Sized, sized, times_sized}
@@ -111,16 +110,16 @@ width_run codes n = rw (run_copies codes n) (width_copies (map field_of codes) n
 
 -- ---- the list
 module _ (s : List ℕ) (at : ℕ) (slots : List ℕ) (slot : ℕ) (codes : List ℕ) where
-  pub list_bad : decoded_at s at ≡ Bad → ReadsTo (list_of (table_of codes)) s at slots slot slots (Refused Cut)
+  pub list_bad : decoded_at s at ≡ None → ReadsTo (list_of (table_of codes)) s at slots slot slots (Err Cut)
   unfolding read_at
   list_bad e = to_refused (list_of (table_of codes)) s at slots slot Cut (rw e)
 
-  pub list_large : (n next : ℕ) → decoded_at s at ≡ Is n next → list_most < n
-      → ReadsTo (list_of (table_of codes)) s at slots slot slots (Refused TooLarge)
+  pub list_large : (n next : ℕ) → decoded_at s at ≡ Some (n, next) → list_most < n
+      → ReadsTo (list_of (table_of codes)) s at slots slot slots (Err TooLarge)
   unfolding read_at
   list_large n next e l = to_refused (list_of (table_of codes)) s at slots slot TooLarge (rw (e, lt-ltb list_most n l))
 
-  module _ (n next : ℕ) (e : decoded_at s at ≡ Is n next) (l : n ≤ list_most)
+  module _ (n next : ℕ) (e : decoded_at s at ≡ Some (n, next)) (l : n ≤ list_most)
       (room : slot + (1 + list_most * width (table_of codes)) ≤ length slots) where
     items : Reading (List (Value (table_of codes)))
     items = times n (read_at (table_of codes) s) next
@@ -134,24 +133,24 @@ module _ (s : List ℕ) (at : ℕ) (slots : List ℕ) (slot : ℕ) (codes : List
     alike = rw (run_copies codes n) (copies_like s (map field_of codes) n next)
 
     pub list_refused : (left : List ℕ) (why : Refusal)
-        → ReadsTo (run_from codes (length codes) n) s next (set slots slot n) (slot + 1) left (Refused why)
-        → ReadsTo (list_of (table_of codes)) s at slots slot left (Refused why)
+        → ReadsTo (run_from codes (length codes) n) s next (set slots slot n) (slot + 1) left (Err why)
+        → ReadsTo (list_of (table_of codes)) s at slots slot left (Err why)
     list_refused left why t =
         let q = go items (t.step ∙ alike.step) (t.told ∙ rw alike.slots) in
         record { step = rw whole q.0; told = rw whole q.1; within = tt }
       where
-        go : (r : Reading (List (Value (table_of codes)))) → Refused why ≡ step_of r
+        go : (r : Reading (List (Value (table_of codes)))) → Err why ≡ step_of r
             → left ≡ placed (set slots slot n) (slot + 1) (slots_of r)
             → let q = listed n (list_most * width (table_of codes)) r in
-            (Refused why ≡ step_of q) × (left ≡ placed slots slot (slots_of q))
+            (Err why ≡ step_of q) × (left ≡ placed slots slot (slots_of q))
         go (refused x sl) p q = (p, q ∙ placed_cons slots slot n sl (omega arith))
         go (read v sl m) p q = absurd (not_at p)
 
     pub list_read : (mid left : List ℕ) (end from to : ℕ) → from ≡ slot + 1 + n * width (table_of codes)
         → to ≡ slot + 1 + list_most * width (table_of codes)
-        → ReadsTo (run_from codes (length codes) n) s next (set slots slot n) (slot + 1) mid (At end)
+        → ReadsTo (run_from codes (length codes) n) s next (set slots slot n) (slot + 1) mid (Ok end)
         → left ≡ placed mid from (replicate (to - from) 0)
-        → ReadsTo (list_of (table_of codes)) s at slots slot left (At end)
+        → ReadsTo (list_of (table_of codes)) s at slots slot left (Ok end)
     unfolding items
     list_read mid left end from to f o t z =
         let q = go items (sizes) (t.step ∙ alike.step) (t.told ∙ rw alike.slots) in
@@ -160,10 +159,10 @@ module _ (s : List ℕ) (at : ℕ) (slots : List ℕ) (slot : ℕ) (codes : List
         sizes : Sized (n * width (table_of codes)) items
         sizes = times_sized (width (table_of codes)) (read_at (table_of codes) s) (sized (table_of codes) s) n next
 
-        go : (r : Reading (List (Value (table_of codes)))) → Sized (n * width (table_of codes)) r → At end ≡ step_of r
+        go : (r : Reading (List (Value (table_of codes)))) → Sized (n * width (table_of codes)) r → Ok end ≡ step_of r
             → mid ≡ placed (set slots slot n) (slot + 1) (slots_of r)
             → let q = listed n (list_most * width (table_of codes)) r in
-            (At end ≡ step_of q) × (left ≡ placed slots slot (slots_of q))
+            (Ok end ≡ step_of q) × (left ≡ placed slots slot (slots_of q))
         go (refused x sl) k p q = absurd (not_at (sym p))
         go (read v sl m) k p q =
             let zeros : List ℕ = replicate (list_most * width (table_of codes) - length sl) 0 in

@@ -7,14 +7,13 @@ use native.Mathlib.Numerals.{add-one}
 use native.Mathlib.Nat.{suc-mul}
 use lib.ListN.{length, get_or, drop, length-map, drop_of_length-le, get_or-map}
 use lib.Seq.{drop-cons}
+use Rattle.std.specs.Prelude.{Result, Ok, Err}
 use Rattle.writing.specs.Notify.{placed}
 use Rattle.writing.proofs.Placed.{placed_none, placed_then}
 use Rattle.fields.specs.Fields.{Field, none, ◌then◌, in_order, Value}
 use Rattle.fields.specs.Slots.{width}
 use Rattle.fields.specs.Reading.{Reading, read, refused, behind, joined, read_at, step_of, slots_of}
 use Rattle.fields.specs.Codes.{field_of, table_of, follow, copies, run_from, ReadsTo}
-use Rattle.fields.specs.declared.step.Step.{Step}
-use Rattle.fields.specs.declared.step.Step.TheVariants.{At, Refused}
 use Rattle.fields.specs.declared.refusal.Refusal.{Refusal}
 use Rattle.fields.proofs.Sized.{Sized, at_most, sized}
 
@@ -67,11 +66,11 @@ module _ {A B C : Type 0} (join : A → B → C) (a : A) (slots : List ℕ) wher
   behind_slots (read b more next) = refl
   behind_slots (refused why more) = refl
 
-pub not_at : {why : Refusal} {n : ℕ} → Refused why ≡ At n → ⊥
+pub not_at : {why : Refusal} {n : ℕ} → Err why ≡ Ok n → ⊥
 not_at e = let z : ◌≡◌ {A = ℕ} 0 1 = cc in omega arith
 
 pub reads_none : (s : List ℕ) (at : ℕ) (slots : List ℕ) (slot : ℕ) → at ≤ length s
-    → ReadsTo none s at slots slot slots (At at)
+    → ReadsTo none s at slots slot slots (Ok at)
 unfolding read_at
 reads_none s at slots slot h = record { step = refl; told = sym (placed_none slots slot); within = h }
 
@@ -80,26 +79,26 @@ module _ (f g : Field) (s : List ℕ) (at : ℕ) (slots : List ℕ) (slot : ℕ)
   begun : Reading (Value f) → Reading (Value f × Value g)
   begun r = joined (λ v w. (v, w)) r (read_at g s)
 
-  pub then_refused : (left : List ℕ) (why : Refusal) → ReadsTo f s at slots slot left (Refused why)
-      → ReadsTo (f then g) s at slots slot left (Refused why)
+  pub then_refused : (left : List ℕ) (why : Refusal) → ReadsTo f s at slots slot left (Err why)
+      → ReadsTo (f then g) s at slots slot left (Err why)
   unfolding read_at begun
   then_refused left why t = let r = go (read_at f s at) t.step t.told in
       record { step = r.0; told = r.1; within = tt }
     where
-      go : (r : Reading (Value f)) → Refused why ≡ step_of r → left ≡ placed slots slot (slots_of r)
-          → (Refused why ≡ step_of (begun r)) × (left ≡ placed slots slot (slots_of (begun r)))
+      go : (r : Reading (Value f)) → Err why ≡ step_of r → left ≡ placed slots slot (slots_of r)
+          → (Err why ≡ step_of (begun r)) × (left ≡ placed slots slot (slots_of (begun r)))
       go (refused x sl) e p = (e, p)
       go (read v sl n) e p = absurd (not_at e)
 
-  pub then_read : (next : ℕ) (mid left : List ℕ) (r : Step) → slot + (width f + width g) ≤ length slots
-      → ReadsTo f s at slots slot mid (At next) → ReadsTo g s next mid (slot + width f) left r
+  pub then_read : (next : ℕ) (mid left : List ℕ) (r : Result ℕ Refusal) → slot + (width f + width g) ≤ length slots
+      → ReadsTo f s at slots slot mid (Ok next) → ReadsTo g s next mid (slot + width f) left r
       → ReadsTo (f then g) s at slots slot left r
   unfolding read_at begun
   then_read next mid left r h t u =
       let q = go (read_at f s at) (sized f s at) t.step t.told in
       record { step = q.0; told = q.1; within = u.within }
     where
-      go : (q : Reading (Value f)) → Sized (width f) q → At next ≡ step_of q → mid ≡ placed slots slot (slots_of q)
+      go : (q : Reading (Value f)) → Sized (width f) q → Ok next ≡ step_of q → mid ≡ placed slots slot (slots_of q)
           → (r ≡ step_of (begun q)) × (left ≡ placed slots slot (slots_of (begun q)))
       go (refused x sl) l e p = absurd (not_at (sym e))
       go (read v sl n) l e p =

@@ -8,10 +8,9 @@ use native.Mathlib.Nat.{suc-mul, zero-mul, mul-le-mul_right}
 use borrow.Author.Tests.{ltb-false}
 use lib.Dec.{ltb}
 use lib.ListN.{length, take, drop, replicate, length-append, length-replicate}
+use Rattle.std.specs.Prelude.{Some, None}
 use Rattle.octets.specs.Limits.{address_octets}
-use Rattle.leb128.specs.Leb128.{decoded_at}
-use Rattle.leb128.specs.declared.Decoded.{Decoded}
-use Rattle.leb128.specs.declared.Decoded.TheVariants.{Is, Bad}
+use Rattle.leb128.specs.Leb128.{Decoded, decoded_at}
 use Rattle.fields.specs.Fields.{Field, up_to, address, string, none, ◌then◌, list_of, string_most, list_most}
 use Rattle.fields.specs.Reading.{Reading, read, refused, behind, joined, times, limited, part_at, listed, read_at}
 use Rattle.fields.specs.Reading.{slots_of}
@@ -56,8 +55,8 @@ listed_sized n w (read v slots next) l h =
 
 limited_sized : {A : Type 0} (w most : ℕ) (d : Decoded) (k : ℕ → ℕ → Reading A)
     → ((n m : ℕ) → n ≤ most → Sized w (k n m)) → Sized w (limited most d k)
-limited_sized w most Bad k h = omega arith
-limited_sized w most (Is n m) k h = go (ltb most n) refl
+limited_sized w most None k h = omega arith
+limited_sized w most (Some (n, m)) k h = go (ltb most n) refl
   where
     go : (b : Bool) → ltb most n ≡ b → Sized w (cond b (refused TooLarge []) (k n m))
     go true p = omega arith

@@ -1,13 +1,12 @@
 -- Inner. Tables of fields as the code has them, an octet for each field, and how far the code has come in one. `specs/`
 -- of whoever has a table says which fields its octets are.
-use Rattle.std.specs.Prelude.{ℕ, zero, suc, ◌+◌, ◌≤◌, ◌≡◌, true, cond, List, [], ◌∷◌, map, eqb, length, drop}
+use Rattle.std.specs.Prelude.{ℕ, zero, suc, ◌+◌, ◌≤◌, ◌≡◌, true, cond, List, [], ◌∷◌, map, eqb, length, drop, Result, Ok, Err}
 use Rattle.writing.specs.Notify.{placed}
 use Rattle.fields.specs.Fields.{Field, up_to, address, string, none, ◌then◌, in_order}
 use Rattle.fields.specs.Slots.{width, fits_in}
 use Rattle.fields.specs.Writing.{octets_in}
 use Rattle.fields.specs.Reading.{read_at, step_of, slots_of}
-use Rattle.fields.specs.declared.step.Step.{Step}
-use Rattle.fields.specs.declared.step.Step.TheVariants.{At, Refused}
+use Rattle.fields.specs.declared.refusal.Refusal.{Refusal}
 
 abbrev pub most_of : ℕ → ℕ
 most_of bits =
@@ -38,11 +37,11 @@ run_from codes i left = follow (drop i (map field_of codes)) (copies left (map f
 -- ---- what reading a field leaves: the offset after it or why it is refused, and the slots
 
 -- what was read ends within the buffer
-abbrev pub Within : List ℕ → Step → Type 0
-Within s (At next) = next ≤ length s
-Within s (Refused why) = Unit {0}
+abbrev pub Within : List ℕ → Result ℕ Refusal → Type 0
+Within s (Ok next) = next ≤ length s
+Within s (Err why) = Unit {0}
 
-pub record ReadsTo (f : Field) (s : List ℕ) (at : ℕ) (slots : List ℕ) (slot : ℕ) (left : List ℕ) (r : Step) : Type
+pub record ReadsTo (f : Field) (s : List ℕ) (at : ℕ) (slots : List ℕ) (slot : ℕ) (left : List ℕ) (r : Result ℕ Refusal) : Type
     0 where
   pub step : r ≡ step_of (read_at f s at)
   pub told : left ≡ placed slots slot (slots_of (read_at f s at))

@@ -4,15 +4,11 @@
 --   refused why slots      Cut (20) or TooLarge (22), and what was told of the fields before
 --   step_of, slots_of        what is told of a reading: the offset after it or why it is refused, and the slots
 -- Order of the checks: a number, length or count: 20, then 22; then the octets or the items behind it: 20.
-use Rattle.std.specs.Prelude.{ℕ, zero, suc, ◌+◌, ◌-◌, ◌*◌, cond, List, [], ◌∷◌, ◌++◌, ltb, length, take, drop, replicate}
+use Rattle.std.specs.Prelude.{ℕ, zero, suc, ◌+◌, ◌-◌, ◌*◌, cond, List, [], ◌∷◌, ◌++◌, ltb, length, take, drop, replicate, Some, None, Result, Ok, Err}
 use Rattle.octets.specs.Limits.{address_octets}
-use Rattle.leb128.specs.Leb128.{decoded_at}
-use Rattle.leb128.specs.declared.Decoded.{Decoded}
-use Rattle.leb128.specs.declared.Decoded.TheVariants.{Is, Bad}
+use Rattle.leb128.specs.Leb128.{Decoded, decoded_at}
 use Rattle.fields.specs.Fields.{Field, up_to, address, string, none, ◌then◌, list_of, Value, string_most, list_most}
 use Rattle.fields.specs.Slots.{width}
-use Rattle.fields.specs.declared.step.Step.{Step}
-use Rattle.fields.specs.declared.step.Step.TheVariants.{At, Refused}
 use Rattle.fields.specs.declared.refusal.Refusal.{Refusal}
 use Rattle.fields.specs.declared.refusal.Refusal.TheVariants.{Cut, TooLarge}
 
@@ -40,8 +36,8 @@ times (suc n) item at = joined ◌∷◌ (item at) (times n item)
 
 -- "20 ... number not shortest or past 64 bits", "22 number ... too large for its field"
 abbrev pub limited : {A : Type 0} → ℕ → Decoded → (ℕ → ℕ → Reading A) → Reading A
-limited most Bad k = refused Cut []
-limited most (Is v next) k = cond (ltb most v) (refused TooLarge []) (k v next)
+limited most None k = refused Cut []
+limited most (Some (v, next)) k = cond (ltb most v) (refused TooLarge []) (k v next)
 
 -- so many octets. "20 cut entry"
 abbrev pub part_at : ℕ → List ℕ → ℕ → List ℕ → Reading (List ℕ)
@@ -62,9 +58,9 @@ read_at (list_of f) s at =
     limited list_most (decoded_at s at) (λ n next. listed n (list_most * width f) (times n (read_at f s) next))
 
 -- ---- what is told
-abbrev pub step_of : {A : Type 0} → Reading A → Step
-step_of (read v slots next) = At next
-step_of (refused why slots) = Refused why
+abbrev pub step_of : {A : Type 0} → Reading A → Result ℕ Refusal
+step_of (read v slots next) = Ok next
+step_of (refused why slots) = Err why
 
 abbrev pub slots_of : {A : Type 0} → Reading A → List ℕ
 slots_of (read v slots next) = slots

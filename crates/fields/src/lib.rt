@@ -5,4 +5,3 @@
 pub mod codes;
 pub mod refusal;
 pub mod room;
-pub mod step;

@@ -2,7 +2,7 @@
 ghost use Rattle.std.specs.Prelude.{◌≡◌};
 ghost use Rattle.fields.specs.Refusals.{refusal_number};
 
-#[derive(Clone, Copy)]
+#[derive(Clone, Copy, Debug, PartialEq, Eq)]
 pub enum Refusal {
     // cut, or a number not shortest or past 64 bits
     Cut,
@@ -12,12 +12,14 @@ pub enum Refusal {
 }
 
 // As it is told.
-pub fn refusal_number(why: Refusal) -> u8
-    ensures { result ≡ refusal_number why }
-{
-    match why {
-        Refusal::Cut => 20,
-        Refusal::UnknownKind => 21,
-        Refusal::TooLarge => 22,
+impl From<Refusal> for u8 {
+    ghost from_gives = { λ why told. told ≡ refusal_number why };
+
+    fn from(why: Refusal) -> u8 {
+        match why {
+            Refusal::Cut => 20,
+            Refusal::UnknownKind => 21,
+            Refusal::TooLarge => 22,
+        }
     }
 }

@@ -1,29 +1,31 @@
-// What is left of the room of an output.
+// What is left of the room of an output, as octets.
 ghost use Rattle.std.specs.Prelude.{◌≡◌};
-ghost use Rattle.fields.specs.Writing.{less_by};
+ghost use Rattle.fields.specs.Writing.{less_by, unfit_number};
 
-#[derive(Clone, Copy)]
-pub enum Room {
-    // so many octets are left
-    Left(usize),
-    // the output is too short
-    Short,
-    // a value does not fit its field
+// Why nothing is written.
+#[derive(Clone, Copy, Debug, PartialEq, Eq)]
+pub enum Unfit {
+    // the output
+    TooShort,
+    // a value, for its field
     TooLarge,
 }
 
+// As it is told.
+impl From<Unfit> for u8 {
+    ghost from_gives = { λ why told. told ≡ unfit_number why };
+
+    fn from(why: Unfit) -> u8 {
+        match why {
+            Unfit::TooShort => 2,
+            Unfit::TooLarge => 22,
+        }
+    }
+}
+
 // So many octets more.
-pub fn less_by(size: usize, room: Room) -> Room
+pub fn less_by(size: usize, room: Result<usize, Unfit>) -> Result<usize, Unfit>
     ensures { result ≡ less_by size room }
 {
-    match room {
-        Room::Left(n) => {
-            if n < size {
-                return Room::Short;
-            }
-            Room::Left(n - size)
-        }
-        Room::Short => Room::Short,
-        Room::TooLarge => Room::TooLarge,
-    }
+    room?.checked_sub(size).ok_or(Unfit::TooShort)
 }

@@ -13,8 +13,8 @@ use lib.Seq.{take-append-le, take-append_seam, get_or-drop}
 use Rattle.leb128.specs.Leb128.{decoded, decoded_at, octets_of}
 use Rattle.leb128.specs.Within.{Within}
 use Rattle.leb128.specs.RoundTrips.{Octets, Settled}
-use Rattle.leb128.specs.declared.Decoded.{Decoded}
-use Rattle.leb128.specs.declared.Decoded.TheVariants.{Is, Bad}
+use Rattle.leb128.specs.Leb128.{Decoded}
+use Rattle.std.specs.Prelude.{Some, None}
 use Rattle.leb128.proofs.Octets.{at_most_ten, at_least_one}
 use Rattle.leb128.proofs.RoundTrip.{round_trips}
 
@@ -26,20 +26,20 @@ first_octets s t o i = go (ltb i (length s)) refl
     go true p = rw (get_or-append s t 0 i (ltb-true i (length s) p)) at (o i)
     go false p = rw (get_or-eq_default s 0 (ltb-false i (length s) p)) (omega arith)
 
-pub stays_read : (s t : List ℕ) (at v n : ℕ) → Octets s → decoded s at ≡ Is v n → decoded (s ++ t) at ≡ Is v n
+pub stays_read : (s t : List ℕ) (at v n : ℕ) → Octets s → decoded s at ≡ Some (v, n) → decoded (s ++ t) at ≡ Some (v, n)
 stays_read s t at v n o e =
     let w = round_trips.writes_read s at v n o e in
     let f : s ++ t ≡ octets_of v ++ (drop (n - at) s ++ t) =
     ap (λ (l : List ℕ). l ++ t) w.2 ∙ append_assoc (octets_of v) (drop (n - at) s) t in
     rw f (round_trips.reads_written v at (drop (n - at) s ++ t) w.0 ∙ rw (← w.1))
 
-pub stays_refused : (s t : List ℕ) (at : ℕ) → Octets (s ++ t) → 10 ≤ length s → decoded s at ≡ Bad
-    → decoded (s ++ t) at ≡ Bad
+pub stays_refused : (s t : List ℕ) (at : ℕ) → Octets (s ++ t) → 10 ≤ length s → decoded s at ≡ None
+    → decoded (s ++ t) at ≡ None
 stays_refused s t at o l e = go (decoded (s ++ t) at) refl
   where
-    go : (r : Decoded) → decoded (s ++ t) at ≡ r → decoded (s ++ t) at ≡ Bad
-    go Bad f = f
-    go (Is v n) f =
+    go : (r : Decoded) → decoded (s ++ t) at ≡ r → decoded (s ++ t) at ≡ None
+    go None f = f
+    go (Some (v, n)) f =
         let w = round_trips.writes_read (s ++ t) at v n o f in
         let k = length (octets_of v) in
         let m : k ≤ length s = omega (arith, at_most_ten v) in
@@ -50,7 +50,7 @@ stays_refused s t at o l e = go (decoded (s ++ t) at) refl
         absurd (round_trips.refused s at e (record { number = v; rest = drop k s; fits = w.0; octets = b }))
 
 -- a number read from the window ends in it
-pub ends_within : (s : List ℕ) (at v n : ℕ) → Octets s → decoded s at ≡ Is v n → (at < n) × (n ≤ at + length s)
+pub ends_within : (s : List ℕ) (at v n : ℕ) → Octets s → decoded s at ≡ Some (v, n) → (at < n) × (n ≤ at + length s)
 ends_within s at v n o e =
     let w = round_trips.writes_read s at v n o e in
     let l = ap length w.2 in
@@ -58,8 +58,8 @@ ends_within s at v n o e =
     (omega (arith, at_least_one v), omega (arith, simp length-append at l))
 
 pub within : (s : List ℕ) (at : ℕ) → Octets s → (r : Decoded) → decoded_at s at ≡ r → Within s at r
-within s at o Bad e = tt
-within s at o (Is v n) e =
+within s at o None e = tt
+within s at o (Some (v, n)) e =
     let p : Octets (drop at s) = λ i. rw (get_or-drop at s i 0) (o (at + i)) in
     let w = ends_within (drop at s) at v n p e in
     let l = w.1 in

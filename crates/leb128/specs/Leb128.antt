@@ -2,14 +2,12 @@
 --   octets_of n       the octets of a number
 --   decoded os at    the number that the octets begin with; `at` is the offset of the first of them in a buffer
 --   decoded_at s at   the number at an offset of a buffer
---   Is v next, Bad   what was read: a number and the offset after it, or nothing that is one (refused with 20)
+--   Decoded           what was read: a number and the offset after it, or nothing that is one (refused with 20)
 --
 --   300 is 2 * 128 + 44:   AC            02
 --                          1 0101100     0 0000010
 --                          more, 44      last, 2
-use Rattle.std.specs.Prelude.{ℕ, zero, suc, ◌+◌, ◌-◌, ◌*◌, ◌/◌, ◌%◌, ◌^◌, cond, List, [], ◌∷◌, ltb, leb, eqb, drop}
-use Rattle.leb128.specs.declared.Decoded.{Decoded}
-use Rattle.leb128.specs.declared.Decoded.TheVariants.{Is, Bad}
+use Rattle.std.specs.Prelude.{ℕ, zero, suc, ◌+◌, ◌-◌, ◌*◌, ◌/◌, ◌%◌, ◌^◌, cond, List, [], ◌∷◌, ltb, leb, eqb, drop, Option, Some, None}
 
 -- "Numbers are groups of seven bits, lowest group first, top bit set on all but the last": at most k groups
 unfoldable pub groups : ℕ → ℕ → List ℕ
@@ -23,16 +21,19 @@ groups_most = 10
 unfoldable pub octets_of : ℕ → List ℕ
 octets_of n = groups groups_most n
 
+abbrev pub Decoded : Type 0
+Decoded = Option (ℕ × ℕ)
+
 -- an octet b with its top bit set, and what follows it. "20 ... number not shortest or past 64 bits": a last group of 0
 -- is not shortest, and what stands above the lowest seven of 64 bits is below 2 ^ 57.
 abbrev pub more : ℕ → Decoded → Decoded
-more b Bad = Bad
-more b (Is v next) = cond (eqb v 0) Bad (cond (leb (2 ^ 57) v) Bad (Is (b - 128 + 128 * v) next))
+more b None = None
+more b (Some (v, next)) = cond (eqb v 0) None (cond (leb (2 ^ 57) v) None (Some (b - 128 + 128 * v, next)))
 
 -- "20 cut entry": octets that end before a last group are no number
 unfoldable pub decoded : List ℕ → ℕ → Decoded
-decoded [] at = Bad
-decoded (b ∷ bs) at = cond (ltb b 128) (Is b (at + 1)) (more b (decoded bs (at + 1)))
+decoded [] at = None
+decoded (b ∷ bs) at = cond (ltb b 128) (Some (b, at + 1)) (more b (decoded bs (at + 1)))
 
 abbrev pub decoded_at : List ℕ → ℕ → Decoded
 decoded_at s at = decoded (drop at s) at

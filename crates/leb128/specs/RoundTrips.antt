@@ -5,7 +5,7 @@
 --   Settled       what more octets leave as it was
 use Rattle.std.specs.Prelude.{ℕ, ◌+◌, ◌-◌, ◌^◌, ◌≤◌, ◌<◌, ◌≡◌, List, ◌++◌, length, get_or, drop}
 use Rattle.leb128.specs.Leb128.{decoded, octets_of, groups_most}
-use Rattle.leb128.specs.declared.Decoded.TheVariants.{Is, Bad}
+use Rattle.std.specs.Prelude.{Some, None}
 
 abbrev pub Octets : List ℕ → Type 0
 Octets s = (i : ℕ) → get_or s i 0 < 256
@@ -20,17 +20,17 @@ pub record Begins (s : List ℕ) : Type 0 where
 pub record RoundTrips : Type 0 where
   -- a written number is read, whatever stands behind it
   pub reads_written : (n at : ℕ) (rest : List ℕ) → n < 2 ^ 64
-      → decoded (octets_of n ++ rest) at ≡ Is n (at + length (octets_of n))
+      → decoded (octets_of n ++ rest) at ≡ Some (n, at + length (octets_of n))
   -- what was read as a number has 64 bits at most, and is that number written, with the rest behind it
-  pub writes_read : (s : List ℕ) (at v next : ℕ) → Octets s → decoded s at ≡ Is v next
+  pub writes_read : (s : List ℕ) (at v next : ℕ) → Octets s → decoded s at ≡ Some (v, next)
       → (v < 2 ^ 64) × (next ≡ at + length (octets_of v)) × (s ≡ octets_of v ++ drop (next - at) s)
   -- refused exactly if no number's octets stand there
-  pub refused : (s : List ℕ) (at : ℕ) → decoded s at ≡ Bad → Begins s → ⊥
-  pub none_refused : (s : List ℕ) (at : ℕ) → Octets s → (Begins s → ⊥) → decoded s at ≡ Bad
+  pub refused : (s : List ℕ) (at : ℕ) → decoded s at ≡ None → Begins s → ⊥
+  pub none_refused : (s : List ℕ) (at : ℕ) → Octets s → (Begins s → ⊥) → decoded s at ≡ None
 
 pub record Settled : Type 0 where
-  pub stays_read : (s later : List ℕ) (at v next : ℕ) → Octets s → decoded s at ≡ Is v next
-      → decoded (s ++ later) at ≡ Is v next
+  pub stays_read : (s later : List ℕ) (at v next : ℕ) → Octets s → decoded s at ≡ Some (v, next)
+      → decoded (s ++ later) at ≡ Some (v, next)
   -- ten octets in sight decide
-  pub stays_refused : (s later : List ℕ) (at : ℕ) → Octets (s ++ later) → groups_most ≤ length s → decoded s at ≡ Bad
-      → decoded (s ++ later) at ≡ Bad
+  pub stays_refused : (s later : List ℕ) (at : ℕ) → Octets (s ++ later) → groups_most ≤ length s → decoded s at ≡ None
+      → decoded (s ++ later) at ≡ None

@@ -7,14 +7,6 @@ ghost use Rattle.writing.specs.Notify.{placed};
 ghost use Rattle.leb128.specs.Leb128.{decoded_at, octets_of};
 ghost use Rattle.leb128.specs.Within.{read_within, Within};
 
-#[derive(Clone, Copy)]
-pub enum Decoded {
-    // the number, and the offset after it
-    Is(u64, usize),
-    // cut, not in the shortest form, or past 64 bits
-    Bad,
-}
-
 // What stands above the lowest seven of 64 bits is below this.
 const ABOVE_MOST: u64 = 144115188075855872;
 
@@ -22,35 +14,26 @@ const ABOVE_MOST: u64 = 144115188075855872;
 const NONE_ABOVE: u64 = 0;
 
 // Reads at `at`, with at most `left` octets behind the first.
-fn read_within(s: &[u8], at: usize, left: u32) -> Decoded
+fn read_within(s: &[u8], at: usize, left: u32) -> Option<(u64, usize)>
     ensures { result ≡ read_within left (drop at s.now) at }
 {
-    if at >= s.len() {
-        return Decoded::Bad;
-    }
-    let b = s[at] as u64;
+    let b = u64::from(*s.get(at)?);
     if b < 128 {
-        return Decoded::Is(b, at + 1);
+        return Some((b, at + 1));
     }
     if left == 0 {
-        return Decoded::Bad;
+        return None;
     }
-    match read_within(s, at + 1, left - 1) {
-        Decoded::Is(v, next) => {
-            if v == NONE_ABOVE {
-                return Decoded::Bad;
-            }
-            if v >= ABOVE_MOST {
-                return Decoded::Bad;
-            }
-            Decoded::Is(b - 128 + 128 * v, next)
-        }
-        Decoded::Bad => Decoded::Bad,
+    let (v, next) = read_within(s, at + 1, left - 1)?;
+    if v == NONE_ABOVE || v >= ABOVE_MOST {
+        return None;
     }
+    Some((b - 128 + 128 * v, next))
 }
 
-// The number at `at`. Ten groups hold 64 bits.
-pub fn read_number(s: &[u8], at: usize) -> Decoded
+// The number at `at` and the offset after it; none where the number is cut, not in the shortest form, or past 64 bits.
+// Ten groups hold 64 bits.
+pub fn read_number(s: &[u8], at: usize) -> Option<(u64, usize)>
     ensures value { result ≡ decoded_at s.now at }
     ensures within { Within s.now at result }
 {
@@ -61,10 +44,7 @@ pub fn read_number(s: &[u8], at: usize) -> Decoded
 pub fn number_size(n: u64) -> usize
     ensures { result ≡ length (octets_of n) }
 {
-    if n < 128 {
-        return 1;
-    }
-    1 + number_size(n / 128)
+    if n < 128 { 1 } else { 1 + number_size(n / 128) }
 }
 
 // Writes `n` at `at`, and returns the offset after it.

@@ -6,8 +6,6 @@ ghost use Rattle.replaying.specs.Turns.{looked, turning, show_ike, no_slots, slo
 ghost use Rattle.replaying.specs.Standing.{Standing};
 
 use entries::ENTRY_SLOTS;
-use entries::kind::kind_number;
-use fields::refusal::refusal_number;
 use given::reading::{SHOW_IKE, Slots};
 use replaying::state::{State, Turn, in_turn};
 use windows::{Next, next_entry};
@@ -34,19 +32,15 @@ pub fn look(window: &[u8], s: State) -> State
 {
     let mut slots = [0u64; ENTRY_SLOTS];
     match next_entry(window, s.at, s.ended, &mut slots) {
-        Next::Entry(kind, next) => {
-            let number = kind_number(kind);
+        Ok(Next::Entry(kind, next)) => {
             let entry = Slots {
-                kind: number,
+                kind: u8::from(kind),
                 slots,
             };
             in_turn(s, Turn::Call, next, entry)
         }
-        Next::Refused(why) => {
-            let number = refusal_number(why);
-            no_call(s, Turn::Refuse(number))
-        }
-        Next::More => no_call(s, Turn::More),
-        Next::End => no_call(s, Turn::Show),
+        Ok(Next::More) => no_call(s, Turn::More),
+        Ok(Next::End) => no_call(s, Turn::Show),
+        Err(why) => no_call(s, Turn::Refuse(u8::from(why))),
     }
 }

@@ -7,27 +7,19 @@ ghost use Rattle.fields.specs.Reading.{slots_of};
 ghost use Rattle.entries.specs.Entries.{entry_at, entry_step};
 ghost use Rattle.entries.specs.Slots.{entry_slots};
 
-use entries::kind::{Kind, Known, kind_of};
-use entries::step::EntryStep;
+use entries::kind::Kind;
 use fields::refusal::Refusal;
-use fields::step::Step;
-use leb128::{Decoded, read_number};
+use leb128::read_number;
 use reading_kinds::read_fields;
 
-// The entry at `at`.
-pub fn read_entry(s: &[u8], at: usize, slots: &mut [u64]) -> EntryStep
+// The entry at `at`: its kind, and the offset after it.
+pub fn read_entry(s: &[u8], at: usize, slots: &mut [u64]) -> Result<(Kind, usize), Refusal>
     requires { entry_slots ≤ length slots.old }
     ensures { let reading = entry_at s.now at in
         (result ≡ entry_step reading) × (slots.new ≡ placed slots.old 0 (slots_of reading)) }
 {
-    match read_number(s, at) {
-        Decoded::Is(n, next) => match kind_of(n) {
-            Known::Is(kind) => match read_fields(kind, s, next, slots) {
-                Step::At(end) => EntryStep::Entry(kind, end),
-                Step::Refused(why) => EntryStep::Refused(why),
-            },
-            Known::Unknown => EntryStep::Refused(Refusal::UnknownKind),
-        },
-        Decoded::Bad => EntryStep::Refused(Refusal::Cut),
-    }
+    let (number, next) = read_number(s, at).ok_or(Refusal::Cut)?;
+    let kind = Kind::try_from(number)?;
+    let end = read_fields(kind, s, next, slots)?;
+    Ok((kind, end))
 }

@@ -7,9 +7,5 @@ pub fn fill(slots: &mut [u64], from: usize, end: usize)
     requires { (from ≤ end) × (end ≤ length slots.old) }
     ensures { slots.new ≡ placed slots.old from (replicate (end - from) 0) }
 {
-    if from == end {
-        return;
-    }
-    slots[from] = 0;
-    fill(slots, from + 1, end);
+    slots[from..end].fill(0);
 }

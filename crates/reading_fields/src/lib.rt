@@ -10,64 +10,67 @@ ghost use Rattle.fields.specs.Codes.{field_of, ReadsTo};
 
 use fields::codes::{ADDRESS, STRING, STRING_MOST, most_of};
 use fields::refusal::Refusal;
-use fields::step::Step;
-use leb128::{Decoded, read_number};
+use leb128::read_number;
 use octets::limits::ADDRESS_OCTETS;
 
 // A number of at most `most`.
-fn read_limited(s: &[u8], at: usize, most: u64, slots: &mut [u64], slot: usize) -> Step
+fn read_limited(
+    s: &[u8],
+    at: usize,
+    most: u64,
+    slots: &mut [u64],
+    slot: usize,
+) -> Result<usize, Refusal>
     requires { slot + 1 ≤ length slots.old }
     ensures { ReadsTo (up_to most) s.now at slots.old slot slots.new result }
 {
-    match read_number(s, at) {
-        Decoded::Is(v, next) => {
-            if v > most {
-                return Step::Refused(Refusal::TooLarge);
-            }
-            slots[slot] = v;
-            Step::At(next)
-        }
-        Decoded::Bad => Step::Refused(Refusal::Cut),
+    let (v, next) = read_number(s, at).ok_or(Refusal::Cut)?;
+    if v > most {
+        return Err(Refusal::TooLarge);
     }
+    slots[slot] = v;
+    Ok(next)
 }
 
 // Sixteen octets as they stand: their offset.
-fn read_address(s: &[u8], at: usize, slots: &mut [u64], slot: usize) -> Step
+fn read_address(s: &[u8], at: usize, slots: &mut [u64], slot: usize) -> Result<usize, Refusal>
     requires at_in_bounds { at ≤ length s.now }
     requires slot_in_bounds { slot + 1 ≤ length slots.old }
     ensures { ReadsTo address s.now at slots.old slot slots.new result }
 {
     if s.len() - at < ADDRESS_OCTETS {
-        return Step::Refused(Refusal::Cut);
+        return Err(Refusal::Cut);
     }
     slots[slot] = at as u64;
-    Step::At(at + ADDRESS_OCTETS)
+    Ok(at + ADDRESS_OCTETS)
 }
 
 // A length and as many octets: their offset, and the length.
-fn read_string(s: &[u8], at: usize, slots: &mut [u64], slot: usize) -> Step
+fn read_string(s: &[u8], at: usize, slots: &mut [u64], slot: usize) -> Result<usize, Refusal>
     requires { slot + 2 ≤ length slots.old }
     ensures { ReadsTo string s.now at slots.old slot slots.new result }
 {
-    match read_number(s, at) {
-        Decoded::Is(v, next) => {
-            if v > STRING_MOST {
-                return Step::Refused(Refusal::TooLarge);
-            }
-            let size = v as usize;
-            if s.len() - next < size {
-                return Step::Refused(Refusal::Cut);
-            }
-            slots[slot] = next as u64;
-            slots[slot + 1] = v;
-            Step::At(next + size)
-        }
-        Decoded::Bad => Step::Refused(Refusal::Cut),
+    let (v, next) = read_number(s, at).ok_or(Refusal::Cut)?;
+    if v > STRING_MOST {
+        return Err(Refusal::TooLarge);
     }
+    let size = v as usize;
+    if s.len() - next < size {
+        return Err(Refusal::Cut);
+    }
+    slots[slot] = next as u64;
+    slots[slot + 1] = v;
+    Ok(next + size)
 }
 
 // One field.
-pub fn read_field(s: &[u8], at: usize, code: u8, slots: &mut [u64], slot: usize) -> Step
+pub fn read_field(
+    s: &[u8],
+    at: usize,
+    code: u8,
+    slots: &mut [u64],
+    slot: usize,
+) -> Result<usize, Refusal>
     requires at_in_bounds { at ≤ length s.now }
     requires code_in_bounds { slot + width (field_of code) ≤ length slots.old }
     ensures { ReadsTo (field_of code) s.now at slots.old slot slots.new result }

@@ -13,11 +13,11 @@ use crate::tables::{
     OPEN_BOTH, REQUEST, RULE, RULE_SLOTS,
 };
 use entries::kind::Kind;
-use fields::step::Step;
+use fields::refusal::Refusal;
 use reading_lists::read_listed;
 use reading_tables::read_table;
 
-pub fn read_fields(kind: Kind, s: &[u8], at: usize, slots: &mut [u64]) -> Step
+pub fn read_fields(kind: Kind, s: &[u8], at: usize, slots: &mut [u64]) -> Result<usize, Refusal>
     requires { (at ≤ length s.now) × (entry_slots ≤ length slots.old) }
     ensures { ReadsTo (fields_of kind) s.now at slots.old 0 slots.new result }
 {

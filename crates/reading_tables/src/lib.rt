@@ -6,7 +6,7 @@ ghost use Rattle.fields.specs.Slots.{width};
 ghost use Rattle.fields.specs.Codes.{run_from, table_of, ReadsTo};
 
 use fields::codes::width_of;
-use fields::step::Step;
+use fields::refusal::Refusal;
 use reading_fields::read_field;
 
 // From the place i of a table on, and then the whole table `left` times more.
@@ -18,7 +18,7 @@ pub fn read_run(
     left: usize,
     slots: &mut [u64],
     slot: usize,
-) -> Step
+) -> Result<usize, Refusal>
     requires { (at ≤ length s.now) × (i ≤ length table.now) ×
         (slot + width (run_from table.now i left) ≤ length slots.old) }
     ensures { let f = run_from table.now i left in
@@ -26,19 +26,23 @@ pub fn read_run(
 {
     if i == table.len() {
         if left == 0 {
-            return Step::At(at);
+            return Ok(at);
         }
         return read_run(s, at, table, 0, left - 1, slots, slot);
     }
     let code = table[i];
-    match read_field(s, at, code, slots, slot) {
-        Step::At(next) => read_run(s, next, table, i + 1, left, slots, slot + width_of(code)),
-        Step::Refused(why) => Step::Refused(why),
-    }
+    let next = read_field(s, at, code, slots, slot)?;
+    read_run(s, next, table, i + 1, left, slots, slot + width_of(code))
 }
 
 // A whole table.
-pub fn read_table(s: &[u8], at: usize, table: &[u8], slots: &mut [u64], slot: usize) -> Step
+pub fn read_table(
+    s: &[u8],
+    at: usize,
+    table: &[u8],
+    slots: &mut [u64],
+    slot: usize,
+) -> Result<usize, Refusal>
     requires { (at ≤ length s.now) × (slot + width (table_of table.now) ≤ length slots.old) }
     ensures { let f = table_of table.now in
         ReadsTo f s.now at slots.old slot slots.new result }

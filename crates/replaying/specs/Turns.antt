@@ -3,7 +3,7 @@
 --   refilled, looked         what a read leaves, and what the window then says
 --   line_of, pair_at           the line of a call, and of a record's place
 --   printed, after           what a turn prints, and where it leaves the replay
-use Rattle.std.specs.Prelude.{ℕ, ◌+◌, ◌-◌, ◌%◌, ◌^◌, Bool, true, false, cond, List, [], eqb, ltb, get_or, set, replicate}
+use Rattle.std.specs.Prelude.{ℕ, ◌+◌, ◌-◌, ◌%◌, ◌^◌, Bool, true, false, cond, List, [], eqb, ltb, get_or, set, replicate, Result, Ok, Err}
 use Rattle.octets.specs.Limits.{ike_places, ipsec_places}
 use Rattle.writing.specs.Notify.{placed}
 use Rattle.address.specs.declared.pair.Pair.{Pair}
@@ -13,6 +13,7 @@ use Rattle.entries.specs.Kinds.{kind_number}
 use Rattle.entries.specs.Entries.{entry_at}
 use Rattle.entries.specs.Slots.{entry_slots}
 use Rattle.windows.specs.Windows.{next_in}
+use Rattle.fields.specs.declared.refusal.Refusal.{Refusal}
 use Rattle.windows.specs.declared.Next.{Next}
 use Rattle.windows.specs.declared.Next.TheVariants as next
 use Rattle.given.specs.declared.outcome.Outcome.{Outcome}
@@ -65,11 +66,11 @@ abbrev pub turning : State → Turn → ℕ → Slots → State
 turning s t next e = state s.len s.at next s.ended s.offset s.ordinal t e s.going
 
 -- where no call is to be made the record at place 0 is looked at, which changes nothing
-abbrev pub looked_by : State → List ℕ → Next → State
-looked_by s slots (next.Entry k n) = turning s Call n (slots_for (kind_number k) slots)
-looked_by s slots (next.Refused why) = turning s (Refuse (refusal_number why)) s.next (slots_for show_ike no_slots)
-looked_by s slots next.More = turning s More s.next (slots_for show_ike no_slots)
-looked_by s slots next.End = turning s Show s.next (slots_for show_ike no_slots)
+abbrev pub looked_by : State → List ℕ → Result Next Refusal → State
+looked_by s slots (Ok (next.Entry k n)) = turning s Call n (slots_for (kind_number k) slots)
+looked_by s slots (Err why) = turning s (Refuse (refusal_number why)) s.next (slots_for show_ike no_slots)
+looked_by s slots (Ok next.More) = turning s More s.next (slots_for show_ike no_slots)
+looked_by s slots (Ok next.End) = turning s Show s.next (slots_for show_ike no_slots)
 
 abbrev pub looked : List ℕ → State → State
 looked w s = looked_by s (placed no_slots 0 (slots_of (entry_at w s.at))) (next_in w s.at s.ended)

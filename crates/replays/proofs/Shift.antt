@@ -7,10 +7,9 @@ use native.Mathlib.Omega.{arith}
 use lib.Dec.{eqb, leb, ltb}
 use lib.ListN.{length, take, drop, length-drop}
 use lib.Seq.{drop-drop}
+use Rattle.std.specs.Prelude.{Option, Some, None}
 use Rattle.octets.specs.Limits.{address_octets}
-use Rattle.leb128.specs.Leb128.{more, decoded, decoded_at}
-use Rattle.leb128.specs.declared.Decoded.{Decoded}
-use Rattle.leb128.specs.declared.Decoded.TheVariants.{Is, Bad}
+use Rattle.leb128.specs.Leb128.{Decoded, more, decoded, decoded_at}
 use Rattle.fields.specs.Fields.{Field, up_to, address, string, none, ◌then◌, list_of, Value, string_most, list_most}
 use Rattle.fields.specs.Slots.{width}
 use Rattle.fields.specs.Reading.{Reading, read, refused, behind, joined, times, limited, part_at, listed, read_at}
@@ -18,8 +17,6 @@ use Rattle.fields.specs.declared.refusal.Refusal.TheVariants.{Cut, TooLarge}
 use Rattle.entries.specs.Kinds.{fields_of}
 use Rattle.entries.specs.Entries.{kind_of, as_entry, of_kind, after_kind, entry_at}
 use Rattle.entries.specs.declared.kind.Kind.{Kind}
-use Rattle.entries.specs.declared.kind.Known.{Known}
-use Rattle.entries.specs.declared.kind.Known.TheVariants as known
 
 -- from `at` to `next` it is as far as from `to` to `after`
 pub record AsFar (at to next after : ℕ) : Type 0 where
@@ -36,10 +33,10 @@ Like at to (refused why slots) (refused reason others) = why ≡ reason
 
 -- of a number
 abbrev LikeNumber : ℕ → ℕ → Decoded → Decoded → Type 0
-LikeNumber at to (Is v next) (Is w after) = (v ≡ w) × AsFar at to next after
-LikeNumber at to (Is v next) Bad = ⊥
-LikeNumber at to Bad (Is w after) = ⊥
-LikeNumber at to Bad Bad = Unit {0}
+LikeNumber at to (Some (v, next)) (Some (w, after)) = (v ≡ w) × AsFar at to next after
+LikeNumber at to (Some (v, next)) None = ⊥
+LikeNumber at to None (Some (w, after)) = ⊥
+LikeNumber at to None None = Unit {0}
 
 as_far : (at to n m k : ℕ) {next after : ℕ} → AsFar n m next after → n ≡ at + k → m ≡ to + k → AsFar at to next after
 as_far at to n m k f p q =
@@ -78,23 +75,23 @@ module _ {A B C : Type 0} (join : A → B → C) where
 
 -- ---- a number
 more_like : (at to b : ℕ) (x y : Decoded) → LikeNumber at to x y → LikeNumber at to (more b x) (more b y)
-more_like at to b (Is v next) (Is w after) h = rw h.0 (go (eqb w 0) (leb (2 ^ 57) w))
+more_like at to b (Some (v, next)) (Some (w, after)) h = rw h.0 (go (eqb w 0) (leb (2 ^ 57) w))
   where
     go : (p q : Bool)
-        → LikeNumber at to (cond p Bad (cond q Bad (Is (b - 128 + 128 * w) next)))
-        (cond p Bad (cond q Bad (Is (b - 128 + 128 * w) after)))
+        → LikeNumber at to (cond p None (cond q None (Some (b - 128 + 128 * w, next))))
+        (cond p None (cond q None (Some (b - 128 + 128 * w, after))))
     go true q = tt
     go false true = tt
     go false false = (refl, h.1)
-more_like at to b (Is v next) Bad h = absurd h
-more_like at to b Bad (Is w after) h = absurd h
-more_like at to b Bad Bad h = tt
+more_like at to b (Some (v, next)) None h = absurd h
+more_like at to b None (Some (w, after)) h = absurd h
+more_like at to b None None h = tt
 
 onward : (at to : ℕ) (x y : Decoded) → LikeNumber (at + 1) (to + 1) x y → LikeNumber at to x y
-onward at to (Is v next) (Is w after) h = (h.0, as_far at to (at + 1) (to + 1) 1 h.1 refl refl)
-onward at to (Is v next) Bad h = h
-onward at to Bad (Is w after) h = h
-onward at to Bad Bad h = tt
+onward at to (Some (v, next)) (Some (w, after)) h = (h.0, as_far at to (at + 1) (to + 1) 1 h.1 refl refl)
+onward at to (Some (v, next)) None h = h
+onward at to None (Some (w, after)) h = h
+onward at to None None h = tt
 
 number_like : (os : List ℕ) (at to : ℕ) → LikeNumber at to (decoded os at) (decoded os to)
 unfolding decoded
@@ -105,15 +102,15 @@ number_like (b ∷ bs) at to =
     go (ltb b 128) (more_like at to b x y (onward at to x y (number_like bs (at + 1) (to + 1))))
   where
     go : (p : Bool) → LikeNumber at to (more b (decoded bs (at + 1))) (more b (decoded bs (to + 1)))
-        → LikeNumber at to (cond p (Is b (at + 1)) (more b (decoded bs (at + 1))))
-        (cond p (Is b (to + 1)) (more b (decoded bs (to + 1))))
+        → LikeNumber at to (cond p (Some (b, at + 1)) (more b (decoded bs (at + 1))))
+        (cond p (Some (b, to + 1)) (more b (decoded bs (to + 1))))
     go true h = (refl, record { by = 1; here = refl; there = refl })
     go false h = h
 
 limited_like : {A : Type 0} (at to most : ℕ) (x y : Decoded) (f g : ℕ → ℕ → Reading A) → LikeNumber at to x y
     → ((v k : ℕ) → Like (at + k) (to + k) (f v (at + k)) (g v (to + k)))
     → Like at to (limited most x f) (limited most y g)
-limited_like at to most (Is v next) (Is w after) f g h rest =
+limited_like at to most (Some (v, next)) (Some (w, after)) f g h rest =
     let k = h.1.by in
     rw (h.0, h.1.here, h.1.there)
     (go k (ltb most w) (further at to k (f w (at + k)) (g w (to + k)) (rest w k)))
@@ -122,9 +119,9 @@ limited_like at to most (Is v next) (Is w after) f g h rest =
         → Like at to (cond p (refused TooLarge []) (f w (at + k))) (cond p (refused TooLarge []) (g w (to + k)))
     go k true l = refl
     go k false l = l
-limited_like at to most (Is v next) Bad f g h rest = absurd h
-limited_like at to most Bad (Is w after) f g h rest = absurd h
-limited_like at to most Bad Bad f g h rest = refl
+limited_like at to most (Some (v, next)) None f g h rest = absurd h
+limited_like at to most None (Some (w, after)) f g h rest = absurd h
+limited_like at to most None None f g h rest = refl
 
 -- ---- two buffers with the same octets from two places on
 module _ (s t : List ℕ) where
@@ -194,21 +191,21 @@ module _ (s t : List ℕ) where
   as_entry_like k at to (refused why slots) (read w others after) h = h
   as_entry_like k at to (refused why slots) (refused reason others) h = h
 
-  of_kind_like : (at to : ℕ) → Same at to → (k : Known) → Like at to (of_kind s at k) (of_kind t to k)
-  of_kind_like at to e known.Unknown = refl
-  of_kind_like at to e (known.Is k) =
+  of_kind_like : (at to : ℕ) → Same at to → (k : Option Kind) → Like at to (of_kind s at k) (of_kind t to k)
+  of_kind_like at to e None = refl
+  of_kind_like at to e (Some k) =
       as_entry_like k at to (read_at (fields_of k) s at) (read_at (fields_of k) t to) (read_like (fields_of k) at to e)
 
   after_kind_like : (at to : ℕ) → Same at to → (x y : Decoded) → LikeNumber at to x y
       → Like at to (after_kind s x) (after_kind t y)
-  after_kind_like at to e (Is v next) (Is w after) h =
+  after_kind_like at to e (Some (v, next)) (Some (w, after)) h =
       let k = h.1.by in
       rw (h.0, h.1.here, h.1.there)
       (further at to k (of_kind s (at + k) (kind_of w)) (of_kind t (to + k) (kind_of w))
       (of_kind_like (at + k) (to + k) (same_further at to k e) (kind_of w)))
-  after_kind_like at to e (Is v next) Bad h = absurd h
-  after_kind_like at to e Bad (Is w after) h = absurd h
-  after_kind_like at to e Bad Bad h = refl
+  after_kind_like at to e (Some (v, next)) None h = absurd h
+  after_kind_like at to e None (Some (w, after)) h = absurd h
+  after_kind_like at to e None None h = refl
 
   pub entry_like : (at to : ℕ) → Same at to → Like at to (entry_at s at) (entry_at t to)
   unfolding entry_at

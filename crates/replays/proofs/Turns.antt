@@ -15,10 +15,11 @@ use Rattle.fields.specs.declared.refusal.Refusal.{Refusal}
 use Rattle.entries.specs.Kinds.{kind_number}
 use Rattle.entries.specs.Entries.{Entry, entry_at, entry_step}
 use Rattle.entries.specs.declared.kind.Kind.{Kind}
-use Rattle.entries.specs.declared.step.EntryStep.TheVariants as step
 use Rattle.traces.specs.Traces.{finished, stopped, Trace, trace, led, trace_from}
 use Rattle.traces.proofs.Whole.{whole}
 use Rattle.windows.specs.Windows.{next_in, Tells}
+use Rattle.std.specs.Prelude.{Result, Ok, Err}
+use Rattle.entry_laws.proofs.RoundTrips.{ok_parts}
 use Rattle.windows.specs.declared.Next.{Next}
 use Rattle.windows.specs.declared.Next.TheVariants as next
 use Rattle.windows.proofs.Windows.{windows}
@@ -112,34 +113,34 @@ module _ (performing : Performing) (t : List ℕ) (o : Octets t) (small : length
     like : Like at offset (entry_at (held ++ all_read rs) at) (entry_at t offset)
     like = entry_like (held ++ all_read rs) t at offset here
 
-    abbrev Comes : Next → Type 0
+    abbrev Comes : Result Next Refusal → Type 0
     Comes x = acted n rs (window held behind (looked_by s slots x)) g ≡ replayed_from (trace_from t offset) ordinal g
 
-    at_end : next_in held at ended ≡ next.End → Comes next.End
+    at_end : next_in held at ended ≡ Ok next.End → Comes (Ok next.End)
     at_end e =
         let none = tells.end e in
         let past : length t ≤ offset = omega (arith, length-append held (all_read rs), ahead, st.within) in
         let all : 32 + 128 ≤ suc n = omega (arith, shows_least ended) in
         rw (ends t o offset past)
-        (sym (goes n rs (window held behind (looked_by s slots next.End)) g refl)
+        (sym (goes n rs (window held behind (looked_by s slots (Ok next.End))) g refl)
         ∙ ike_shown rs held behind len at nx ended offset ordinal g sized 31 (suc n) no_slots 0 refl (omega arith) refl
         all)
 
-    at_refusal : (why : Refusal) → next_in held at ended ≡ next.Refused why → Comes (next.Refused why)
+    at_refusal : (why : Refusal) → next_in held at ended ≡ Err why → Comes (Err why)
     at_refusal why e = go (entry_at (held ++ all_read rs) at) (entry_at t offset) refl (tells.refused why e).0 like
       where
-        go : (x y : Reading Entry) → entry_at t offset ≡ y → entry_step x ≡ step.Refused why → Like at offset x y
-            → Comes (next.Refused why)
+        go : (x y : Reading Entry) → entry_at t offset ≡ y → entry_step x ≡ Err why → Like at offset x y
+            → Comes (Err why)
         go (refused reason sl) (refused other sm) q p l =
             let why-so : reason ≡ why = cc in
             let same : other ≡ why = sym l ∙ why-so in
             let inside : offset < length t = omega (arith, (tells.refused why e).1, ahead, st.within) in
-            let quiet = stops n rs (window held behind (after (looked_by s slots (next.Refused why)))) g refl in
+            let quiet = stops n rs (window held behind (after (looked_by s slots (Err why)))) g refl in
             rw (stopped_at t o offset why sm inside (rw (← same) q), quiet, append-nil)
         go (refused reason sl) (read e sm m) q p l = absurd l
         go (read e sl m) y q p l = let z : ◌≡◌ {A = ℕ} 0 1 = cc in absurd (omega arith)
 
-    at_more : (ended ≡ false → Runs t n More ended 160) → next_in held at ended ≡ next.More → Comes next.More
+    at_more : (ended ≡ false → Runs t n More ended 160) → next_in held at ended ≡ Ok next.More → Comes (Ok next.More)
     at_more ih e =
         let open-ended : ended ≡ false = (tells.more e).0 in
         let spare : shows ended ≡ 161 = ap shows open-ended in
@@ -186,21 +187,21 @@ module _ (performing : Performing) (t : List ℕ) (o : Octets t) (small : length
         ap (λ (z : Performed). behind_line (line_of ordinal z.outcome) (run n rs w z.after)) made
         ∙ rw (off, ord, rest, goes_on t o offset y sm past inside q, same, append_assoc)
 
-    at_entry : Runs t n Call ended (shows ended) → (k : Kind) (m : ℕ) → next_in held at ended ≡ next.Entry k m
-        → Comes (next.Entry k m)
+    at_entry : Runs t n Call ended (shows ended) → (k : Kind) (m : ℕ) → next_in held at ended ≡ Ok (next.Entry k m)
+        → Comes (Ok (next.Entry k m))
     at_entry ih k m e =
         let told = tells.entry k m e in
         go (entry_at held at) refl (ap entry_step (sym told.1) ∙ told.0) (entry_at t offset) refl
         (rw (← told.1) like) told.2 told.3
       where
-        go : (x : Reading Entry) → entry_at held at ≡ x → entry_step x ≡ step.Entry k m → (y : Reading Entry)
+        go : (x : Reading Entry) → entry_at held at ≡ x → entry_step x ≡ Ok (k, m) → (y : Reading Entry)
             → entry_at t offset ≡ y
-            → Like at offset x y → at < m → m ≤ length held → Comes (next.Entry k m)
+            → Like at offset x y → at < m → m ≤ length held → Comes (Ok (next.Entry k m))
         go (refused why sl) p q y r l lo hi = let z : ◌≡◌ {A = ℕ} 0 1 = cc in absurd (omega arith)
         go (read x sl next) p q (refused why sm) r l lo hi = absurd l
         go (read x sl next) p q (read y sm past) r l lo hi =
-            let kind-so : x.kind ≡ k = cc in
-            let next-so : next ≡ m = cc in
+            let kind-so = (ok_parts _ _ _ _ q).0 in
+            let next-so = (ok_parts _ _ _ _ q).1 in
             rw (← kind-so, ← next-so, p)
             (entry_made ih x y sl sm next past (rw next-so lo) (rw next-so hi) p r l.0 l.1)
 
@@ -209,10 +210,10 @@ module _ (performing : Performing) (t : List ℕ) (o : Octets t) (small : length
         → acted n rs (looked_at (window held behind s)) g ≡ replayed_from (trace_from t offset) ordinal g
     looking calls mores = go (next_in held at ended) refl
       where
-        go : (x : Next) → next_in held at ended ≡ x
+        go : (x : Result Next Refusal) → next_in held at ended ≡ x
             → acted n rs (window held behind (looked_by s slots (next_in held at ended))) g
             ≡ replayed_from (trace_from t offset) ordinal g
-        go (next.Entry k m) e = rw e (at_entry calls k m e)
-        go (next.Refused why) e = rw e (at_refusal why e)
-        go next.More e = rw e (at_more mores e)
-        go next.End e = rw e (at_end e)
+        go (Ok (next.Entry k m)) e = rw e (at_entry calls k m e)
+        go (Err why) e = rw e (at_refusal why e)
+        go (Ok next.More) e = rw e (at_more mores e)
+        go (Ok next.End) e = rw e (at_end e)

@@ -9,7 +9,7 @@ ghost use Rattle.fields.specs.Codes.{field_of};
 ghost use Rattle.fields.specs.Writing.{room_in};
 
 use fields::codes::{ADDRESS, STRING, STRING_MOST, most_of};
-use fields::room::{Room, less_by};
+use fields::room::{Unfit, less_by};
 use leb128::number_size;
 use octets::limits::ADDRESS_OCTETS;
 
@@ -17,38 +17,51 @@ use octets::limits::ADDRESS_OCTETS;
 fn lies_within(length: usize, offset: u64, size: u64) -> bool
     ensures { result ≡ leb (offset + size) length }
 {
-    if offset as usize > length {
-        return false;
-    }
-    size as usize <= length - offset as usize
+    offset as usize <= length && size as usize <= length - offset as usize
 }
 
-fn address_room(slots: &[u64], slot: usize, source: &[u8], room: Room) -> Room
+fn address_room(
+    slots: &[u64],
+    slot: usize,
+    source: &[u8],
+    room: Result<usize, Unfit>,
+) -> Result<usize, Unfit>
     requires { slot + 1 ≤ length slots.now }
     ensures { result ≡ room_in address source.now (drop slot slots.now) room }
 {
     if lies_within(source.len(), slots[slot], ADDRESS_OCTETS as u64) {
         return less_by(ADDRESS_OCTETS, room);
     }
-    Room::TooLarge
+    Err(Unfit::TooLarge)
 }
 
-fn string_room(slots: &[u64], slot: usize, source: &[u8], room: Room) -> Room
+fn string_room(
+    slots: &[u64],
+    slot: usize,
+    source: &[u8],
+    room: Result<usize, Unfit>,
+) -> Result<usize, Unfit>
     requires { slot + 2 ≤ length slots.now }
     ensures { result ≡ room_in string source.now (drop slot slots.now) room }
 {
     let size = slots[slot + 1];
     if size > STRING_MOST {
-        return Room::TooLarge;
+        return Err(Unfit::TooLarge);
     }
     if lies_within(source.len(), slots[slot], size) {
         return less_by(number_size(size) + size as usize, room);
     }
-    Room::TooLarge
+    Err(Unfit::TooLarge)
 }
 
 // One field.
-pub fn field_room(code: u8, slots: &[u64], slot: usize, source: &[u8], room: Room) -> Room
+pub fn field_room(
+    code: u8,
+    slots: &[u64],
+    slot: usize,
+    source: &[u8],
+    room: Result<usize, Unfit>,
+) -> Result<usize, Unfit>
     requires { slot + width (field_of code) ≤ length slots.now }
     ensures { result ≡ room_in (field_of code) source.now (drop slot slots.now) room }
 {
@@ -60,7 +73,7 @@ pub fn field_room(code: u8, slots: &[u64], slot: usize, source: &[u8], room: Roo
     }
     let v = slots[slot];
     if v > most_of(code) {
-        return Room::TooLarge;
+        return Err(Unfit::TooLarge);
     }
     less_by(number_size(v), room)
 }

@@ -7,14 +7,19 @@ ghost use Rattle.entries.specs.Kinds.{fields_of};
 ghost use Rattle.entries.specs.Slots.{entry_slots};
 
 use entries::kind::Kind;
-use fields::room::Room;
+use fields::room::Unfit;
 use reading_kinds::tables::{
     ADD_IPSEC, AFTER_RULES, CHECK_RESPONSE, CLONE, CLOSE_IKE, CLOSE_IPSEC, DELETION_MARK,
     OPEN_BOTH, REQUEST, RULE, RULE_SLOTS,
 };
 use sizing_tables::{listed_room, table_room};
 
-pub fn fields_room(kind: Kind, slots: &[u64], source: &[u8], room: Room) -> Room
+pub fn fields_room(
+    kind: Kind,
+    slots: &[u64],
+    source: &[u8],
+    room: Result<usize, Unfit>,
+) -> Result<usize, Unfit>
     requires { entry_slots ≤ length slots.now }
     ensures { result ≡ room_in (fields_of kind) source.now slots.now room }
 {

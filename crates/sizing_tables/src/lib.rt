@@ -9,7 +9,7 @@ ghost use Rattle.fields.specs.Codes.{run_from, table_of};
 ghost use Rattle.fields.specs.Writing.{room_in};
 
 use fields::codes::{LIST_MOST, LIST_PLACES, width_of};
-use fields::room::{Room, less_by};
+use fields::room::{Unfit, less_by};
 use leb128::number_size;
 use sizing_fields::field_room;
 
@@ -21,8 +21,8 @@ fn run_room(
     slots: &[u64],
     slot: usize,
     source: &[u8],
-    room: Room,
-) -> Room
+    room: Result<usize, Unfit>,
+) -> Result<usize, Unfit>
     requires { (i ≤ length table.now) × (slot + width (run_from table.now i left) ≤ length slots.now) }
     ensures { let f = run_from table.now i left in
         result ≡ room_in f source.now (drop slot slots.now) room }
@@ -47,14 +47,20 @@ fn run_room(
 }
 
 // A list.
-fn list_room(each: &[u8], slots: &[u64], slot: usize, source: &[u8], room: Room) -> Room
+fn list_room(
+    each: &[u8],
+    slots: &[u64],
+    slot: usize,
+    source: &[u8],
+    room: Result<usize, Unfit>,
+) -> Result<usize, Unfit>
     requires { slot + width (list_of (table_of each.now)) ≤ length slots.now }
     ensures { let f = list_of (table_of each.now) in
         result ≡ room_in f source.now (drop slot slots.now) room }
 {
     let count = slots[slot];
     if count > LIST_MOST {
-        return Room::TooLarge;
+        return Err(Unfit::TooLarge);
     }
     let rest = less_by(number_size(count), room);
     run_room(
@@ -69,7 +75,13 @@ fn list_room(each: &[u8], slots: &[u64], slot: usize, source: &[u8], room: Room)
 }
 
 // A whole table.
-pub fn table_room(table: &[u8], slots: &[u64], slot: usize, source: &[u8], room: Room) -> Room
+pub fn table_room(
+    table: &[u8],
+    slots: &[u64],
+    slot: usize,
+    source: &[u8],
+    room: Result<usize, Unfit>,
+) -> Result<usize, Unfit>
     requires { slot + width (table_of table.now) ≤ length slots.now }
     ensures { let f = table_of table.now in
         result ≡ room_in f source.now (drop slot slots.now) room }
@@ -85,8 +97,8 @@ pub fn listed_room(
     slots: &[u64],
     slot: usize,
     source: &[u8],
-    room: Room,
-) -> Room
+    room: Result<usize, Unfit>,
+) -> Result<usize, Unfit>
     requires size_value { size ≡ width (table_of each.now) }
     requires last_in_bounds { slot + width (list_of (table_of each.now) then table_of last.now) ≤ length slots.now }
     ensures { let f = list_of (table_of each.now) then table_of last.now in

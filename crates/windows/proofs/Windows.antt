@@ -20,21 +20,22 @@ use Rattle.entries.specs.Entries as spec
 use Rattle.entries.specs.Entries.{entry_at, entry_step}
 use Rattle.entry_laws.specs.Sight.{entry_sight}
 use Rattle.entries.specs.declared.kind.Kind.{Kind}
-use Rattle.entries.specs.declared.step.EntryStep.TheVariants as step
 use Rattle.entry_laws.proofs.RoundTrips.{ends_within}
 use Rattle.entry_laws.proofs.Sight.{sight_of_an_entry}
+use Rattle.std.specs.Prelude.{Result, Ok, Err}
+use Rattle.entry_laws.proofs.RoundTrips.{ok_parts}
 use Rattle.windows.specs.Windows.{next_in, refused_in, step_in, Within, Windows}
 use Rattle.windows.specs.declared.Next.{Next}
-use Rattle.windows.specs.declared.Next.TheVariants.{Entry, Refused, More, End}
+use Rattle.windows.specs.declared.Next.TheVariants.{Entry, More, End}
 
 -- an entry that was read lies behind its place, within the octets
 pub within : (s : List ℕ) (at : ℕ) → Octets s → at ≤ length s → (k : Kind) (next : ℕ)
-    → step.Entry k next ≡ entry_step (entry_at s at) → (at < next) × (next ≤ length s)
+    → entry_step (entry_at s at) ≡ Ok (k, next) → (at < next) × (next ≤ length s)
 within s at o h k next q = go (entry_at s at) refl q
   where
-    go : (r : Reading spec.Entry) → entry_at s at ≡ r → step.Entry k next ≡ entry_step r
+    go : (r : Reading spec.Entry) → entry_at s at ≡ r → entry_step r ≡ Ok (k, next)
         → (at < next) × (next ≤ length s)
-    go (read e sl m) p f = let a : next ≡ m = cc in rw a (ends_within s at o h e sl m p)
+    go (read e sl m) p f = let a = (ok_parts _ _ _ _ f).1 in rw (← a) (ends_within s at o h e sl m p)
     go (refused why sl) p f = let z : ◌≡◌ {A = ℕ} 0 1 = cc in absurd (omega arith)
 
 -- nothing is read past the end
@@ -50,19 +51,19 @@ refused_within w at ended seen TooLarge = tt
 refused_within w at true seen Cut = tt
 refused_within w at false seen Cut = go (ltb seen entry_sight)
   where
-    go : (b : Bool) → Within w at (cond b More (Refused Cut))
+    go : (b : Bool) → Within w at (cond b (Ok More) (Err Cut))
     go true = tt
     go false = tt
 
 -- what each answer says of the trace from the window on
 module _ (w rest : List ℕ) (at : ℕ) (ended : Bool) where
-  abbrev Told : Next → Type 0
-  Told (Entry k next) =
-      (entry_step (entry_at (w ++ rest) at) ≡ step.Entry k next) × (entry_at (w ++ rest) at ≡ entry_at w at)
+  abbrev Told : Result Next Refusal → Type 0
+  Told (Ok (Entry k next)) =
+      (entry_step (entry_at (w ++ rest) at) ≡ Ok (k, next)) × (entry_at (w ++ rest) at ≡ entry_at w at)
       × (at < next) × (next ≤ length w)
-  Told (Refused why) = (entry_step (entry_at (w ++ rest) at) ≡ step.Refused why) × (at < length w)
-  Told More = (ended ≡ false) × (length w - at < entry_sight)
-  Told End = length (w ++ rest) ≤ at
+  Told (Err why) = (entry_step (entry_at (w ++ rest) at) ≡ Err why) × (at < length w)
+  Told (Ok More) = (ended ≡ false) × (length w - at < entry_sight)
+  Told (Ok End) = length (w ++ rest) ≤ at
 
 module _
     (w rest : List ℕ) (at : ℕ) (ended : Bool) (o : Octets (w ++ rest)) (h : at ≤ length w)
@@ -98,7 +99,8 @@ module _
     told = go (leb (length w) at) refl ended refl
       where
         go : (b : Bool) → leb (length w) at ≡ b → (d : Bool) → ended ≡ d
-            → Told w rest at ended (cond b (cond d End More) (step_in d (length w - at) (entry_step (entry_at w at))))
+            → Told w rest at ended (cond b (cond d (Ok End) (Ok More))
+            (step_in d (length w - at) (entry_step (entry_at w at))))
         go true p true q = rw (last q, append-nil w) (leb-true (length w) at p)
         go true p false q = (q, omega (arith, leb-true (length w) at p))
         go false p d q =

@@ -10,15 +10,13 @@ ghost use Rattle.entries.specs.Slots.{entry_slots};
 ghost use Rattle.windows.specs.Windows.{next_in, refused_in, Within};
 
 use entries::kind::Kind;
-use entries::step::EntryStep;
 use fields::refusal::Refusal;
 use reading_entries::read_entry;
 
-#[derive(Clone, Copy)]
+#[derive(Clone, Copy, Debug, PartialEq, Eq)]
 pub enum Next {
     // its kind, and the offset after it
     Entry(Kind, usize),
-    Refused(Refusal),
     // more octets are wanted
     More,
     // the trace is read to its end
@@ -31,26 +29,18 @@ pub const ENTRY_SIGHT: usize = 16465;
 
 // What a refusal within the window says, with so many octets in sight: one for a cut entry may come of the window's
 // end.
-fn refused_in(ended: bool, seen: usize, why: Refusal) -> Next
+fn refused_in(ended: bool, seen: usize, why: Refusal) -> Result<Next, Refusal>
     ensures { result ≡ refused_in ended seen why }
 {
-    match why {
-        Refusal::Cut => {
-            if ended {
-                return Next::Refused(Refusal::Cut);
-            }
-            if seen < ENTRY_SIGHT {
-                return Next::More;
-            }
-            Next::Refused(Refusal::Cut)
-        }
-        Refusal::UnknownKind => Next::Refused(Refusal::UnknownKind),
-        Refusal::TooLarge => Next::Refused(Refusal::TooLarge),
+    if why == Refusal::Cut && !ended && seen < ENTRY_SIGHT {
+        Ok(Next::More)
+    } else {
+        Err(why)
     }
 }
 
 // What stands at `at` of the window; `ended` says that nothing comes after the window.
-pub fn next_entry(window: &[u8], at: usize, ended: bool, slots: &mut [u64]) -> Next
+pub fn next_entry(window: &[u8], at: usize, ended: bool, slots: &mut [u64]) -> Result<Next, Refusal>
     requires { entry_slots ≤ length slots.old }
     ensures value { result ≡ next_in window.now at ended }
     ensures slots { let reading = entry_at window.now at in
@@ -58,13 +48,10 @@ pub fn next_entry(window: &[u8], at: usize, ended: bool, slots: &mut [u64]) -> N
     ensures within { Within window.now at result }
 {
     if at >= window.len() {
-        if ended {
-            return Next::End;
-        }
-        return Next::More;
+        return Ok(if ended { Next::End } else { Next::More });
     }
     match read_entry(window, at, slots) {
-        EntryStep::Entry(kind, next) => Next::Entry(kind, next),
-        EntryStep::Refused(why) => refused_in(ended, window.len() - at, why),
+        Ok((kind, next)) => Ok(Next::Entry(kind, next)),
+        Err(why) => refused_in(ended, window.len() - at, why),
     }
 }

@@ -9,7 +9,7 @@ returns-then-n-lt128 t c = sym (ap length (octets_small _ c.if-n-lt128.true))
 pub overflow_add-result : goal.overflow_add-result
 overflow_add-result t c = let n = c.args.n in omega (arith, c.number_size.ensures, at_most_ten (n / 128))
 
-pub returns : goal.returns
-returns t c =
+pub returns-else-n-lt128 : goal.returns-else-n-lt128
+returns-else-n-lt128 t c =
     let l = ap length (octets_large _ c.ranges.n.fits c.if-n-lt128.false) in
     omega (arith, l, c.number_size.ensures)

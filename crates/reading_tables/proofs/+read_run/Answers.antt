@@ -1,5 +1,6 @@
 -- `reading_tables::read_run` meets its contract: a field, and the fields behind it.
 use Rattle.std.proofs.Common.{◌<◌, length, arith}
+use Rattle.std.proofs.lemmas.Result.{err_from_is_err_and}
 use Rattle.fields.proofs.Run.{run_end, run_again, run_field, less_again, reads_none, then_refused, then_read}
 use Rattle.reading_tables.proofs.+read_run.Goals as goal
 
@@ -31,27 +32,28 @@ read_field-requires-clause-code_in_bounds t c =
     let w = rw (run_field a.table.now a.i a.left here) at c.requires.2 in
     omega arith
 
-pub read_run-requires-in-At : goal.read_run-requires-in-At
-read_run-requires-in-At t c =
+pub read_run-requires-2 : goal.read_run-requires-2
+read_run-requires-2 t c =
     let a = c.args in
     let here : a.i < length a.table.now = omega arith in
     let w = rw (run_field a.table.now a.i a.left here) at c.requires.2 in
     let r = c.read_field in
-    (omega arith, (c.in-At.ensures.within, omega arith, omega (arith, c.width_of.ensures, r.auto.slots)))
+    (omega arith, (c.in_ok-next.ensures.within, omega arith, omega (arith, c.width_of.ensures, r.auto.slots)))
 
-pub returns-in-At : goal.returns-in-At
-returns-in-At t c =
+pub returns : goal.returns
+returns t c =
     let a = c.args in
     let here : a.i < length a.table.now = omega arith in
     let e = run_field a.table.now a.i a.left here in
     let w = rw e at c.requires.2 in
     rw e
-    (then_read _ _ a.s.now a.at a.slots.now a.slot _ _ _ _ w c.in-At.ensures
-    (rw c.width_of.ensures at c.read_run-in-At.ensures))
+    (then_read _ _ a.s.now a.at a.slots.now a.slot _ _ _ _ w c.in_ok-next.ensures
+    (rw c.width_of.ensures at c.read_run-2.ensures))
 
-pub returns-in-Refused : goal.returns-in-Refused
-returns-in-Refused t c =
+pub returns-in_err-next : goal.returns-in_err-next
+returns-in_err-next t c =
     let a = c.args in
     let here : a.i < length a.table.now = omega arith in
-    rw (run_field a.table.now a.i a.left here)
-    (then_refused _ _ a.s.now a.at a.slots.now a.slot _ _ c.in-Refused.ensures)
+    let p = err_from_is_err_and c.from_residual.result c.from_residual.ensures.1 in
+    rw (p.1, p.2, run_field a.table.now a.i a.left here)
+    (then_refused _ _ a.s.now a.at a.slots.now a.slot _ _ c.in_err-next.ensures)

@@ -3,11 +3,11 @@ use Rattle.std.proofs.Common.{◌∙◌}
 use Rattle.writing_entries.proofs.Steps.{says, whole_out}
 use Rattle.writing_entries.proofs.write_entry.Goals as goal
 
-pub returns-in-Left-clause-out_after : goal.returns-in-Left-clause-out_after
-returns-in-Left-clause-out_after c =
+pub returns-clause-out_after : goal.returns-clause-out_after
+returns-clause-out_after c =
     let a = c.args in
-    let n = c.kind_number-number.ensures in
-    let e = c.in-Left.ensures ∙ rw (c.less_by-room.ensures, c.number_size.ensures, n) in
+    let n = c.from-number.ensures ∙ c.from.ensures in
+    let e = c.in_ok-left.ensures ∙ rw (c.less_by-room.ensures, c.number_size.ensures, n) in
     let w = says a.kind a.source.now a.slots.now a.out.now _ e in
     let p = c.put_number-at in
     whole_out a.kind a.source.now a.slots.now a.out.now _ _ _ _ _ _ w.2 w.1 n p.ensures.value p.ensures.out_after
