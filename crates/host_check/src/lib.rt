@@ -6,11 +6,10 @@ ghost use Rattle.routability.specs.Routability.{check_response, CheckedAs};
 use initiator::response::Assessment;
 use lent_closed::ended::end_owned;
 use lent_ike::ike::{ike_at, ike_place, ike_store};
-use lent_ipsec::places::ipsec_count;
 use octets::limits::IKE_PLACES;
 use records::ike::IkeRecord;
 use records::ipsec::IpsecRecord;
-use routability::response::end_check;
+use routability::response::{CheckLooked, LentResponse, end_check};
 
 // Decides the response to the check that an IKE record has pending. Accepted, it moves the record's IPsec records to
 // the pair that the record has now; a close closes the record and what it owns; an error moves nothing. Each ends the
@@ -27,11 +26,23 @@ pub fn unmavreth_check(
     ensures { let q = check_response spi id first body.now operator in
         CheckedAs ike.old ipsec.old q result ike.new ipsec.new }
 {
-    let size = ipsec_count(ipsec);
+    let response = LentResponse {
+        spi,
+        id,
+        first,
+        body,
+        operator,
+    };
     let place = ike_place(ike, spi);
-    let entry = ike_at(ike, place);
-    let c = end_check(size, place, entry, spi, id, first, body, operator);
-    ike_store(ike, c.place, c.entry);
-    end_owned(ipsec, c.closes, c.moves, spi, entry.pair);
-    c.told
+    let looked = CheckLooked {
+        size: ipsec.len(),
+        place,
+        entry: ike_at(ike, place),
+    };
+    let ending = end_check(&looked, &response);
+    if let Some(entry) = ending.entry {
+        ike_store(ike, place, entry);
+    }
+    end_owned(ipsec, ending.closes, ending.moves, spi, looked.entry.pair);
+    ending.told
 }

@@ -1,13 +1,12 @@
 -- A response to a check is decided by what is looked up for it: what is told, and the change of the tables around it.
 use Prim.Native.Nat.{ℕ}
+use Rattle.std.specs.Prelude.{Option, Some, None}
 use mathlib.Core.Path.{◌≡◌, refl}
 use mathlib.Core.List.{List, map}
 use mathlib.Core.Bool.{Bool, true, false, cond}
-use native.Mathlib.Omega.{arith}
 use borrow.Author.Tests.{eqb-true, eqb-false}
 use lib.Dec.{eqb, ltb}
 use lib.ListN.{length, set}
-use lib.Seq.{set_out}
 use Rattle.octets.specs.Limits.{ike_places}
 use Rattle.octets.specs.Lists.{place_of}
 use Rattle.octets.proofs.Small.{chosen}
@@ -51,7 +50,12 @@ module _ (ike : List IkeRecord) (ipsec : List IpsecRecord) (q : CheckResponse) w
 
   module _ (long : length ike ≡ ike_places) where
     abbrev ending : Ending
-    ending = ending_of (length ipsec) place entry q
+    ending = ending_of (record { size = length ipsec; place = place; entry = entry }) q
+
+    -- the table after what it stores
+    abbrev pub stored : Option IkeRecord → List IkeRecord
+    stored None = ike
+    stored (Some e) = set ike place e
 
     -- the same, as the code decides it
     pub ending_counts : ending.told.number ≡ 0 → ending.told.payloads ≡ count (chain_at q.body q.first 0)
@@ -60,7 +64,7 @@ module _ (ike : List IkeRecord) (ipsec : List IpsecRecord) (q : CheckResponse) w
 
     pub record Ends (h : Checked) : Type 0 where
       pub told_so : ending.told ≡ h.told
-      pub ike_after : set ike ending.place ending.entry ≡ h.ike
+      pub ike_after : stored ending.entry ≡ h.ike
       pub ipsec_after : owned_after ending q.spi entry ipsec ≡ h.ipsec
 
     -- what it comes to
@@ -78,7 +82,7 @@ module _ (ike : List IkeRecord) (ipsec : List IpsecRecord) (q : CheckResponse) w
             let o = eqb-true outcome 0 e in
             record {
               told_so = rw (long, o);
-              ike_after = rw (long, o) (set_out ike ike_places (unchecked entry) (omega arith));
+              ike_after = rw (long, o);
               ipsec_after = rw (long, o);
             }
         go false e true f c g =

@@ -1,9 +1,10 @@
 // What an update that is not stale comes to, by NO_NATS_ALLOWED beside it and by whether the policy accepts its pair.
-ghost use Rattle.std.specs.Prelude.{◌≡◌};
+ghost use Rattle.std.specs.Prelude.{◌≡◌, ◌&&◌};
+ghost use Rattle.octets.specs.Limits.{address_octets};
+ghost use Rattle.octets.specs.Lists.{same_octets};
 ghost use Rattle.values.specs.Values.{no_nats_seen};
 ghost use Rattle.verdict.specs.Verdict.{verdict_told, is_accepted, unaltered, verdict};
 
-use address::address::same_address;
 use address::pair::Pair;
 use findings::seen::Seen;
 use octets::number::Number;
@@ -37,6 +38,15 @@ impl Verdict {
     }
 }
 
+// Whether both addresses are the pair's: apart from `is_unaltered`, whose other tests would hide the step from `==`.
+#[tactic(auto, using(octets::proofs::Same::same_from_eq))]
+fn addresses_alike(n: NoNats, pair: Pair) -> bool
+    ensures { let source = same_octets address_octets n.source pair.source in
+        result ≡ (source && same_octets address_octets n.destination pair.destination) }
+{
+    n.source == pair.source && n.destination == pair.destination
+}
+
 // Whether NO_NATS_ALLOWED, if it was there, holds the packet's addresses and ports.
 #[tactic(auto, unfolding(crate::specs::Verdict::unaltered))]
 pub fn is_unaltered(n: NoNats, pair: Pair) -> bool
@@ -46,8 +56,7 @@ pub fn is_unaltered(n: NoNats, pair: Pair) -> bool
         || (n.family == pair.family
             && n.source_port == pair.source_port
             && n.destination_port == pair.destination_port
-            && same_address(n.source, pair.source)
-            && same_address(n.destination, pair.destination))
+            && addresses_alike(n, pair))
 }
 
 // The verdict, given what NO_NATS_ALLOWED holds.

@@ -1,23 +1,18 @@
--- `routability::response::tell` meets its contract.
--- Assumes nothing.
-use Rattle.std.proofs.Common.{sym, ◌∙◌, ne_eqb, eq-eqb}
+-- Refused by the checks before the chain, or assessed, since those have passed.
+use Rattle.std.proofs.Common.{sym, ne_eqb, eq-eqb}
 use Rattle.routability.specs.Routability.{check_told}
 use Rattle.routability.proofs.Passed.{passed}
 use Rattle.routability.proofs.response.tell.Goals as goal
 
-pub returns-then-number-ne0 : goal.returns-then-number-ne0
+pub returns-in-Err : goal.returns-in-Err
 unfolding check_told
-returns-then-number-ne0 c =
-    let n = c.from-number in
-    rw (← (n.ensures ∙ c.early_response-early.ensures), ne_eqb _ _ c.if-number-ne0.true) c.refuse.ensures
+returns-in-Err c =
+    let h = c.in-Err.ensures in
+    rw (← h.value, ne_eqb _ _ h.refused, ← c.from.ensures) c.refuse.ensures
 
 pub assess_kept-requires : goal.assess_kept-requires
-assess_kept-requires c =
-    let n = c.from-number in
-    (passed _ _ _ _ (sym (n.ensures ∙ c.early_response-early.ensures) ∙ c.if-number-ne0.false)).kept
+assess_kept-requires c = (passed _ _ _ _ (sym c.in-Ok.ensures.value)).kept
 
-pub returns : goal.returns
+pub returns-in-Ok : goal.returns-in-Ok
 unfolding check_told
-returns c =
-    let n = c.from-number in
-    rw (← (n.ensures ∙ c.early_response-early.ensures), eq-eqb _ _ c.if-number-ne0.false) c.assess_kept.ensures.is
+returns-in-Ok c = rw (eq-eqb _ _ (sym c.in-Ok.ensures.value)) c.assess_kept.ensures.is
