@@ -5,9 +5,10 @@ ghost use Rattle.std.specs.Prelude.{◌≡◌};
 ghost use Rattle.policy.specs.Policy.{acceptable, policy_of, set_policy};
 
 use address::pair::Pair;
-use lent_policy::rules::{accepts_if, policy_store, rules_of};
+use lent_policy::rules::{accepts_if, set_policy};
 use octets::limits::{OPERATORS, RULES_MOST};
-use policy::rules::{Policy, Rule, set_policy};
+use octets::number::told;
+use policy::rules::{Policy, Rule};
 
 // Sets an operator's whole policy, or refuses and leaves it. The other's stays.
 pub fn unmavreth_set_policy(
@@ -19,10 +20,7 @@ pub fn unmavreth_set_policy(
     ensures { let set = set_policy policies.old count rules.now operator in
         (result ≡ set.number) × (policies.new ≡ set.policies) }
 {
-    let list = rules_of(rules);
-    let c = set_policy(count, list, operator);
-    policy_store(policies, c.place, c.policy);
-    c.number
+    told(set_policy(policies, count, rules, operator))
 }
 
 // Whether some rule of the operator's policy accepts the pair. Whoever is no operator has no rules.

@@ -4,6 +4,7 @@ use Prim.Native.Nat.{ℕ}
 use mathlib.Core.Path.{◌≡◌, refl}
 use mathlib.Core.List.{List}
 use mathlib.Core.Bool.{Bool, true, false, cond}
+use borrow.Author.Tests.{eqb-true, eqb-false}
 use native.Mathlib.Omega.{arith}
 use lib.Dec.{eqb}
 use lib.ListN.{length, set}
@@ -35,3 +36,32 @@ sets policies long n rules operator = go (eqb number 0)
         (c.number ≡ r.number) × (set policies c.place c.policy ≡ r.policies)
     go true = (refl, refl)
     go false = (refl, set_out policies operators _ (omega arith))
+
+-- The same by the number: what is stored where nothing is refused, and that nothing is where something is.
+module _ (policies : List Policy) (n : ℕ) (rules : List Rule) (operator : ℕ) where
+  abbrev pub number : ℕ
+  number = first_failed (policy_checks n rules operator)
+
+  pub sets_passed : number ≡ 0
+      → let r = set_policy policies n rules operator in
+      (0 ≡ r.number) × (set policies operator (new_policy n rules) ≡ r.policies)
+  unfolding set_policy
+  sets_passed e = go (eqb number 0) refl
+    where
+      go : (b : Bool) → eqb number 0 ≡ b
+          → let r = cond b (policy_answer 0 (set policies operator (new_policy n rules))) (policy_answer number policies) in
+          (0 ≡ r.number) × (set policies operator (new_policy n rules) ≡ r.policies)
+      go true f = (refl, refl)
+      go false f = absurd (eqb-false number 0 f e)
+
+  pub sets_refused : (number ≡ 0 → ⊥)
+      → let r = set_policy policies n rules operator in
+      (number ≡ r.number) × (policies ≡ r.policies)
+  unfolding set_policy
+  sets_refused e = go (eqb number 0) refl
+    where
+      go : (b : Bool) → eqb number 0 ≡ b
+          → let r = cond b (policy_answer 0 (set policies operator (new_policy n rules))) (policy_answer number policies) in
+          (number ≡ r.number) × (policies ≡ r.policies)
+      go true f = absurd (e (eqb-true number 0 f))
+      go false f = (refl, refl)

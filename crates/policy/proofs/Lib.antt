@@ -1,4 +1,3 @@
 -- Laws that belong to no one function.
-pub mod Acceptable
-pub mod Lengths
 pub mod Changed
+pub mod Zeros

@@ -1,22 +1,22 @@
 // The policy's rules: checked as a whole when they are set, and each asked for a pair.
-ghost use Rattle.std.specs.Prelude.{◌≡◌, cond, ◌≤◌, take};
+ghost use Rattle.std.specs.Prelude.{◌≡◌, ◌≢◌, ◌≤◌, IfErr, OnOk};
 ghost use Rattle.octets.specs.Checks.{first_failed};
 ghost use Rattle.octets.specs.Limits.{rules_most};
 ghost use Rattle.octets.specs.Lists.{all};
-ghost use Rattle.octets.specs.Numbers.{number_of};
-ghost use Rattle.policy.specs.Policy.{rule_fits, lengths_fit, rule_matches};
-ghost use Rattle.policy.specs.Policy.{kept, policy_checks};
+ghost use Rattle.octets.specs.Numbers.{told, number_of};
+ghost use Rattle.policy.specs.Policy.{rule_fits, lengths_fit, rule_matches, acceptable};
+ghost use Rattle.policy.specs.Policy.{no_rule, no_policy, new_policy, policy_checks};
 ghost use Rattle.policy.specs.Change.{policy_setting};
 
 use address::address::{both_fit, width_of};
 use address::pair::Pair;
 use octets::limits::{ADDRESS_OCTETS, OPERATORS, RULES_MOST};
-use octets::number::Number;
+use octets::number::{Number, told};
 use octets::operator::not_operator;
 use prefix::prefix::prefix_matches;
 
 #[repr(C)]
-#[derive(Clone, Copy)]
+#[derive(Clone, Copy, Default)]
 pub struct Rule {
     pub family: u8,
     pub source: [u8; ADDRESS_OCTETS],
@@ -25,11 +25,114 @@ pub struct Rule {
     pub destination_len: u8,
 }
 
+impl Rule {
+    // A place that holds no rule.
+    #[tactic(auto, using(crate::proofs::Zeros::rule_zero))]
+    pub fn none() -> Rule
+        ensures { result ≡ no_rule }
+    {
+        Rule::default()
+    }
+
+    // Whether both prefixes are addresses of the rule's family.
+    pub fn fits(&self) -> bool
+        ensures { result ≡ rule_fits self.now }
+    {
+        both_fit(self.family, self.source, self.destination)
+    }
+
+    // Whether both lengths are at most the bits that an address of the family has.
+    pub fn lengths_fit(&self) -> bool
+        ensures { result ≡ lengths_fit self.now }
+    {
+        let bits = width_of(self.family) * 8;
+        self.source_len as u16 <= bits && self.destination_len as u16 <= bits
+    }
+
+    // Whether the rule accepts a pair: one rule must match both addresses.
+    #[tactic(auto, unfolding(crate::specs::Policy::rule_matches))]
+    pub fn matches(&self, pair: &Pair) -> bool
+        ensures { result ≡ rule_matches self.now pair.now }
+    {
+        self.family == pair.family
+            && width_of(self.family) != 0
+            && self.lengths_fit()
+            && prefix_matches(self.source, self.source_len, pair.source)
+            && prefix_matches(self.destination, self.destination_len, pair.destination)
+    }
+}
+
 #[repr(C)]
 #[derive(Clone, Copy)]
 pub struct Policy {
     pub count: u16,
     pub rules: [Rule; RULES_MOST],
+}
+
+impl Policy {
+    // A policy with no rules.
+    pub fn none() -> Policy
+        ensures { result ≡ no_policy }
+    {
+        Policy {
+            count: 0,
+            rules: [Rule::none(); RULES_MOST],
+        }
+    }
+
+    // A policy as it is set: the first `count` rules, and nothing in the places after them.
+    pub fn new(count: u16, rules: &[Rule; RULES_MOST]) -> Policy
+        requires { count ≤ rules_most }
+        ensures { result ≡ new_policy count rules.now }
+    {
+        let n = count as usize;
+        let mut kept = [Rule::none(); RULES_MOST];
+        kept[..n].copy_from_slice(&rules[..n]);
+        Policy { count, rules: kept }
+    }
+
+    // Whether some rule accepts the pair. The rules are read where they lie.
+    #[tactic(auto, unfolding(crate::specs::Policy::acceptable))]
+    pub fn accepts(&self, pair: &Pair) -> bool
+        ensures { result ≡ acceptable self.now pair.now }
+    {
+        self.rules
+            .iter()
+            .take(self.count as usize)
+            .any(|r| r.matches(pair))
+    }
+}
+
+// Whether each rule's addresses are of its family.
+fn all_fit(rules: &[Rule]) -> bool
+    ensures { result ≡ all rule_fits rules.now }
+{
+    rules.iter().all(|r| r.fits())
+}
+
+// Whether each rule's lengths fit.
+fn all_lengths_fit(rules: &[Rule]) -> bool
+    ensures { result ≡ all lengths_fit rules.now }
+{
+    rules.iter().all(|r| r.lengths_fit())
+}
+
+// Whether these rules may be set, and the number if not: each test is made of the whole list before the next.
+pub fn policy_number(n: usize, rules: &[Rule; RULES_MOST], operator: u8) -> Result<(), Number>
+    ensures as_listed { told result ≡ first_failed (policy_checks n rules.now operator) }
+    ensures fits { OnOk result (n ≤ rules_most) }
+    ensures refuses { IfErr result (λ e. number_of e ≢ 0) }
+{
+    if RULES_MOST < n {
+        return Err(Number::BadPolicy);
+    }
+    if not_operator(operator) || !all_fit(&rules[..n]) {
+        return Err(Number::BadArgument);
+    }
+    if !all_lengths_fit(&rules[..n]) {
+        return Err(Number::BadPolicy);
+    }
+    Ok(())
 }
 
 // The number that setting a policy gives, and the policy that is stored at an operator's place; past the end, where
@@ -41,137 +144,18 @@ pub struct PolicyChange {
     pub policy: Policy,
 }
 
-// Whether both prefixes are addresses of the rule's family.
-pub fn rule_fits(rule: Rule) -> bool
-    ensures { result ≡ rule_fits rule }
-{
-    let source = rule.source;
-    let destination = rule.destination;
-    both_fit(rule.family, source, destination)
-}
-
-// Whether both lengths are at most the bits that an address of the family has.
-pub fn lengths_fit(rule: Rule) -> bool
-    ensures { result ≡ lengths_fit rule }
-{
-    let bits = width_of(rule.family) * 8;
-    if rule.source_len as u16 <= bits {
-        rule.destination_len as u16 <= bits
-    } else {
-        false
-    }
-}
-
-// Whether a rule accepts a pair: one rule must match both addresses.
-#[tactic(auto, unfolding(crate::specs::Policy::rule_matches))]
-pub fn rule_matches(rule: Rule, pair: Pair) -> bool
-    ensures { result ≡ rule_matches rule pair }
-{
-    if rule.family != pair.family {
-        return false;
-    }
-    if width_of(rule.family) == 0 {
-        return false;
-    }
-    if lengths_fit(rule) {
-        let wanted_source = rule.source;
-        let wanted_destination = rule.destination;
-        let source = pair.source;
-        let destination = pair.destination;
-        if prefix_matches(wanted_source, rule.source_len, source) {
-            prefix_matches(wanted_destination, rule.destination_len, destination)
-        } else {
-            false
-        }
-    } else {
-        false
-    }
-}
-
-// Whether a rule passes one of the two tests: of its lengths, or of its addresses.
-pub fn passes(rule: Rule, lengths: bool) -> bool
-    ensures { result ≡ cond lengths lengths_fit rule_fits rule }
-{
-    if lengths {
-        lengths_fit(rule)
-    } else {
-        rule_fits(rule)
-    }
-}
-
-// Whether each of the first n rules passes that test.
-pub fn all_pass(rules: [Rule; RULES_MOST], n: usize, lengths: bool) -> bool
-    requires { n ≤ rules_most }
-    ensures { result ≡ all (cond lengths lengths_fit rule_fits) (take n rules) }
-{
-    let mut i = 0;
-    while i < n {
-        let rule = rules[i];
-        if passes(rule, lengths) {
-            i += 1;
-        } else {
-            return false;
-        }
-    }
-    true
-}
-
-// The first n rules, and nothing in the places after them.
-pub fn kept_rules(rules: [Rule; RULES_MOST], n: usize) -> [Rule; RULES_MOST]
-    requires { n ≤ rules_most }
-    ensures { result ≡ kept rules n }
-{
-    let none = Rule {
-        family: 0,
-        source: [0u8; ADDRESS_OCTETS],
-        destination: [0u8; ADDRESS_OCTETS],
-        source_len: 0,
-        destination_len: 0,
-    };
-    let mut out = [none; RULES_MOST];
-    let mut i = 0;
-    while i < n {
-        let rule = rules[i];
-        out[i] = rule;
-        i += 1;
-    }
-    out
-}
-
-// The number of setting these rules: each test is made of the whole list before the next.
-pub fn policy_number(n: usize, rules: [Rule; RULES_MOST], operator: u8) -> Number
-    ensures { number_of result ≡ first_failed (policy_checks n rules operator) }
-{
-    if RULES_MOST < n {
-        return Number::BadPolicy;
-    }
-    if not_operator(operator) {
-        return Number::BadArgument;
-    }
-    if all_pass(rules, n, false) {
-        if all_pass(rules, n, true) {
-            Number::Done
-        } else {
-            Number::BadPolicy
-        }
-    } else {
-        Number::BadArgument
-    }
-}
-
 // Sets an operator's whole policy, or refuses.
 #[tactic(auto, unfolding(crate::specs::Change::policy_setting))]
 pub fn set_policy(count: u16, rules: [Rule; RULES_MOST], operator: u8) -> PolicyChange
     ensures { result ≡ policy_setting count rules operator }
 {
     let n = count as usize;
-    let number = u8::from(policy_number(n, rules, operator));
+    let number = told(policy_number(n, &rules, operator));
     if number == 0 {
-        let kept = kept_rules(rules, n);
         PolicyChange {
             number,
             place: operator as usize,
-            policy: Policy { count, rules: kept },
+            policy: Policy::new(count, &rules),
         }
     } else {
         PolicyChange {

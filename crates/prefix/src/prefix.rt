@@ -11,12 +11,10 @@ fn each_matches(prefix: [u8; ADDRESS_OCTETS], n: usize, octets: [u8; ADDRESS_OCT
     requires { n ≤ address_octets }
     ensures { result ≡ prefix_matches prefix (bits_of n) octets }
 {
-    let mut i = 0;
-    while i < n {
+    for i in 0..n {
         if prefix[i] != octets[i] {
             return false;
         }
-        i += 1;
     }
     true
 }
@@ -29,10 +27,7 @@ fn octets_match(prefix: [u8; ADDRESS_OCTETS], n: usize, octets: [u8; ADDRESS_OCT
     if n < 8 {
         return each_matches(prefix, n, octets);
     }
-    if eight_at(prefix, 0) != eight_at(octets, 0) {
-        return false;
-    }
-    eight_at(prefix, n - 8) == eight_at(octets, n - 8)
+    eight_at(prefix, 0) == eight_at(octets, 0) && eight_at(prefix, n - 8) == eight_at(octets, n - 8)
 }
 
 // Whether the first n bits are those of the prefix, where those of the whole octets are: the octet that the prefix
@@ -55,9 +50,5 @@ pub fn prefix_matches(prefix: [u8; ADDRESS_OCTETS], n: u8, octets: [u8; ADDRESS_
     requires { n ≤ address_bits }
     ensures { result ≡ prefix_matches prefix n octets }
 {
-    if octets_match(prefix, (n / 8) as usize, octets) {
-        end_matches(prefix, n, octets)
-    } else {
-        false
-    }
+    octets_match(prefix, (n / 8) as usize, octets) && end_matches(prefix, n, octets)
 }

@@ -1,8 +1,9 @@
 -- What `Default` makes of a record: a free place.
-use Rattle.std.proofs.Common.{◌≡◌, refl, ap, ◌∙◌, ℕ, zero, suc, ◌<◌, List, [], ◌∷◌, length, get_or, arith}
+use Rattle.std.proofs.Common.{◌≡◌, ℕ, List}
 use Rattle.std.proofs.Math.ListN.{replicate}
 use Rattle.std.specs.Array.{AllOfLen}
 use Rattle.octets.specs.Limits.{address_octets, addresses_most, cookie_most}
+use Rattle.walks.proofs.Alike.{Zero, alike, zeros}
 use Rattle.address.specs.Address.{no_address, no_pair}
 use Rattle.address.specs.declared.address.Address.{Address}
 use Rattle.address.specs.declared.pair.Pair.{Pair}
@@ -12,25 +13,6 @@ use Rattle.records.specs.declared.check.PendingCheck.{PendingCheck}
 use Rattle.records.specs.declared.ike.Agreed.{Agreed}
 use Rattle.records.specs.declared.ike.IkeRecord.{IkeRecord}
 use Rattle.records.specs.declared.ipsec.IpsecRecord.{IpsecRecord}
-
--- a list of n elements that are all d
-module _ {A : Type 0} (P : A → Type 0) (d : A) (one : (x : A) → P x → x ≡ d) where
-  all_are : (n : ℕ) (xs : List A) → length xs ≡ n → ((i : ℕ) → i < n → P (get_or xs i d)) → xs ≡ replicate n d
-  all_are zero [] l h = refl
-  all_are zero (x ∷ xs) l h = absurd (omega arith)
-  all_are (suc n) [] l h = absurd (omega arith)
-  all_are (suc n) (x ∷ xs) l h =
-      ap (λ (y : A). y ∷ xs) (one x (h 0 (omega arith)))
-      ∙ ap (λ (ys : List A). d ∷ ys) (all_are n xs (omega arith) (λ i k. h (suc i) (omega arith)))
-
-  same : (n : ℕ) (xs : List A) → AllOfLen P xs n → xs ≡ replicate n d
-  same n xs a = all_are n xs a.long (λ i k. a.at i d k)
-
-abbrev Zero : ℕ → Type 0
-Zero x = x ≡ 0
-
-zeros : (n : ℕ) (xs : List ℕ) → AllOfLen Zero xs n → xs ≡ replicate n 0
-zeros n xs a = same Zero 0 (λ x e. e) n xs a
 
 abbrev NoAddress : Address → Type 0
 NoAddress a = (a.family ≡ 0) × AllOfLen Zero a.octets address_octets
@@ -93,7 +75,7 @@ ike_zero r h =
     let m = h.1.1.1 in
     is r.spi r.agreed r.pair r.update_mark r.list_mark r.count r.addresses r.unknown r.check r.deleting h.0
     (agreed_zero r.agreed h.1.0) (pair_zero r.pair h.1.1.0) m.0 m.1.0 m.1.1.0
-    (same NoAddress no_address address_zero addresses_most r.addresses m.1.1.1.0) m.1.1.1.1.0
+    (alike NoAddress no_address address_zero addresses_most r.addresses m.1.1.1.0) m.1.1.1.1.0
     (check_zero r.check m.1.1.1.1.1.0) m.1.1.1.1.1.1
   where
     is : (s : ℕ) (a : Agreed) (p : Pair) (u l n : ℕ) (xs : List Address) (t : ℕ) (c : PendingCheck) (d : ℕ) → s ≡ 0

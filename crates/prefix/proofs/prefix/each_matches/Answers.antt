@@ -6,7 +6,7 @@ use Rattle.prefix.proofs.prefix.each_matches.Goals as goal
 
 pub loop-i-init : goal.loop-i-init
 unfolding prefix_matches
-loop-i-init c = (search rules, refl)
+loop-i-init c = refl
 
 pub returns-then-prefix-i : goal.returns-then-prefix-i
 returns-then-prefix-i c =
@@ -18,4 +18,4 @@ returns-then-prefix-i c =
 
 pub loop-i-preserved : goal.loop-i-preserved
 loop-i-preserved c =
-    (omega arith, same_octet c.args.prefix c.args.octets c.loop-i.i c.loop-i.invariant.1 c.if-prefix-i.false)
+    same_octet c.args.prefix c.args.octets c.loop-i.i c.loop-i.invariant c.if-prefix-i.false

@@ -6,5 +6,6 @@ use Rattle.prefix.proofs.prefix.prefix_matches.Goals as goal
 pub returns-else-octets_match : goal.returns-else-octets_match
 returns-else-octets_match c =
     let a = c.args in
-    sym (longer_other a.prefix a.octets (a.n / 8 * 8) a.n (omega arith)
+    c.if-octets_match.false
+    ∙ sym (longer_other a.prefix a.octets (a.n / 8 * 8) a.n (omega arith)
     (sym c.octets_match.ensures ∙ c.if-octets_match.false))
