@@ -17,8 +17,7 @@ use Rattle.payload.specs.declared.payload.Fault.TheVariants.{ChainLength, Notify
 use Rattle.payload.specs.declared.payload.Fault.TheVariants.{Critical}
 use Rattle.payload.specs.declared.payload.Content.{Content}
 use Rattle.payload.specs.declared.payload.Content.TheVariants.{Skipped, Unknown, Notify}
-use Rattle.payload.specs.declared.payload.Found.{Found}
-use Rattle.payload.specs.declared.payload.Found.TheVariants.{Payload, Faulty}
+use Rattle.payload.specs.Payload.{Found, Payload, Faulty}
 use Rattle.findings.specs.Seen.{nothing_seen, content_noted, conflicts}
 use Rattle.findings.specs.declared.seen.Seen.{Seen}
 use Rattle.reader.specs.Chain.{Chain, ends, faulty, payload, link, chain_end, chain, chain_at, payloads_before}

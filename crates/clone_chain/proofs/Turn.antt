@@ -20,8 +20,7 @@ use Rattle.payload.specs.Payload.{flags_at, length_at, spi_size_at, notify_type_
 use Rattle.payload.specs.declared.payload.Fault.TheVariants.{NotifyShape, DataSize}
 use Rattle.payload.specs.declared.payload.Content.{Content}
 use Rattle.payload.specs.declared.payload.Content.TheVariants.{Skipped, Unknown, Notify}
-use Rattle.payload.specs.declared.payload.Found.{Found}
-use Rattle.payload.specs.declared.payload.Found.TheVariants.{Payload, Faulty}
+use Rattle.payload.specs.Payload.{Found, Payload, Faulty}
 use Rattle.reader.specs.Chain.{Chain, ends, faulty, payload, link, chain_end, chain_at, Whole, Broken}
 use Rattle.reader.proofs.Chain.{chain_step, takes, Formed, chain_formed}
 use Rattle.clone_chain.specs.CloneChain.{is_clone, clone_fault, is_of_type}

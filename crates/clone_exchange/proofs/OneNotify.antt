@@ -13,8 +13,7 @@ use Rattle.notify.specs.declared.notify.NotifyKind.{NotifyKind}
 use Rattle.payload.specs.Payload.{payload_at}
 use Rattle.payload.specs.declared.payload.Content.TheVariants.{Skipped, Unknown as UnknownPayload, Notify}
 use Rattle.payload.specs.declared.payload.Fault.TheVariants.{NotifyShape, DataSize, Leftover}
-use Rattle.payload.specs.declared.payload.Found.{Found}
-use Rattle.payload.specs.declared.payload.Found.TheVariants.{Payload, Faulty}
+use Rattle.payload.specs.Payload.{Found, Payload, Faulty}
 use Rattle.findings.specs.Seen.{nothing_seen}
 use Rattle.writing.specs.Notify.{notification}
 use Rattle.writing.proofs.Chained.{chained_one}

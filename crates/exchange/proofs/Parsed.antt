@@ -22,8 +22,7 @@ use Rattle.notify.specs.declared.notify.NotifyKind.TheVariants.{NoNatsAllowed, U
 use Rattle.notify.specs.declared.notify.NotifyKind.TheVariants.{UnexpectedNatDetected, OtherError, OtherStatus}
 use Rattle.payload.specs.declared.payload.Content.TheVariants.{Skipped, Unknown as UnknownPayload, Notify}
 use Rattle.payload.specs.declared.payload.Fault.TheVariants.{Leftover}
-use Rattle.payload.specs.declared.payload.Found.{Found}
-use Rattle.payload.specs.declared.payload.Found.TheVariants.{Payload, Faulty}
+use Rattle.payload.specs.Payload.{Found, Payload, Faulty}
 use Rattle.writing.specs.Notify.{Notification, notification, notify_octets, first_type, chained}
 use Rattle.reader.specs.Chain.{ends, faulty, payload, link, chain_end, chain_at}
 use Rattle.reader.proofs.Chain.{chain_step, takes}

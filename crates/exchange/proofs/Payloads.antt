@@ -14,7 +14,7 @@ use Rattle.octets.specs.Octets.{be16}
 use Rattle.notify.specs.Notify.{kind_of, data_fits}
 use Rattle.payload.specs.Payload.{payload_at, sized, notify_at}
 use Rattle.payload.specs.declared.payload.Content.TheVariants.{Notify}
-use Rattle.payload.specs.declared.payload.Found.TheVariants.{Payload}
+use Rattle.payload.specs.Payload.{Payload}
 use Rattle.writing.specs.Notify.{Notification, notify_octets, first_type, chained}
 use Rattle.writing.proofs.Placed.{length-notify}
 use Rattle.reader.specs.Chain.{payload, chain_at}

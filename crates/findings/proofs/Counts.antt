@@ -14,7 +14,7 @@ use Rattle.notify.specs.declared.notify.NotifyKind.TheVariants.{OtherError, Othe
 use Rattle.payload.specs.declared.payload.Content.{Content}
 use Rattle.payload.specs.declared.payload.Content.TheVariants.{Skipped, Unknown as UnknownPayload, Notify}
 use Rattle.findings.specs.Seen.{counted, unknown_notify, noted, with_tally, content_noted}
-use Rattle.findings.specs.State.{Counted}
+use Rattle.findings.specs.Counted.{Counted}
 use Rattle.findings.specs.declared.seen.Tally.{Tally}
 use Rattle.findings.specs.declared.seen.Seen.{Seen}
 

@@ -1,3 +1,3 @@
 pub mod Seen
-pub mod Slots
-pub mod State
+pub mod Counted
+pub mod With

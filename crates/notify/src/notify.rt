@@ -8,14 +8,14 @@ use octets::limits::{
 };
 
 // A notify type as it stands in a Notify payload. 01: "The numbers belong to the notify type as its named constants."
-#[derive(Clone, Copy)]
+#[derive(Clone, Copy, PartialEq, Eq, Debug)]
 pub struct NotifyType {
     pub number: u16,
 }
 
 // What a notify type means to this gateway. The last four are not in the table of types that it reads, so they are
 // tallied as unknown; the first three of them are errors.
-#[derive(Clone, Copy)]
+#[derive(Clone, Copy, PartialEq, Eq, Debug)]
 pub enum NotifyKind {
     NatDetectionSource,
     NatDetectionDestination,
@@ -76,8 +76,7 @@ impl NotifyType {
     pub fn kind(self) -> NotifyKind
         ensures { result ≡ kind_of self.number }
     {
-        let n = self.number;
-        match n {
+        match self.number {
             NotifyType::NAT_DETECTION_SOURCE_IP => NotifyKind::NatDetectionSource,
             NotifyType::NAT_DETECTION_DESTINATION_IP => NotifyKind::NatDetectionDestination,
             NotifyType::MOBIKE_SUPPORTED => NotifyKind::MobikeSupported,
@@ -89,13 +88,8 @@ impl NotifyType {
             NotifyType::NO_NATS_ALLOWED => NotifyKind::NoNatsAllowed,
             NotifyType::UNACCEPTABLE_ADDRESSES => NotifyKind::UnacceptableAddresses,
             NotifyType::UNEXPECTED_NAT_DETECTED => NotifyKind::UnexpectedNatDetected,
-            _ => {
-                if n < NotifyType::FIRST_STATUS {
-                    NotifyKind::OtherError
-                } else {
-                    NotifyKind::OtherStatus
-                }
-            }
+            n if n < NotifyType::FIRST_STATUS => NotifyKind::OtherError,
+            _ => NotifyKind::OtherStatus,
         }
     }
 }
@@ -105,46 +99,25 @@ impl NotifyKind {
     pub fn is_error(self) -> bool
         ensures { result ≡ is_error self }
     {
-        match self {
-            NotifyKind::NatDetectionSource => false,
-            NotifyKind::NatDetectionDestination => false,
-            NotifyKind::MobikeSupported => false,
-            NotifyKind::AdditionalIp4 => false,
-            NotifyKind::AdditionalIp6 => false,
-            NotifyKind::NoAdditionalAddresses => false,
-            NotifyKind::UpdateSaAddresses => false,
-            NotifyKind::Cookie2 => false,
-            NotifyKind::NoNatsAllowed => false,
-            NotifyKind::UnacceptableAddresses => true,
-            NotifyKind::UnexpectedNatDetected => true,
-            NotifyKind::OtherError => true,
-            NotifyKind::OtherStatus => false,
-        }
+        matches!(
+            self,
+            NotifyKind::UnacceptableAddresses
+                | NotifyKind::UnexpectedNatDetected
+                | NotifyKind::OtherError
+        )
     }
 
     // Whether a notification of this kind is tallied as unknown: errors, and every other type that is not in the table.
     pub fn is_unknown(self) -> bool
         ensures { result ≡ is_unknown self }
     {
-        match self {
-            NotifyKind::NatDetectionSource => false,
-            NotifyKind::NatDetectionDestination => false,
-            NotifyKind::MobikeSupported => false,
-            NotifyKind::AdditionalIp4 => false,
-            NotifyKind::AdditionalIp6 => false,
-            NotifyKind::NoAdditionalAddresses => false,
-            NotifyKind::UpdateSaAddresses => false,
-            NotifyKind::Cookie2 => false,
-            NotifyKind::NoNatsAllowed => false,
-            NotifyKind::UnacceptableAddresses => true,
-            NotifyKind::UnexpectedNatDetected => true,
-            NotifyKind::OtherError => true,
-            NotifyKind::OtherStatus => true,
-        }
+        self.is_error() || self == NotifyKind::OtherStatus
     }
 }
 
-// Whether a notification's data, a part of the body, has a size that its type allows.
+// Whether a notification's data, a part of the body, has a size that its type allows. Each kind has its own arm: where
+// those of one size share one, the reader asks for the kind twice (383 instructions for the chain of 112 octets, in place
+// of 352).
 pub fn data_fits(kind: NotifyKind, data: &[u8]) -> bool
     ensures { result ≡ data_fits kind (length «data».now) }
 {

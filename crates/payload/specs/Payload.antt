@@ -17,19 +17,29 @@
 --   notify_at                   the Notify at an offset, its length read
 --   sized                      the payload of a type at an offset, its length read
 --   payload_at                  the payload of a type at an offset
---   Payload, Faulty            what stands there: a payload of so many octets with its content, or a fault
+--   Found: Payload, Faulty     what stands there: a payload of so many octets with its content, or a fault
 --   Skipped, Unknown, Notify   its content
 --   ChainLength, NotifyShape, DataSize, Critical   the faults that a payload has by itself
-use Rattle.std.specs.Prelude.{ℕ, ◌+◌, ◌-◌, List, Bool, cond, ◌&&◌, ◌||◌, length, get_or, eqb, leb, ltb}
+use Rattle.std.specs.Prelude.{ℕ, ◌+◌, ◌-◌, List, Bool, cond, ◌&&◌, ◌||◌, length, get_or, eqb, leb, ltb, Result, Ok, Err}
 use Rattle.octets.specs.Limits.{payload_header, notify_header}
 use Rattle.octets.specs.Wire.{critical_bit, first_known_payload, last_known_payload, notify_payload}
 use Rattle.octets.specs.Octets.{be16}
 use Rattle.notify.specs.Notify.{kind_of, data_fits, is_unknown}
 use Rattle.notify.specs.declared.notify.NotifyKind.{NotifyKind}
+use Rattle.payload.specs.declared.payload.Fault.{Fault}
 use Rattle.payload.specs.declared.payload.Fault.TheVariants.{ChainLength, NotifyShape, DataSize, Critical}
+use Rattle.payload.specs.declared.payload.Content.{Content}
 use Rattle.payload.specs.declared.payload.Content.TheVariants.{Skipped, Unknown, Notify}
-use Rattle.payload.specs.declared.payload.Found.{Found}
-use Rattle.payload.specs.declared.payload.Found.TheVariants.{Payload, Faulty}
+
+-- what stands at an offset: a payload of so many octets with its content, or a fault
+abbrev pub Found : Type 0
+Found = Result (ℕ × Content) Fault
+
+pattern abbrev pub Payload : ℕ → Content → Found
+Payload size content = Ok (size, content)
+
+pattern abbrev pub Faulty : Fault → Found
+Faulty fault = Err fault
 
 abbrev pub flags_at : ℕ
 flags_at = 1

@@ -21,7 +21,7 @@ pub const SPI_SIZE: usize = 5;
 pub const NOTIFY_TYPE: usize = 6;
 
 // What can be wrong with a chain.
-#[derive(Clone, Copy)]
+#[derive(Clone, Copy, PartialEq, Eq, Debug)]
 pub enum Fault {
     // Fewer octets left than a header has, or a length under a header's or past the end.
     ChainLength,
@@ -38,7 +38,7 @@ pub enum Fault {
 }
 
 // What a payload is to the reader.
-#[derive(Clone, Copy)]
+#[derive(Clone, Copy, PartialEq, Eq, Debug)]
 pub enum Content {
     // A type that is known and of no concern here.
     Skipped,
@@ -48,89 +48,62 @@ pub enum Content {
     Notify(NotifyKind, u16, u16),
 }
 
-#[derive(Clone, Copy)]
-pub enum Found {
-    // A payload of so many octets, its header counted.
-    Payload(usize, Content),
-    Faulty(Fault),
-}
-
 // Whether a Notify of this type and of `size` octets may have an SPI of so many. Most have none, so that is asked
 // first.
 pub fn spi_fits(notify_type: u16, spi_size: usize, size: usize) -> bool
     requires { spi_size < 256 }
     ensures { result ≡ spi_inside (kind_of notify_type) spi_size size }
 {
-    if spi_size == 0 {
-        return true;
-    }
-    if size < NOTIFY_HEADER + spi_size {
-        return false;
-    }
-    NotifyType {
+    let notify_type = NotifyType {
         number: notify_type,
-    }
-    .kind()
-    .is_unknown()
+    };
+    spi_size == 0 || NOTIFY_HEADER + spi_size <= size && notify_type.kind().is_unknown()
 }
 
-// The Notify at `at`, of `size` octets. Its data, which starts in the middle of the body, is passed on as a part.
+// The Notify at `at`, of `size` octets: its size and what it is, or what is wrong with it. Its data, which starts in the
+// middle of the body, is passed on as a part.
 #[tactic(auto, unfolding(crate::specs::Payload::notify_at))]
-pub fn notify_at(body: &[u8], at: usize, size: usize) -> Found
+pub fn notify_at(body: &[u8], at: usize, size: usize) -> Result<(usize, Content), Fault>
     requires { (at + size ≤ length body.now) × (size < 65536) }
     ensures { result ≡ notify_at body.now at size }
 {
     if size < NOTIFY_HEADER {
-        return Found::Faulty(Fault::NotifyShape);
+        return Err(Fault::NotifyShape);
     }
     let spi_size = body[at + SPI_SIZE] as usize;
     let notify_type = be16_at(body, at + NOTIFY_TYPE);
-    if spi_fits(notify_type, spi_size, size) {
-        let kind = NotifyType {
-            number: notify_type,
-        }
-        .kind();
-        let start = at + NOTIFY_HEADER + spi_size;
-        let end = at + size;
-        if data_fits(kind, &body[start..end]) {
-            let data_size = (size - NOTIFY_HEADER - spi_size) as u16;
-            Found::Payload(size, Content::Notify(kind, notify_type, data_size))
-        } else {
-            Found::Faulty(Fault::DataSize)
-        }
-    } else {
-        Found::Faulty(Fault::NotifyShape)
+    if !spi_fits(notify_type, spi_size, size) {
+        return Err(Fault::NotifyShape);
     }
+    let kind = NotifyType {
+        number: notify_type,
+    }
+    .kind();
+    let data = &body[at + NOTIFY_HEADER + spi_size..at + size];
+    if !data_fits(kind, data) {
+        return Err(Fault::DataSize);
+    }
+    Ok((size, Content::Notify(kind, notify_type, data.len() as u16)))
 }
 
-// The payload of type `payload_type` at `at`.
+// The payload of type `payload_type` at `at`: how many octets it has, its header counted, and what it is.
 #[tactic(auto, unfolding(crate::specs::Payload::payload_at, crate::specs::Payload::sized))]
-pub fn payload_at(payload_type: u8, body: &[u8], at: usize) -> Found
+pub fn payload_at(payload_type: u8, body: &[u8], at: usize) -> Result<(usize, Content), Fault>
     requires { at ≤ length body.now }
     ensures { result ≡ payload_at payload_type body.now at }
 {
     let left = body.len() - at;
     if left < PAYLOAD_HEADER {
-        return Found::Faulty(Fault::ChainLength);
+        return Err(Fault::ChainLength);
     }
     let size = be16_at(body, at + LENGTH) as usize;
-    if size < PAYLOAD_HEADER {
-        return Found::Faulty(Fault::ChainLength);
+    if size < PAYLOAD_HEADER || left < size {
+        return Err(Fault::ChainLength);
     }
-    if left < size {
-        return Found::Faulty(Fault::ChainLength);
-    }
-    if payload_type == NOTIFY_PAYLOAD {
-        return notify_at(body, at, size);
-    }
-    if FIRST_KNOWN_PAYLOAD <= payload_type {
-        if payload_type <= LAST_KNOWN_PAYLOAD {
-            return Found::Payload(size, Content::Skipped);
-        }
-    }
-    if CRITICAL_BIT <= body[at + FLAGS] {
-        Found::Faulty(Fault::Critical(payload_type))
-    } else {
-        Found::Payload(size, Content::Unknown)
+    match payload_type {
+        NOTIFY_PAYLOAD => notify_at(body, at, size),
+        FIRST_KNOWN_PAYLOAD..=LAST_KNOWN_PAYLOAD => Ok((size, Content::Skipped)),
+        _ if CRITICAL_BIT <= body[at + FLAGS] => Err(Fault::Critical(payload_type)),
+        _ => Ok((size, Content::Unknown)),
     }
 }

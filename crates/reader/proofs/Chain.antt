@@ -18,8 +18,7 @@ use Rattle.payload.specs.declared.payload.Fault.{Fault}
 use Rattle.payload.specs.declared.payload.Fault.TheVariants.{Leftover}
 use Rattle.payload.specs.declared.payload.Content.{Content}
 use Rattle.payload.specs.declared.payload.Content.TheVariants.{Skipped, Unknown, Notify}
-use Rattle.payload.specs.declared.payload.Found.{Found}
-use Rattle.payload.specs.declared.payload.Found.TheVariants.{Payload, Faulty}
+use Rattle.payload.specs.Payload.{Found, Payload, Faulty}
 
 -- what is claimed of a payload that was found, by its size and its content
 data OfFound (P : ℕ → Content → Type 0) : Found → Type 0 where

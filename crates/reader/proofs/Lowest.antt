@@ -18,8 +18,7 @@ use Rattle.notify.specs.declared.notify.NotifyKind.{NotifyKind}
 use Rattle.payload.specs.Payload.{flags_at, notify_type_at, spi_fits, notify_at, sized, payload_at}
 use Rattle.payload.specs.declared.payload.Fault.TheVariants.{ChainLength, NotifyShape, DataSize, Conflict, Critical}
 use Rattle.payload.specs.declared.payload.Content.TheVariants.{Skipped, Unknown, Notify}
-use Rattle.payload.specs.declared.payload.Found.{Found}
-use Rattle.payload.specs.declared.payload.Found.TheVariants.{Payload, Faulty}
+use Rattle.payload.specs.Payload.{Found, Payload, Faulty}
 use Rattle.findings.specs.Seen.{content_noted, repeats, conflicts}
 use Rattle.findings.specs.declared.seen.Seen.{Seen}
 use Rattle.reader.specs.Chain.{Scan, Chain, Outcome, Whole, Broken, link, chain_at, stopped, scanned, fault_number}

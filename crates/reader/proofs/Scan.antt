@@ -14,7 +14,7 @@ use Rattle.reader.specs.Ends.{end_of}
 use Rattle.payload.specs.declared.payload.Fault.{Fault}
 use Rattle.payload.specs.declared.payload.Fault.TheVariants.{Leftover, Conflict}
 use Rattle.payload.specs.declared.payload.Content.{Content}
-use Rattle.payload.specs.declared.payload.Found.TheVariants.{Payload, Faulty}
+use Rattle.payload.specs.Payload.{Payload, Faulty}
 use Rattle.findings.specs.declared.seen.Seen.{Seen}
 use Rattle.reader.proofs.Chain.{chain_step}
 

@@ -23,13 +23,11 @@ use Rattle.octets.specs.declared.number.Number.{Number}
 use Rattle.octets.specs.declared.number.Number.TheVariants.{Done, BadArgument, BodyTooLong, UnknownCritical}
 use Rattle.octets.specs.declared.number.Number.TheVariants.{BadChainLength, BadNotify, BadDataSize}
 use Rattle.octets.specs.declared.number.Number.TheVariants.{Repeated, OctetsAfterEnd}
-use Rattle.payload.specs.Payload.{payload_at}
+use Rattle.payload.specs.Payload.{Found, Payload, Faulty, payload_at}
 use Rattle.payload.specs.declared.payload.Fault.{Fault}
 use Rattle.payload.specs.declared.payload.Fault.TheVariants.{ChainLength, NotifyShape, DataSize}
 use Rattle.payload.specs.declared.payload.Fault.TheVariants.{Conflict, Leftover, Critical}
 use Rattle.payload.specs.declared.payload.Content.{Content}
-use Rattle.payload.specs.declared.payload.Found.{Found}
-use Rattle.payload.specs.declared.payload.Found.TheVariants.{Payload, Faulty}
 use Rattle.findings.specs.Seen.{nothing_seen, content_noted, conflicts}
 use Rattle.findings.specs.declared.seen.Seen.{Seen}
 use Rattle.reader.specs.declared.read.Reading.{Reading}
