@@ -6,7 +6,7 @@ use octets::limits::ADDRESSES_MOST;
 
 // How many payloads there were, and how many of them are not known here.
 #[repr(C)]
-#[derive(Clone, Copy, Default, PartialEq, Eq, Debug)]
+#[derive(Clone, Copy, PartialEq, Eq, Debug)]
 pub struct Tally {
     pub payloads: u16,
     pub unknown_payloads: u16,
@@ -20,7 +20,7 @@ pub struct Tally {
 // The additional addresses: all are counted, and of the first sixteen the offset of their data and their family are
 // kept.
 #[repr(C)]
-#[derive(Clone, Copy, Default, PartialEq, Eq, Debug)]
+#[derive(Clone, Copy, PartialEq, Eq, Debug)]
 pub struct Offsets {
     pub count: u16,
     pub offsets: [u16; ADDRESSES_MOST],
@@ -29,7 +29,7 @@ pub struct Offsets {
 
 // Data is told by the offset in the body at which it begins. Behind a header that is never 0, so 0 means none.
 #[repr(C)]
-#[derive(Clone, Copy, Default, PartialEq, Eq, Debug)]
+#[derive(Clone, Copy, PartialEq, Eq, Debug)]
 pub struct Seen {
     pub tally: Tally,
     pub update: bool,
@@ -43,6 +43,7 @@ pub struct Seen {
     pub list: Offsets,
 }
 
+// Written out: that `Default` makes the same needs a lemma longer than this.
 pub fn nothing_seen() -> Seen
     ensures { result ≡ nothing_seen }
 {

@@ -15,6 +15,15 @@ pub struct PayloadReader<'a> {
     pub at: u16,
 }
 
+impl<'a> PayloadReader<'a> {
+    // The octets at the reader's offset, as a part of its body; none at offset 0, or where they would run past the end.
+    pub fn octets(self, length: u16) -> &'a [u8]
+        ensures { PartOf self.entry.body self.entry.at length result }
+    {
+        part(self.body, self.at, length)
+    }
+}
+
 // A reader of the body at an offset.
 pub fn reader_at<'a>(body: &'a [u8], at: u16) -> PayloadReader<'a>
     ensures { (result.body ≡ body.entry) × (result.at ≡ at) }
@@ -22,19 +31,12 @@ pub fn reader_at<'a>(body: &'a [u8], at: u16) -> PayloadReader<'a>
     PayloadReader { body, at }
 }
 
-// The octets at the reader's offset, as a part of its body; none at offset 0, or where they would run past the end.
-pub fn octets<'a>(reader: PayloadReader<'a>, length: u16) -> &'a [u8]
-    ensures { PartOf reader.entry.body reader.entry.at length result }
-{
-    part(reader.body, reader.at, length)
-}
-
 // A payload's data as a part of the body that was read, by the offset and the length that a call told; empty if
 // there is none.
 pub fn data_at<'a>(body: &'a [u8], at: u16, length: u16) -> &'a [u8]
     ensures { PartOf body.entry at length result }
 {
-    octets(reader_at(body, at), length)
+    reader_at(body, at).octets(length)
 }
 
 // The NAT detection value at an offset, as a part of the body that was read; empty if there is none.

@@ -20,10 +20,7 @@ pub fn part(body: &[u8], at: u16, size: u16) -> &[u8]
 {
     let start = at as usize;
     let end = start + size as usize;
-    if at == 0 {
-        return &body[..0];
-    }
-    if body.len() < end {
+    if at == 0 || body.len() < end {
         return &body[..0];
     }
     &body[start..end]
@@ -38,7 +35,7 @@ pub fn cookie(body: &[u8], seen: Seen) -> &[u8]
 
 // What NO_NATS_ALLOWED holds; family 0 where there is none.
 #[repr(C)]
-#[derive(Clone, Copy)]
+#[derive(Clone, Copy, PartialEq, Eq, Debug)]
 pub struct NoNats {
     pub family: u8,
     pub source: [u8; ADDRESS_OCTETS],
@@ -53,17 +50,16 @@ fn no_nats_in(family: u8, width: usize, data: &[u8]) -> NoNats
     ensures { result ≡ no_nats_in family width «data».now }
 {
     let ports = width + width;
-    let source = padded_to_16(&data[..width]);
-    let destination = padded_to_16(&data[width..ports]);
     NoNats {
         family,
-        source,
-        destination,
+        source: padded_to_16(&data[..width]),
+        destination: padded_to_16(&data[width..ports]),
         source_port: be16_at(data, ports),
         destination_port: be16_at(data, ports + PORT_SIZE),
     }
 }
 
+// Written out: that `Default` makes the same needs a lemma longer than this.
 fn nothing_allowed() -> NoNats
     ensures { result ≡ absent }
 {
@@ -80,13 +76,11 @@ fn nothing_allowed() -> NoNats
 pub fn no_nats_of(data: &[u8]) -> NoNats
     ensures { result ≡ no_nats_of «data».now }
 {
-    if data.len() == NO_NATS_LEAST {
-        return no_nats_in(4, IP4_OCTETS, data);
+    match data.len() {
+        NO_NATS_LEAST => no_nats_in(4, IP4_OCTETS, data),
+        NO_NATS_MOST => no_nats_in(6, IP6_OCTETS, data),
+        _ => nothing_allowed(),
     }
-    if data.len() == NO_NATS_MOST {
-        return no_nats_in(6, IP6_OCTETS, data);
-    }
-    nothing_allowed()
 }
 
 // The same by the offset and the size that a reading tells.
@@ -107,23 +101,16 @@ pub fn address_at(body: &[u8], at: u16, family: u8) -> [u8; ADDRESS_OCTETS]
 pub fn kept_count(count: u16) -> u16
     ensures { result ≡ min count addresses_most }
 {
-    let most = ADDRESSES_MOST as u16;
-    if count < most { count } else { most }
+    count.min(ADDRESSES_MOST as u16)
 }
 
 // The additional addresses that are kept, with zeros in the places after them.
 pub fn additional(body: &[u8], list: Offsets) -> [[u8; ADDRESS_OCTETS]; ADDRESSES_MOST]
     ensures { result ≡ additional_of body.now list }
 {
-    let n = kept_count(list.count) as usize;
-    let offsets = list.offsets;
-    let families = list.families;
     let mut out = [[0u8; ADDRESS_OCTETS]; ADDRESSES_MOST];
-    let mut i = 0;
-    while i < n {
-        let a = address_at(body, offsets[i], families[i]);
-        out[i] = a;
-        i += 1;
+    for i in 0..kept_count(list.count) as usize {
+        out[i] = address_at(body, list.offsets[i], list.families[i]);
     }
     out
 }
@@ -133,6 +120,5 @@ pub fn addresses_in(body: &[u8], list: Offsets) -> [Address; ADDRESSES_MOST]
     ensures { result ≡ addresses_in body.now list }
 {
     let octets = additional(body, list);
-    let families = list.families;
-    addresses_of(families, octets, kept_count(list.count) as usize)
+    addresses_of(list.families, octets, kept_count(list.count) as usize)
 }

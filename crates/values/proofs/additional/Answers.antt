@@ -9,10 +9,6 @@ use Rattle.values.proofs.additional.Goals as goal
 pub loop-i-preserved : goal.loop-i-preserved
 loop-i-preserved c =
     let a = c.args in
-    let l = c.loop-i in (
-      omega arith,
-      l.invariant.1,
-      rw c.address_at-a.ensures
-          (joins_one (address_at a.body.now) (replicate address_octets 0) a.list.offsets a.list.families addresses_most
-          (search rules) (search rules) l.out l.i 0 0 (omega arith) l.invariant.2),
-    )
+    rw c.address_at.ensures
+    (joins_one (address_at a.body.now) (replicate address_octets 0) a.list.offsets a.list.families addresses_most
+    (search rules) (search rules) _ _ 0 0 (omega arith) c.loop-i.invariant)

@@ -1,5 +1,5 @@
 -- The first i addresses are those of the joined list.
-use Rattle.std.proofs.Common.{◌≡◌, ◌≤◌, ◌-◌}
+use Rattle.std.proofs.Common.{◌≡◌}
 use lib.ListN.{replicate}
 use Rattle.octets.specs.Limits.{addresses_most, address_octets}
 use Rattle.octets.proofs.Zip.{joined}
@@ -8,10 +8,4 @@ use Rattle.values.proofs.additional.Given as goal
 
 abbrev pub invariant-loop-i : goal.invariant-loop-i
 invariant-loop-i l =
-    (l.i ≤ l.n)
-    × (l.n ≤ addresses_most)
-    × (l.out
-    ≡ joined (address_at l.body) (replicate address_octets 0) l.offsets l.families addresses_most l.i)
-
-abbrev pub decreases-loop-i : goal.decreases-loop-i
-decreases-loop-i l = l.n - l.i
+    l.out ≡ joined (address_at l.body) (replicate address_octets 0) l.list.offsets l.list.families addresses_most l.i
