@@ -1,7 +1,7 @@
 // Addresses: a family and sixteen octets.
-ghost use Rattle.std.specs.Prelude.{◌≡◌, ◌≤◌, drop};
-ghost use Rattle.octets.specs.Limits.{addresses_most, address_octets};
-ghost use Rattle.octets.specs.Lists.{all, same_octets};
+ghost use Rattle.std.specs.Prelude.{◌≡◌, ◌≤◌};
+ghost use Rattle.octets.specs.Limits.{addresses_most};
+ghost use Rattle.octets.specs.Lists.{all};
 ghost use Rattle.address.specs.Address.{width_of, addresses_of, is_zero};
 ghost use Rattle.address.specs.Address.{address_fits, both_fit};
 
@@ -73,12 +73,4 @@ pub fn both_fit(family: u8, source: [u8; ADDRESS_OCTETS], destination: [u8; ADDR
     ensures { result ≡ both_fit family source destination }
 {
     address_fits(family, source) && address_fits(family, destination)
-}
-
-// Whether two addresses have the same octets.
-#[tactic(auto, using(octets::proofs::Same::same_from_eq))]
-pub fn same_address(a: [u8; ADDRESS_OCTETS], b: [u8; ADDRESS_OCTETS]) -> bool
-    ensures { result ≡ same_octets address_octets a b }
-{
-    a == b
 }

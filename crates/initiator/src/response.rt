@@ -54,13 +54,6 @@ impl From<Outcome> for u8 {
     }
 }
 
-// The same, as a function: it goes once no crate calls it.
-pub fn outcome_number(outcome: Outcome) -> u8
-    ensures { result ≡ outcome_number outcome }
-{
-    u8::from(outcome)
-}
-
 // Whether two parts of the same length have the same octets: it goes once no crate calls it.
 #[tactic(auto, using(octets::proofs::Same::same_from_eq))]
 pub fn same_octets(a: &[u8], b: &[u8]) -> bool
@@ -86,6 +79,7 @@ pub fn must_close(sent: &[u8], got: &[u8], errors: u16) -> bool
 }
 
 // What an error of this notify type is told as.
+#[tactic(auto, unfolding(crate::specs::Response::error_outcome))]
 pub fn error_outcome(notify_type: u16) -> Outcome
     ensures { result ≡ error_outcome notify_type }
 {
