@@ -14,7 +14,7 @@ use Rattle.writing.proofs.Placed.{placed_none, placed_then, length-placed}
 use Rattle.leb128.specs.Leb128.{octets_of}
 use Rattle.fields.specs.Fields.{Field, up_to, address, string, ◌then◌, list_of, octets, string_most, list_most}
 use Rattle.fields.specs.Slots.{width, value_in, fits_in}
-use Rattle.fields.specs.Codes.{table_of, run_from, Ready, Puts}
+use Rattle.fields.specs.Codes.{many, Ready, Puts}
 use Rattle.fields.specs.Writing.{octets_in}
 use Rattle.fields.proofs.Copies.{list_fits_lem, list_octets}
 use Rattle.fields.proofs.Prefix.{part_length}
@@ -127,14 +127,14 @@ module _ (f g : Field) (s slots : List ℕ) (slot : ℕ) (out : List ℕ) (at : 
       r then_room p q)
 
 -- ---- a list
-module _ (codes s slots : List ℕ) (slot : ℕ) (out : List ℕ) (at : ℕ)
-    (ready : Ready (list_of (table_of codes)) s slots slot out at) where
+module _ (f : Field) (s slots : List ℕ) (slot : ℕ) (out : List ℕ) (at : ℕ)
+    (ready : Ready (list_of f) s slots slot out at) where
   list_both : (get_or slots slot 0 ≤ list_most) ×
-      (fits_in (run_from codes (length codes) (get_or slots slot 0)) s (drop (slot + 1) slots) ≡ true)
+      (fits_in (many (get_or slots slot 0) f) s (drop (slot + 1) slots) ≡ true)
   list_both =
       let b = both (leb (get_or slots slot 0) list_most)
-      (fits_in (run_from codes (length codes) (get_or slots slot 0)) s (drop (slot + 1) slots))
-      (rw (list_fits_lem codes s slots slot) at ready.fitting) in
+      (fits_in (many (get_or slots slot 0) f) s (drop (slot + 1) slots))
+      (rw (list_fits_lem f s slots slot) at ready.fitting) in
       (leb-true (get_or slots slot 0) list_most b.0, b.1)
 
   pub list_count : get_or slots slot 0 ≤ list_most
@@ -142,19 +142,19 @@ module _ (codes s slots : List ℕ) (slot : ℕ) (out : List ℕ) (at : ℕ)
 
   pub list_room : at +
       (length (octets_of (get_or slots slot 0)) + length
-      (octets_in (run_from codes (length codes) (get_or slots slot 0)) s (drop (slot + 1) slots)))
+      (octets_in (many (get_or slots slot 0) f) s (drop (slot + 1) slots)))
       ≤ length out
   list_room =
       rw (
-        list_octets codes s slots slot,
+        list_octets f s slots slot,
         length-append (octets_of (get_or slots slot 0))
-            (octets_in (run_from codes (length codes) (get_or slots slot 0)) s (drop (slot + 1) slots)),
+            (octets_in (many (get_or slots slot 0) f) s (drop (slot + 1) slots)),
       ) at ready.room
 
   pub items_ready : (mid : List ℕ) (next : ℕ)
-      → slot + 1 + width (run_from codes (length codes) (get_or slots slot 0)) ≤ length slots
+      → slot + 1 + width (many (get_or slots slot 0) f) ≤ length slots
       → Puts (octets_of (get_or slots slot 0)) out at mid next
-      → Ready (run_from codes (length codes) (get_or slots slot 0)) s slots (slot + 1) mid next
+      → Ready (many (get_or slots slot 0) f) s slots (slot + 1) mid next
   items_ready mid next w p =
       let m = list_room in
       let l : length mid ≡ length out =
@@ -162,9 +162,9 @@ module _ (codes s slots : List ℕ) (slot : ℕ) (out : List ℕ) (at : ℕ)
       record { told = w; fitting = list_both.1; room = omega (arith, p.place) }
 
   pub list_put : (mid left : List ℕ) (next r : ℕ) → Puts (octets_of (get_or slots slot 0)) out at mid next
-      → Puts (octets_in (run_from codes (length codes) (get_or slots slot 0)) s (drop (slot + 1) slots)) mid next left r
-      → Puts (octets_in (list_of (table_of codes)) s (drop slot slots)) out at left r
-  list_put mid left next r p q = rw (list_octets codes s slots slot)
+      → Puts (octets_in (many (get_or slots slot 0) f) s (drop (slot + 1) slots)) mid next left r
+      → Puts (octets_in (list_of f) s (drop slot slots)) out at left r
+  list_put mid left next r p q = rw (list_octets f s slots slot)
       (puts_then (octets_of (get_or slots slot 0))
-      (octets_in (run_from codes (length codes) (get_or slots slot 0)) s (drop (slot + 1) slots)) out mid left at next r
+      (octets_in (many (get_or slots slot 0) f) s (drop (slot + 1) slots)) out mid left at next r
       list_room p q)

@@ -14,7 +14,7 @@ use Rattle.std.specs.Prelude.{Result, Ok, Err}
 use Rattle.octets.specs.Limits.{address_octets}
 use Rattle.leb128.specs.Leb128.{octets_of}
 use Rattle.fields.specs.declared.room.Unfit.{Unfit}
-use Rattle.fields.specs.declared.room.Unfit.TheVariants.{TooShort, TooLarge}
+use Rattle.fields.specs.declared.room.Unfit.TheVariants.{TooLarge}
 use Rattle.fields.specs.Fields.{Field, up_to, address, string, none, ◌then◌, octets, string_most}
 use Rattle.fields.specs.Slots.{width, value_in, fits_in}
 use Rattle.fields.specs.Writing.{less_by, room_in}

@@ -1,60 +1,41 @@
 -- A table of fields, step by step, and what reading two parts leaves. Assumes nothing.
-use Prim.Native.Nat.{ℕ, suc, ◌+◌, ◌-◌, ◌*◌, ◌≤◌, ◌<◌}
-use mathlib.Core.Path.{◌≡◌, refl, sym, ◌∙◌, ap}
-use mathlib.Core.List.{List, [], ◌∷◌, ◌++◌, map}
+use Prim.Native.Nat.{ℕ, ◌+◌, ◌≤◌, ◌<◌}
+use mathlib.Core.Path.{◌≡◌, refl, sym, ◌∙◌}
+use mathlib.Core.List.{List, ◌++◌, map}
 use native.Mathlib.Omega.{arith}
 use native.Mathlib.Numerals.{add-one}
-use native.Mathlib.Nat.{suc-mul}
-use lib.ListN.{length, get_or, drop, length-map, drop_of_length-le, get_or-map}
+use lib.ListN.{length, get_or, length-map, drop_of_length-le, get_or-map}
 use lib.Seq.{drop-cons}
 use Rattle.std.specs.Prelude.{Result, Ok, Err}
 use Rattle.writing.specs.Notify.{placed}
 use Rattle.writing.proofs.Placed.{placed_none, placed_then}
-use Rattle.fields.specs.Fields.{Field, none, ◌then◌, in_order, Value}
+use Rattle.fields.specs.Fields.{Field, up_to, none, ◌then◌, Value}
 use Rattle.fields.specs.Slots.{width}
 use Rattle.fields.specs.Reading.{Reading, read, refused, behind, joined, read_at, step_of, slots_of}
-use Rattle.fields.specs.Codes.{field_of, table_of, follow, copies, run_from, ReadsTo}
+use Rattle.fields.specs.Codes.{field_of, table_of, rest_from, ReadsTo}
+use Rattle.fields.specs.declared.field_type.FieldType.{FieldType}
+use Rattle.fields.specs.declared.field_type.FieldType.TheVariants.{Number}
 use Rattle.fields.specs.declared.refusal.Refusal.{Refusal}
 use Rattle.fields.proofs.Sized.{Sized, at_most, sized}
 
 -- ---- the table, step by step
-module _ (codes : List ℕ) (i left : ℕ) where
-  pub at_end : i ≡ length codes → drop i (map field_of codes) ≡ []
-  at_end e =
-      let h : length (map field_of codes) ≤ i = omega (arith, length-map codes field_of) in
-      drop_of_length-le (map field_of codes) h
+module _ (types : List FieldType) (i : ℕ) where
+  pub rest_end : length types ≤ i → rest_from types i ≡ none
+  unfolding rest_from
+  rest_end e =
+      let h : length (map field_of types) ≤ i = omega (arith, length-map types field_of) in
+      rw (drop_of_length-le (map field_of types) h)
 
-  pub run_end : i ≡ length codes → left ≡ 0 → run_from codes i left ≡ none
-  unfolding run_from
-  run_end e z = rw (at_end e, z)
+  pub rest_field : i < length types
+      → rest_from types i ≡ field_of (get_or types i (Number 0)) then rest_from types (i + 1)
+  unfolding rest_from
+  rest_field h =
+      let d = drop-cons (map field_of types) i (up_to 0) (omega (arith, length-map types field_of)) in
+      rw (d, get_or-map field_of types i (Number 0), add-one i)
 
-  pub run_again : i ≡ length codes → (left ≡ 0 → ⊥) → run_from codes i left ≡ run_from codes 0 (left - 1)
-  unfolding run_from
-  run_again e z =
-      let n : left ≡ suc (left - 1) = omega arith in
-      rw (at_end e) (ap (λ (k : ℕ). copies k (map field_of codes)) n)
-
-  pub run_field : i < length codes → run_from codes i left ≡ field_of (get_or codes i 0) then run_from codes (i + 1) left
-  unfolding run_from
-  run_field h =
-      let d = drop-cons (map field_of codes) i (field_of 0) (omega (arith, length-map codes field_of)) in
-      rw (d, get_or-map field_of codes i 0, add-one i)
-
-follow_none : (fs : List Field) → follow fs none ≡ in_order fs
-follow_none [] = refl
-follow_none (f ∷ fs) = rw (follow_none fs)
-
-pub run_table : (codes : List ℕ) → run_from codes 0 0 ≡ table_of codes
-unfolding run_from
-run_table codes = follow_none (map field_of codes)
-
--- a table read once more, and another field of it: what is left is less
-pub less_again : (left size : ℕ) → (left ≡ 0 → ⊥) → (left - 1) * suc size + size < left * suc size
-less_again left size h =
-    let n : left ≡ suc (left - 1) = omega arith in
-    let e : left * suc size ≡ (left - 1) * suc size + suc size =
-    ap (λ (k : ℕ). k * suc size) n ∙ suc-mul (left - 1) (suc size) in
-    omega arith
+pub rest_whole : (types : List FieldType) → rest_from types 0 ≡ table_of types
+unfolding rest_from
+rest_whole types = refl
 
 -- ---- what reading leaves
 module _ {A B C : Type 0} (join : A → B → C) (a : A) (slots : List ℕ) where

@@ -1,38 +1,32 @@
--- Inner. Tables of fields as the code has them, an octet for each field, and how far the code has come in one. `specs/`
--- of whoever has a table says which fields its octets are.
-use Rattle.std.specs.Prelude.{ℕ, zero, suc, ◌+◌, ◌≤◌, ◌≡◌, true, cond, List, [], ◌∷◌, map, eqb, length, drop, Result, Ok, Err}
+-- Inner. Tables of fields as the code has them, and how far the code has come in one. `specs/` of whoever has a table
+-- says which fields it has.
+use Rattle.std.specs.Prelude.{ℕ, zero, suc, ◌+◌, ◌≤◌, ◌≡◌, true, List, map, length, drop, Result, Ok, Err}
 use Rattle.writing.specs.Notify.{placed}
 use Rattle.fields.specs.Fields.{Field, up_to, address, string, none, ◌then◌, in_order}
 use Rattle.fields.specs.Slots.{width, fits_in}
 use Rattle.fields.specs.Writing.{octets_in}
 use Rattle.fields.specs.Reading.{read_at, step_of, slots_of}
+use Rattle.fields.specs.declared.field_type.FieldType.{FieldType}
+use Rattle.fields.specs.declared.field_type.FieldType.TheVariants.{Number, Address, OctetString}
 use Rattle.fields.specs.declared.refusal.Refusal.{Refusal}
 
-abbrev pub most_of : ℕ → ℕ
-most_of bits =
-    cond (eqb bits 1) 1
-    (cond (eqb bits 8) 255 (cond (eqb bits 16) 65535 (cond (eqb bits 32) 4294967295 18446744073709551615)))
-
-abbrev pub field_of : ℕ → Field
-field_of code = cond (eqb code 66) string (cond (eqb code 65) address (up_to (most_of code)))
+abbrev pub field_of : FieldType → Field
+field_of (Number most) = up_to most
+field_of Address = address
+field_of OctetString = string
 
 -- a whole table
-abbrev pub table_of : List ℕ → Field
-table_of codes = in_order (map field_of codes)
+abbrev pub table_of : List FieldType → Field
+table_of types = in_order (map field_of types)
 
--- fields, and what follows them
-abbrev pub follow : List Field → Field → Field
-follow [] rest = rest
-follow (f ∷ fs) rest = f then follow fs rest
+-- from the place i of a table on
+unfoldable pub rest_from : List FieldType → ℕ → Field
+rest_from types i = in_order (drop i (map field_of types))
 
--- so many times the same fields
-abbrev pub copies : ℕ → List Field → Field
-copies zero fs = none
-copies (suc n) fs = follow fs (copies n fs)
-
--- from the place i of a table on, and then the whole table so many times more
-unfoldable pub run_from : List ℕ → ℕ → ℕ → Field
-run_from codes i left = follow (drop i (map field_of codes)) (copies left (map field_of codes))
+-- so many times the same field
+abbrev pub many : ℕ → Field → Field
+many zero f = none
+many (suc n) f = f then many n f
 
 -- ---- what reading a field leaves: the offset after it or why it is refused, and the slots
 

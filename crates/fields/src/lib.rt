@@ -2,6 +2,6 @@
 // values are numbers in lent slots; addresses and strings stay where they are.
 #![tactic(auto)]
 
-pub mod codes;
+pub mod field_type;
 pub mod refusal;
 pub mod room;

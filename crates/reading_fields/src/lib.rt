@@ -8,7 +8,7 @@ ghost use Rattle.fields.specs.Fields.{up_to, address, string};
 ghost use Rattle.fields.specs.Slots.{width};
 ghost use Rattle.fields.specs.Codes.{field_of, ReadsTo};
 
-use fields::codes::{ADDRESS, STRING, STRING_MOST, most_of};
+use fields::field_type::{FieldType, STRING_MOST};
 use fields::refusal::Refusal;
 use leb128::read_number;
 use octets::limits::ADDRESS_OCTETS;
@@ -67,19 +67,17 @@ fn read_string(s: &[u8], at: usize, slots: &mut [u64], slot: usize) -> Result<us
 pub fn read_field(
     s: &[u8],
     at: usize,
-    code: u8,
+    field: FieldType,
     slots: &mut [u64],
     slot: usize,
 ) -> Result<usize, Refusal>
     requires at_in_bounds { at ≤ length s.now }
-    requires code_in_bounds { slot + width (field_of code) ≤ length slots.old }
-    ensures { ReadsTo (field_of code) s.now at slots.old slot slots.new result }
+    requires field_in_bounds { slot + width (field_of field) ≤ length slots.old }
+    ensures { ReadsTo (field_of field) s.now at slots.old slot slots.new result }
 {
-    if code == STRING {
-        return read_string(s, at, slots, slot);
+    match field {
+        FieldType::Number(most) => read_limited(s, at, most, slots, slot),
+        FieldType::Address => read_address(s, at, slots, slot),
+        FieldType::OctetString => read_string(s, at, slots, slot),
     }
-    if code == ADDRESS {
-        return read_address(s, at, slots, slot);
-    }
-    read_limited(s, at, most_of(code), slots, slot)
 }

@@ -1,10 +1,10 @@
-// The fields of each kind, as codes.
-use fields::codes::{ADDRESS, BITS_8, BITS_16, BITS_32, BITS_64, STRING, YES_NO};
+// The fields of each kind.
+use fields::field_type::{ADDRESS, BITS_8, BITS_16, BITS_32, BITS_64, FieldType, STRING, YES_NO};
 
 // The operator that each call names, A (0) or B (1): one bit, at the end.
-const OPERATOR: u8 = YES_NO;
+const OPERATOR: FieldType = YES_NO;
 
-pub const OPEN_BOTH: [u8; 11] = [
+pub const OPEN_BOTH: [FieldType; 11] = [
     BITS_64, // IKE SPI
     YES_NO, // MOBIKE agreed
     BITS_8, // family
@@ -18,23 +18,23 @@ pub const OPEN_BOTH: [u8; 11] = [
     OPERATOR, // that opens
 ];
 
-pub const ADD_IPSEC: [u8; 3] = [
+pub const ADD_IPSEC: [FieldType; 3] = [
     BITS_32, // SPI
     BITS_64, // owner
     OPERATOR, // that adds
 ];
 
-pub const CLOSE_IKE: [u8; 2] = [
+pub const CLOSE_IKE: [FieldType; 2] = [
     BITS_64, // SPI of the IKE record
     OPERATOR, // that closes it
 ];
 
-pub const CLOSE_IPSEC: [u8; 2] = [
+pub const CLOSE_IPSEC: [FieldType; 2] = [
     BITS_32, // SPI of the IPsec record
     OPERATOR, // that closes it
 ];
 
-pub const REQUEST: [u8; 14] = [
+pub const REQUEST: [FieldType; 14] = [
     BITS_64, // SPI
     BITS_32, // ID
     BITS_8, // family
@@ -51,7 +51,7 @@ pub const REQUEST: [u8; 14] = [
     OPERATOR, // that it came to
 ];
 
-pub const RULE: [u8; 5] = [
+pub const RULE: [FieldType; 5] = [
     BITS_8, // family
     ADDRESS, // source prefix
     ADDRESS, // destination prefix
@@ -63,11 +63,11 @@ pub const RULE: [u8; 5] = [
 pub const RULE_SLOTS: usize = 5;
 
 // What follows the rules of a policy.
-pub const AFTER_RULES: [u8; 1] = [
+pub const AFTER_RULES: [FieldType; 1] = [
     OPERATOR, // whose policy it is
 ];
 
-pub const CHECK_RESPONSE: [u8; 5] = [
+pub const CHECK_RESPONSE: [FieldType; 5] = [
     BITS_64, // SPI of the IKE record that is checked
     BITS_32, // the response's ID
     BITS_8, // its first type
@@ -75,7 +75,7 @@ pub const CHECK_RESPONSE: [u8; 5] = [
     OPERATOR, // that checks
 ];
 
-pub const CLONE: [u8; 5] = [
+pub const CLONE: [FieldType; 5] = [
     BITS_64, // SPI of the IKE record that is cloned
     BITS_64, // SPI of its clone
     BITS_8, // the request's first type
@@ -83,7 +83,7 @@ pub const CLONE: [u8; 5] = [
     OPERATOR, // of both
 ];
 
-pub const DELETION_MARK: [u8; 2] = [
+pub const DELETION_MARK: [FieldType; 2] = [
     BITS_64, // SPI of the IKE record that is being deleted
     OPERATOR, // that marks it
 ];

@@ -6,18 +6,18 @@ ghost use Rattle.fields.specs.Fields.{list_of, ◌then◌};
 ghost use Rattle.fields.specs.Slots.{width};
 ghost use Rattle.fields.specs.Codes.{table_of, ReadsTo};
 
-use fields::codes::{LIST_MOST, LIST_PLACES};
+use fields::field_type::{FieldType, LIST_MOST, LIST_PLACES};
 use fields::refusal::Refusal;
 use leb128::read_number;
 use reading_fields::filling::fill;
-use reading_tables::{read_run, read_table};
+use reading_tables::read_table;
 
 // A list: its count, the items that it has, and 0 in the slots of those that it could have more. `size` is how many
 // slots an item has.
 fn read_list(
     s: &[u8],
     at: usize,
-    each: &[u8],
+    each: &[FieldType],
     size: usize,
     slots: &mut [u64],
     slot: usize,
@@ -27,28 +27,27 @@ fn read_list(
     ensures { let f = list_of (table_of each.now) in
         ReadsTo f s.now at slots.old slot slots.new result }
 {
-    let (v, next) = read_number(s, at).ok_or(Refusal::Cut)?;
-    if v > LIST_MOST {
+    let (count, mut next) = read_number(s, at).ok_or(Refusal::Cut)?;
+    if count > LIST_MOST {
         return Err(Refusal::TooLarge);
     }
-    let count = v as usize;
-    slots[slot] = v;
-    let end = read_run(s, next, each, each.len(), count, slots, slot + 1)?;
-    fill(
-        slots,
-        slot + 1 + count * size,
-        slot + 1 + LIST_PLACES * size,
-    );
-    Ok(end)
+    slots[slot] = count;
+    let mut place = slot + 1;
+    for _ in 0..count {
+        next = read_table(s, next, each, slots, place)?;
+        place += size;
+    }
+    fill(slots, place, slot + 1 + LIST_PLACES * size);
+    Ok(next)
 }
 
 // A list, and the fields that follow it. `size` is how many slots an item has.
 pub fn read_listed(
     s: &[u8],
     at: usize,
-    each: &[u8],
+    each: &[FieldType],
     size: usize,
-    last: &[u8],
+    last: &[FieldType],
     slots: &mut [u64],
     slot: usize,
 ) -> Result<usize, Refusal>

@@ -8,7 +8,7 @@ ghost use Rattle.fields.specs.Slots.{width};
 ghost use Rattle.fields.specs.Codes.{field_of};
 ghost use Rattle.fields.specs.Writing.{room_in};
 
-use fields::codes::{ADDRESS, STRING, STRING_MOST, most_of};
+use fields::field_type::{FieldType, STRING_MOST};
 use fields::room::{Unfit, less_by};
 use leb128::number_size;
 use octets::limits::ADDRESS_OCTETS;
@@ -18,6 +18,24 @@ fn lies_within(length: usize, offset: u64, size: u64) -> bool
     ensures { result ≡ leb (offset + size) length }
 {
     offset as usize <= length && size as usize <= length - offset as usize
+}
+
+// A number of at most `most`.
+fn number_room(
+    most: u64,
+    slots: &[u64],
+    slot: usize,
+    source: &[u8],
+    room: Result<usize, Unfit>,
+) -> Result<usize, Unfit>
+    requires { slot + 1 ≤ length slots.now }
+    ensures { result ≡ room_in (up_to most) source.now (drop slot slots.now) room }
+{
+    let v = slots[slot];
+    if v > most {
+        return Err(Unfit::TooLarge);
+    }
+    less_by(number_size(v), room)
 }
 
 fn address_room(
@@ -56,24 +74,18 @@ fn string_room(
 
 // One field.
 pub fn field_room(
-    code: u8,
+    field: FieldType,
     slots: &[u64],
     slot: usize,
     source: &[u8],
     room: Result<usize, Unfit>,
 ) -> Result<usize, Unfit>
-    requires { slot + width (field_of code) ≤ length slots.now }
-    ensures { result ≡ room_in (field_of code) source.now (drop slot slots.now) room }
+    requires { slot + width (field_of field) ≤ length slots.now }
+    ensures { result ≡ room_in (field_of field) source.now (drop slot slots.now) room }
 {
-    if code == STRING {
-        return string_room(slots, slot, source, room);
+    match field {
+        FieldType::Number(most) => number_room(most, slots, slot, source, room),
+        FieldType::Address => address_room(slots, slot, source, room),
+        FieldType::OctetString => string_room(slots, slot, source, room),
     }
-    if code == ADDRESS {
-        return address_room(slots, slot, source, room);
-    }
-    let v = slots[slot];
-    if v > most_of(code) {
-        return Err(Unfit::TooLarge);
-    }
-    less_by(number_size(v), room)
 }

@@ -5,78 +5,17 @@
 ghost use Rattle.std.specs.Prelude.{◌≡◌, ◌+◌, ◌≤◌, length, drop};
 ghost use Rattle.fields.specs.Fields.{list_of, ◌then◌};
 ghost use Rattle.fields.specs.Slots.{width};
-ghost use Rattle.fields.specs.Codes.{run_from, table_of};
+ghost use Rattle.fields.specs.Codes.{table_of};
 ghost use Rattle.fields.specs.Writing.{room_in};
 
-use fields::codes::{LIST_MOST, LIST_PLACES, width_of};
+use fields::field_type::{FieldType, LIST_MOST, LIST_PLACES};
 use fields::room::{Unfit, less_by};
 use leb128::number_size;
 use sizing_fields::field_room;
 
-// From the place i of a table on, and then the whole table `left` times more.
-fn run_room(
-    table: &[u8],
-    i: usize,
-    left: usize,
-    slots: &[u64],
-    slot: usize,
-    source: &[u8],
-    room: Result<usize, Unfit>,
-) -> Result<usize, Unfit>
-    requires { (i ≤ length table.now) × (slot + width (run_from table.now i left) ≤ length slots.now) }
-    ensures { let f = run_from table.now i left in
-        result ≡ room_in f source.now (drop slot slots.now) room }
-{
-    if i == table.len() {
-        if left == 0 {
-            return room;
-        }
-        return run_room(table, 0, left - 1, slots, slot, source, room);
-    }
-    let code = table[i];
-    let rest = field_room(code, slots, slot, source, room);
-    run_room(
-        table,
-        i + 1,
-        left,
-        slots,
-        slot + width_of(code),
-        source,
-        rest,
-    )
-}
-
-// A list.
-fn list_room(
-    each: &[u8],
-    slots: &[u64],
-    slot: usize,
-    source: &[u8],
-    room: Result<usize, Unfit>,
-) -> Result<usize, Unfit>
-    requires { slot + width (list_of (table_of each.now)) ≤ length slots.now }
-    ensures { let f = list_of (table_of each.now) in
-        result ≡ room_in f source.now (drop slot slots.now) room }
-{
-    let count = slots[slot];
-    if count > LIST_MOST {
-        return Err(Unfit::TooLarge);
-    }
-    let rest = less_by(number_size(count), room);
-    run_room(
-        each,
-        each.len(),
-        count as usize,
-        slots,
-        slot + 1,
-        source,
-        rest,
-    )
-}
-
 // A whole table.
 pub fn table_room(
-    table: &[u8],
+    table: &[FieldType],
     slots: &[u64],
     slot: usize,
     source: &[u8],
@@ -86,14 +25,47 @@ pub fn table_room(
     ensures { let f = table_of table.now in
         result ≡ room_in f source.now (drop slot slots.now) room }
 {
-    run_room(table, 0, 0, slots, slot, source, room)
+    let mut left = room;
+    let mut place = slot;
+    for field in table {
+        left = field_room(*field, slots, place, source, left);
+        place += field.width();
+    }
+    left
+}
+
+// A list. `size` is how many slots an item has.
+fn list_room(
+    each: &[FieldType],
+    size: usize,
+    slots: &[u64],
+    slot: usize,
+    source: &[u8],
+    room: Result<usize, Unfit>,
+) -> Result<usize, Unfit>
+    requires size_value { size ≡ width (table_of each.now) }
+    requires each_in_bounds { slot + width (list_of (table_of each.now)) ≤ length slots.now }
+    ensures { let f = list_of (table_of each.now) in
+        result ≡ room_in f source.now (drop slot slots.now) room }
+{
+    let count = slots[slot];
+    if count > LIST_MOST {
+        return Err(Unfit::TooLarge);
+    }
+    let mut left = less_by(number_size(count), room);
+    let mut place = slot + 1;
+    for _ in 0..count {
+        left = table_room(each, slots, place, source, left);
+        place += size;
+    }
+    left
 }
 
 // A list, and the fields that follow it. `size` is how many slots an item has.
 pub fn listed_room(
-    each: &[u8],
+    each: &[FieldType],
     size: usize,
-    last: &[u8],
+    last: &[FieldType],
     slots: &[u64],
     slot: usize,
     source: &[u8],
@@ -104,6 +76,6 @@ pub fn listed_room(
     ensures { let f = list_of (table_of each.now) then table_of last.now in
         result ≡ room_in f source.now (drop slot slots.now) room }
 {
-    let rest = list_room(each, slots, slot, source, room);
-    table_room(last, slots, slot + 1 + LIST_PLACES * size, source, rest)
+    let left = list_room(each, size, slots, slot, source, room);
+    table_room(last, slots, slot + 1 + LIST_PLACES * size, source, left)
 }

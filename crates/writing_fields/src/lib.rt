@@ -5,7 +5,7 @@ ghost use Rattle.std.specs.Prelude.{◌≡◌, ◌+◌, ◌≤◌, length, take,
 ghost use Rattle.fields.specs.Codes.{field_of, Ready, Puts};
 ghost use Rattle.fields.specs.Writing.{octets_in};
 
-use fields::codes::{ADDRESS, STRING};
+use fields::field_type::FieldType;
 use leb128::put_number;
 use octets::limits::ADDRESS_OCTETS;
 use writing::copy_octets;
@@ -26,22 +26,22 @@ fn put_part(out: &mut [u8], at: usize, source: &[u8], offset: u64, size: usize) 
 pub fn put_field(
     out: &mut [u8],
     at: usize,
-    code: u8,
+    field: FieldType,
     slots: &[u64],
     slot: usize,
     source: &[u8],
 ) -> usize
-    requires { Ready (field_of code) source.now slots.now slot out.old at }
-    ensures { let octets = octets_in (field_of code) source.now (drop slot slots.now) in
+    requires { Ready (field_of field) source.now slots.now slot out.old at }
+    ensures { let octets = octets_in (field_of field) source.now (drop slot slots.now) in
         Puts octets out.old at out.new result }
 {
-    if code == STRING {
-        let size = slots[slot + 1];
-        let next = put_number(out, at, size);
-        return put_part(out, next, source, slots[slot], size as usize);
+    match field {
+        FieldType::Number(_) => put_number(out, at, slots[slot]),
+        FieldType::Address => put_part(out, at, source, slots[slot], ADDRESS_OCTETS),
+        FieldType::OctetString => {
+            let size = slots[slot + 1];
+            let next = put_number(out, at, size);
+            put_part(out, next, source, slots[slot], size as usize)
+        }
     }
-    if code == ADDRESS {
-        return put_part(out, at, source, slots[slot], ADDRESS_OCTETS);
-    }
-    put_number(out, at, slots[slot])
 }

@@ -1,6 +1,6 @@
 -- `leb128::read_within` meets its contract, octet by octet.
 use Rattle.std.proofs.Common.{sym, ◌∙◌, eq-eqb}
-use borrow.Author.Tests.{ltb-true, ltb-false, ne_eqb, le-leb, lt-leb}
+use borrow.Author.Tests.{ltb-false, ne_eqb, le-leb, lt-leb}
 use Rattle.leb128.proofs.Within.{at_end, at_small, at_none, at_more}
 use Rattle.leb128.proofs.+read_within.Goals as goal
 use Rattle.leb128.proofs.+read_within.Goals.{then-v-eq-NONE_ABOVE-via-then-v-eq-NONE_ABOVE, then-v-eq-NONE_ABOVE-via-else-v-eq-NONE_ABOVE+then-v-ge-ABOVE_MOST}

@@ -13,5 +13,5 @@ returns c =
     let f = list_of (table_of a.each.now) in
     let e : a.slot + 1 + list_most * a.size ≡ a.slot + width f = omega arith in
     c.table_room.ensures
-    ∙ rw (e, c.list_room-rest.ensures, ← drop-drop (width f) a.slot a.slots.now)
+    ∙ rw (e, c.list_room-left.ensures, ← drop-drop (width f) a.slot a.slots.now)
     (then_room f (table_of a.last.now) a.source.now (drop a.slot a.slots.now) a.room)

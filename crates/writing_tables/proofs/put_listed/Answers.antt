@@ -6,8 +6,8 @@ use Rattle.fields.specs.Codes.{table_of}
 use Rattle.fields.proofs.Puts.{first_ready, rest_ready, both_put}
 use Rattle.writing_tables.proofs.put_listed.Goals as goal
 
-pub put_list-next-requires : goal.put_list-next-requires
-put_list-next-requires c = first_ready _ _ _ _ _ _ _ c.requires.ready
+pub put_list-next-requires-clause-ready : goal.put_list-next-requires-clause-ready
+put_list-next-requires-clause-ready c = first_ready _ _ _ _ _ _ _ c.requires.ready
 
 pub put_table-requires : goal.put_table-requires
 put_table-requires c =

@@ -1,6 +1,6 @@
 -- `reading_fields::filling::fill` meets its contract: what stands before and behind the part is as it was.
 use Rattle.std.proofs.Common.{◌≡◌, ℕ, ◌-◌, length, take, drop, arith}
-use Rattle.std.proofs.Math.ListN.{replicate, length-take, length-drop, length-replicate}
+use Rattle.std.proofs.Math.ListN.{length-take, length-drop, length-replicate}
 use Rattle.std.proofs.Math.Seq.{drop-drop}
 use Rattle.writing.specs.Notify.{placed}
 use Rattle.reading_fields.proofs.filling.fill.Goals as goal

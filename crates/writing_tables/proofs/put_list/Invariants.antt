@@ -1,0 +1,16 @@
+-- The rest of the items is ready to be written behind what is written, and what is written so is all of them.
+use Rattle.std.proofs.Common.{ℕ, List, ◌+◌, ◌-◌, drop}
+use Rattle.fields.specs.Codes.{many, table_of, Ready, Puts}
+use Rattle.fields.specs.Writing.{octets_in}
+use Rattle.writing_tables.proofs.put_list.Given as goal
+
+abbrev pub invariant-loop : goal.invariant-loop
+invariant-loop l =
+    record {
+      ready : Ready (many (l.count - l.counter) (table_of l.each)) l.source l.slots l.place l.out l.next;
+      whole : (left : List ℕ) (r : ℕ)
+          → Puts (octets_in (many (l.count - l.counter) (table_of l.each)) l.source (drop l.place l.slots)) l.out l.next
+          left r
+          → Puts (octets_in (many l.count (table_of l.each)) l.source (drop (l.slot + 1) l.slots)) l.initial.out
+          l.initial.next left r;
+    }
