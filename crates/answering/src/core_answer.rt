@@ -1,9 +1,9 @@
 // One request by the marks of the record that it means and by what was read in it: decide, respond.
 ghost use Rattle.std.specs.Prelude.{◌≡◌, ◌≤◌, length};
-ghost use Rattle.octets.specs.Limits.{body_most, nat_octets, response_room};
+ghost use Rattle.octets.specs.Limits.{body_most, response_room};
 ghost use Rattle.writing.specs.Notify.{placed, chained};
 ghost use Rattle.reader.specs.Chain.{reading};
-ghost use Rattle.responding.specs.Put.{Responds};
+ghost use Rattle.responding.specs.Put.{Responds, NatsSized};
 ghost use Rattle.responding.specs.Respond.{told_of};
 ghost use Rattle.replying.specs.Reply.{error_reply};
 ghost use Rattle.answering.specs.Core.{chain_error, core_answer, core_response};
@@ -19,7 +19,8 @@ use replying::reply::{CoreAnswer, Reply};
 use responding::respond::{Response, put_error, respond_decided, wants_nats};
 use values::cookie;
 
-// The error for a malformed chain, of any of the numbers 61 to 65, or for an unknown critical payload, and nothing else.
+// The error for a malformed chain, of any of the numbers 61 to 65, or for an unknown critical payload, and nothing
+// else.
 #[tactic(auto, unfolding(crate::specs::Core::chain_error))]
 pub fn put_chain_error(r: Reading, out: &mut [u8]) -> Response
     requires { response_room ≤ length out.old }
@@ -56,8 +57,9 @@ pub fn respond_to(
     out: &mut [u8],
 ) -> CoreAnswer
     requires response_room_in_bounds { response_room ≤ length out.old }
-    requires nat_source_len { (length request.now.nat_source.now ≡ nat_octets) × (length request.now.nat_destination.now ≡ nat_octets) }
-    requires body_len_bound { (length request.now.body.now ≤ body_most) × (read ≡ reading request.now.first request.now.body.now) }
+    requires nats_sized { NatsSized request.now.nat_source.now request.now.nat_destination.now }
+    requires body_len_bound { let r = request.now in
+        (length r.body.now ≤ body_most) × (read ≡ reading r.first r.body.now) }
     ensures { let asks = asked_by request.now in
         (result ≡ core_answer accepted asks marks)
         × (out.new ≡ placed out.old 0 (core_response accepted asks marks)) }

@@ -22,7 +22,8 @@ pub fn early_checks(
     request: &LentCloneRequest,
     room: usize,
 ) -> Result<(), Number>
-    ensures value { told result ≡ early_clone (ltb looked.now.place ike_places) looked.now.entry (request_by request.now room) }
+    ensures value { let l = looked.now in
+        told result ≡ early_clone (ltb l.place ike_places) l.entry (request_by request.now room) }
     ensures refused { IfErr result (λ number. number_of number ≢ 0) }
 {
     let agreed = looked.entry.agreed;

@@ -1,8 +1,8 @@
 // A clone request as it is lent, what is looked up for it, and what it comes to: what is told, and the record to store.
 use records::ike::IkeRecord;
 
-// A CREATE_CHILD_SA request that rekeys an IKE SA: the SPI that it means, the new one, the type of its first payload, its
-// body, and the operator that it is answered for.
+// A CREATE_CHILD_SA request that rekeys an IKE SA: the SPI that it means, the new one, the type of its first payload,
+// its body, and the operator that it is answered for.
 #[derive(Clone, Copy)]
 pub struct LentCloneRequest<'a> {
     pub spi: u64,
@@ -12,8 +12,8 @@ pub struct LentCloneRequest<'a> {
     pub operator: u8,
 }
 
-// The lowest place with its SPI and the record there, the lowest free place, the lowest with the new SPI (past the table's
-// end where there is none), and how many records the peer has and the operator.
+// The lowest place with its SPI and the record there, the lowest free place, the lowest with the new SPI (past the
+// table's end where there is none), and how many records the peer has and the operator.
 #[derive(Clone, Copy)]
 pub struct CloneLooked {
     pub place: usize,

@@ -10,8 +10,8 @@ use octets::number::Number;
 use records::ike::Marks;
 use responding::respond::Response;
 
-// All that a call gives back but the tables. The cookie is the part of the body at `cookie`. The default tells done, and
-// nothing else.
+// All that a call gives back but the tables. The cookie is the part of the body at `cookie`. The default tells done,
+// and nothing else.
 #[repr(C)]
 #[derive(Clone, Copy, Default)]
 pub struct Reply {

@@ -1,5 +1,5 @@
-// One request as it comes in, by what was looked up for it: checks 1 to 5, its chain read, and whether its pair has to be
-// held against the policy. The policy itself is lent, and looked at between this and the core's answer.
+// One request as it comes in, by what was looked up for it: checks 1 to 5, its chain read, and whether its pair has to
+// be held against the policy. The policy itself is lent, and looked at between this and the core's answer.
 ghost use Rattle.std.specs.Prelude.{◌≡◌, ◌≢◌, IfOk, IfErr};
 ghost use Rattle.octets.specs.Numbers.{number_of, told};
 ghost use Rattle.checking.specs.Lookup.{request_by, early_number_at};
@@ -29,7 +29,8 @@ pub fn asks_policy(seen: Seen, id: u32, marks: Marks) -> bool
 
 pub fn received_at(looked: Looked, request: &LentRequest, room: usize) -> Result<Received, Number>
     ensures value { told result ≡ early_number_at looked (request_by request.now room) }
-    ensures received { IfOk result (λ received. received ≡ received_at looked (request_by request.now room)) }
+    ensures received { let q = request_by request.now room in
+        IfOk result (λ received. received ≡ received_at looked q) }
     ensures refused { IfErr result (λ number. number_of number ≢ 0) }
 {
     early_checks(looked, request, room)?;

@@ -1,11 +1,11 @@
 // The response payloads, written from the output's start.
 ghost use Rattle.std.specs.Prelude.{◌≡◌, ◌+◌, ◌≤◌, length};
-ghost use Rattle.octets.specs.Limits.{cookie_most, nat_octets, notify_header, response_room};
+ghost use Rattle.octets.specs.Limits.{cookie_most, notify_header, response_room};
 ghost use Rattle.writing.specs.Notify.{first_type};
 ghost use Rattle.writing.specs.Parts.{cookie_notifies};
 ghost use Rattle.writing.specs.Wrote.{Wrote};
 ghost use Rattle.responding.specs.Respond.{error_then, response_to, wants_nats};
-ghost use Rattle.responding.specs.Put.{Responds};
+ghost use Rattle.responding.specs.Put.{Responds, NatsSized};
 ghost use Rattle.verdict.specs.declared.update.Verdict.TheVariants.{Accepted};
 
 use findings::seen::Seen;
@@ -66,7 +66,7 @@ pub fn put_done(
     cookie: &[u8],
 ) -> Response
     requires response_room_in_bounds { (response_room ≤ length out.old) × (length cookie.now ≤ cookie_most) }
-    requires nat_source_len { (length nat_source.now ≡ nat_octets) × (length nat_destination.now ≡ nat_octets) }
+    requires nats_sized { NatsSized nat_source.now nat_destination.now }
     ensures { let nat-source = nat_source.now in
         let xs = response_to Accepted wanted nat-source nat_destination.now cookie.now in
         Responds xs out.old out.new result }
@@ -117,7 +117,7 @@ pub fn respond_decided(
     out: &mut [u8],
 ) -> Response
     requires response_room_in_bounds { (response_room ≤ length out.old) × (length cookie.now ≤ cookie_most) }
-    requires nat_source_len { (length nat_source.now ≡ nat_octets) × (length nat_destination.now ≡ nat_octets) }
+    requires nats_sized { NatsSized nat_source.now nat_destination.now }
     ensures { let nat-source = nat_source.now in
         let xs = response_to verdict wanted nat-source nat_destination.now cookie.now in
         Responds xs out.old out.new result }

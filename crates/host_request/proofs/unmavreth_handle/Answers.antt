@@ -37,8 +37,8 @@ pub respond_to-answer-requires-clause-response_room_in_bounds :
 respond_to-answer-requires-clause-response_room_in_bounds c =
     (passed _ _ _ _ (sym c.in-Ok.ensures.value)).room_enough
 
-pub respond_to-answer-requires-clause-nat_source_len : goal.respond_to-answer-requires-clause-nat_source_len
-respond_to-answer-requires-clause-nat_source_len c =
+pub respond_to-answer-requires-clause-nats_sized : goal.respond_to-answer-requires-clause-nats_sized
+respond_to-answer-requires-clause-nats_sized c =
     let p = passed _ _ _ _ (sym c.in-Ok.ensures.value) in
     (p.nat-source, p.nat-destination)
 
