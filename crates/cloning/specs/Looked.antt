@@ -1,7 +1,7 @@
 -- Inner. A clone request as the code decides it, by what was looked up: what is told, and the record that is stored at the
 -- lowest free place, if one is. `proofs/Cloned.antt` shows that this, with the table's change around it, is `cloned` of
 -- `Clone`.
-use Rattle.std.specs.Prelude.{ℕ, List, [], Bool, cond, not, ◌&&◌, eqb, ltb, leb, Option, Some, None}
+use Rattle.std.specs.Prelude.{ℕ, List, [], Bool, cond, not, ◌&&◌, eqb, ltb, leb, Some, None}
 use Rattle.octets.specs.Checks.{Check}
 use Rattle.octets.specs.Flags.{is_yes}
 use Rattle.octets.specs.Limits.{ike_places, peer_records_most, ike_share}

@@ -1,7 +1,7 @@
 -- A request is handled by what is looked up for it, the answer by the marks of one record, and the change of the tables
 -- around it.
 use Rattle.std.specs.Prelude.{◌≡◌, ℕ, List, length, set}
-use mathlib.Core.Path.{sym, ap, subst, ◌∙◌}
+use mathlib.Core.Path.{sym, subst}
 use borrow.Author.Tests.{eq-eqb, ne_eqb}
 use Rattle.octets.specs.Limits.{ike_places}
 use Rattle.octets.specs.Lists.{place_of}
@@ -20,7 +20,7 @@ use Rattle.answering.specs.Core.{core_answer, core_response}
 use Rattle.checking.specs.Checks.{Request}
 use Rattle.checking.specs.Lookup.{looked_up, early_number_at}
 use Rattle.checking.specs.declared.lookup.Looked.{Looked}
-use Rattle.responder.specs.Handle.{Handled, HandledAs, accepts, early_number, handled, handled_response}
+use Rattle.responder.specs.Handle.{HandledAs, accepts, early_number, handled, handled_response}
 use Rattle.responder.proofs.Counted.{payloads_counted}
 use Rattle.tables.specs.Tables.{meant}
 

@@ -11,7 +11,7 @@ use Rattle.octets.specs.Limits.{ike_places}
 use Rattle.octets.specs.Lists.{place_of}
 use Rattle.octets.proofs.Small.{chosen}
 use Rattle.records.specs.Pending.{cookie_sent}
-use Rattle.records.specs.Records.{ike_spi, follows, released, unchecked}
+use Rattle.records.specs.Records.{ike_spi, follows, released}
 use Rattle.records.specs.declared.ike.IkeRecord.{IkeRecord}
 use Rattle.records.specs.declared.ipsec.IpsecRecord.{IpsecRecord}
 use Rattle.tables.specs.Calls.{has_ike}
