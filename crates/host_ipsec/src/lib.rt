@@ -3,16 +3,19 @@
 #![tactic(auto)]
 
 ghost use Rattle.std.specs.Prelude.{◌≡◌};
+ghost use Rattle.octets.specs.Numbers.{told};
 ghost use Rattle.tables.specs.Calls.{open_ipsec, close_ipsec};
 
-use closing::ipsec_closing;
+use closing::{closing_number, is_bad_closing, is_own_child};
 use lent_ike::ike::{ike_at, ike_place};
 use lent_ipsec::places::{ipsec_at, ipsec_place};
 use lent_shares::shares::ipsec_count_of;
-use octets::limits::IKE_PLACES;
-use opening::ipsec_opening;
+use octets::limits::{IKE_PLACES, IPSEC_SHARE};
+use octets::number::{Number, told};
+use opening::{adding_number, is_bad_adding};
 use records::ike::IkeRecord;
 use records::ipsec::IpsecRecord;
+use tables::calls::is_own;
 use walks::store;
 
 // Opens another IPsec record at the lowest free place, with the pair of its IKE record.
@@ -26,15 +29,32 @@ pub fn unmavreth_open_ipsec(
     ensures { let added = open_ipsec ike.now ipsec.old spi owner operator in
         (result ≡ added.number) × (ipsec.new ≡ added.ipsec) }
 {
-    let size = ipsec.len();
+    told(open_ipsec(ike, ipsec, spi, owner, operator))
+}
+
+fn open_ipsec(
+    ike: &[IkeRecord; IKE_PLACES],
+    ipsec: &mut [IpsecRecord],
+    spi: u32,
+    owner: u64,
+    operator: u8,
+) -> Result<(), Number>
+    ensures { let added = open_ipsec ike.now ipsec.old spi owner operator in
+        (told result ≡ added.number) × (ipsec.new ≡ added.ipsec) }
+{
     let owned = ike_place(ike, owner);
     let found = ike_at(ike, owned);
-    let taken = ipsec_place(ipsec, spi);
     let free = ipsec_place(ipsec, 0);
-    let own = ipsec_count_of(ike, ipsec, operator);
-    let c = ipsec_opening(size, spi, owner, operator, owned, found, taken, free, own);
-    store(ipsec, c.place, c.entry);
-    c.number
+    adding_number(
+        is_bad_adding(ipsec.len(), spi as u64, owner, operator),
+        is_own(owned, found, operator),
+        ipsec_place(ipsec, spi) < ipsec.len(),
+        IPSEC_SHARE <= ipsec_count_of(ike, ipsec, operator),
+        free < ipsec.len(),
+    )?;
+    let pair = found.pair;
+    store(ipsec, free, IpsecRecord { spi, owner, pair });
+    Ok(())
 }
 
 // Closes an IPsec record. The IKE table is lent for reading, since whose the record is goes by its owner.
@@ -47,12 +67,23 @@ pub fn unmavreth_close_ipsec(
     ensures { let closed = close_ipsec ike.now ipsec.old spi operator in
         (result ≡ closed.number) × (ipsec.new ≡ closed.ipsec) }
 {
-    let size = ipsec.len();
+    told(close_ipsec(ike, ipsec, spi, operator))
+}
+
+fn close_ipsec(
+    ike: &[IkeRecord; IKE_PLACES],
+    ipsec: &mut [IpsecRecord],
+    spi: u32,
+    operator: u8,
+) -> Result<(), Number>
+    ensures { let closed = close_ipsec ike.now ipsec.old spi operator in
+        (told result ≡ closed.number) × (ipsec.new ≡ closed.ipsec) }
+{
     let place = ipsec_place(ipsec, spi);
     let entry = ipsec_at(ipsec, place);
     let owned = ike_place(ike, entry.owner);
-    let found = ike_at(ike, owned);
-    let c = ipsec_closing(size, spi, operator, place, entry, owned, found);
-    store(ipsec, c.place, c.entry);
-    c.number
+    let own = is_own_child(entry, owned, ike_at(ike, owned), operator);
+    closing_number(is_bad_closing(ipsec.len(), spi as u64, operator), own)?;
+    store(ipsec, place, IpsecRecord::none());
+    Ok(())
 }
