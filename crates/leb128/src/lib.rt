@@ -1,5 +1,6 @@
 // Numbers of a trace: groups of seven bits, lowest group first, the top bit set on all but the last, in the shortest
-// form and up to 64 bits.
+// form and up to 64 bits. Each function goes on by recursion, as the definition of what it gives does: a loop would carry
+// what the return does, and is no plainer.
 #![tactic(auto)]
 
 ghost use Rattle.std.specs.Prelude.{◌≡◌, ◌+◌, ◌≤◌, length, drop};

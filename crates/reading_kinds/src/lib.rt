@@ -1,4 +1,5 @@
-// The fields of a kind of entry, read at an offset of a lent buffer. What is read goes to lent slots.
+// The fields of a kind of entry, read at an offset of a lent buffer. What is read goes to lent slots. (`sizing_kinds` and
+// `writing_kinds` go over the same tables; a trait of what is done with one, with a law for each, would be longer.)
 #![tactic(auto)]
 
 pub mod tables;

@@ -1,5 +1,6 @@
 // What a field leaves of the room of an output, before anything is written: a value that does not fit its
-// field is told before an output that is too short.
+// field is told before an output that is too short, so `room` is handed on as a Result, and not returned at once where it
+// is an Err.
 #![tactic(auto)]
 
 ghost use Rattle.std.specs.Prelude.{◌≡◌, ◌+◌, ◌≤◌, leb, length, drop};
