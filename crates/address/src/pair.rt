@@ -23,10 +23,3 @@ impl Pair {
         both_fit(self.family, self.source, self.destination)
     }
 }
-
-// The same, as a function: it goes once no crate calls it.
-pub fn pair_fits(pair: Pair) -> bool
-    ensures { result ≡ pair_fits pair }
-{
-    pair.fits()
-}
