@@ -9,6 +9,7 @@ use lib.Dec.{eqb, ltb}
 use lib.ListN.{length, get_or}
 use Rattle.octets.specs.Limits.{body_most, notify_header}
 use Rattle.octets.specs.Numbers.{number_of}
+use Rattle.octets.specs.declared.number.Number.{Number}
 use Rattle.octets.specs.Wire.{clone_ike_sa_supported, clone_ike_sa}
 use Rattle.octets.proofs.Small.{chosen}
 use Rattle.payload.specs.Payload.{payload_at, spi_size_at}
@@ -27,9 +28,8 @@ use Rattle.reader.proofs.Chain.{takes, Formed, chain_formed}
 use Rattle.reader.proofs.Whole.{faults_told}
 use Rattle.clone_chain.specs.CloneChain.{is_clone, clone_fault, or_else, clone_outcome, earlier, is_of_type, holds}
 use Rattle.clone_chain.specs.CloneChain.{is_whole, clone_reading}
-use Rattle.clone_chain.specs.Look.{outcome_number, looked, look_to, Reaches, stop_of, clone_read, told}
+use Rattle.clone_chain.specs.Look.{Look, WellFormed, Malformed, outcome_number, looked, look_to, Reaches, stop_of, clone_read, told}
 use Rattle.clone_chain.specs.declared.read.CloneReading.{CloneReading}
-use Rattle.clone_chain.specs.declared.read.Look.{Look}
 
 -- A chain's payloads begin before `most`, and no fault is behind it.
 abbrev Inside : ℕ → Chain → Type 0
@@ -291,21 +291,24 @@ module _ (first : ℕ) (body : List ℕ) where
       (λ w v. rw (f, q) (look_notes o body ch 0 false false (rw w (chain_inside body first)) v)))
 
   -- The three ways that the code ends, in what it is told of the reading and of the look.
-  module _ (r : Reading) (l : Look) (at : ℕ) where
-    pub refused_told : (x : Reading) → length body ≤ body_most → r ≡ reading first body → at ≡ stop_of r (length body)
-        → l ≡ look_to at body 0 false false ch → (l.number ≡ 0 → ⊥) → x ≡ refused l.number 0 l.offset l.ordinal
-        → clone_read x false false ≡ clone_reading first body
-    refused_told x short e s f n y =
-        rw y (rw (ne_eqb l.number 0 n) at (put_together short r e l (rw s at f)))
+  module _ (r : Reading) (at : ℕ) (short : length body ≤ body_most) (e : r ≡ reading first body)
+      (s : at ≡ stop_of r (length body)) where
+    abbrev look : Look
+    look = look_to at body 0 false false ch
 
-    pub stopped_told : length body ≤ body_most → r ≡ reading first body → at ≡ stop_of r (length body)
-        → l ≡ look_to at body 0 false false ch → l.number ≡ 0 → (r.number ≡ 0 → ⊥)
+    together : told r look ≡ clone_reading first body
+    together = rw s (put_together short r e (look_to (stop_of r (length body)) body 0 false false ch) refl)
+
+    pub refused_told : (x : Reading) (n : Number) (offset ordinal : ℕ) → Malformed look n offset ordinal
+        → x ≡ refused (number_of n) 0 offset ordinal → clone_read x false false ≡ clone_reading first body
+    refused_told x n offset ordinal m y =
+        rw (y, ← m.number, ← m.there, ← m.before) (rw (ne_eqb look.number 0 m.some) at together)
+
+    pub stopped_told : (supported clone : Bool) → WellFormed look supported clone → (r.number ≡ 0 → ⊥)
         → clone_read r false false ≡ clone_reading first body
-    stopped_told short e s f z n =
-        rw (eq-eqb l.number 0 z, ne_eqb r.number 0 n) at (put_together short r e l (rw s at f))
+    stopped_told supported clone f n = rw (eq-eqb look.number 0 f.none, ne_eqb r.number 0 n) at together
 
-    pub whole_told : length body ≤ body_most → r ≡ reading first body → at ≡ stop_of r (length body)
-        → l ≡ look_to at body 0 false false ch → l.number ≡ 0 → r.number ≡ 0
-        → clone_read r l.supported l.clone ≡ clone_reading first body
-    whole_told short e s f z y =
-        rw (eq-eqb l.number 0 z, eq-eqb r.number 0 y) at (put_together short r e l (rw s at f))
+    pub whole_told : (supported clone : Bool) → WellFormed look supported clone → r.number ≡ 0
+        → clone_read r supported clone ≡ clone_reading first body
+    whole_told supported clone f y =
+        rw (← f.supports, ← f.clones) (rw (eq-eqb look.number 0 f.none, eq-eqb r.number 0 y) at together)

@@ -1,9 +1,10 @@
 -- Inner. What looking at a chain for the two notify types of a clone request gives, as the code finds it: payload by
 -- payload from the front, up to where the reading of the chain stopped. `proofs/Turn.antt` ties what is read off the
 -- body to the chain, and `proofs/Looked.antt` what is found to the trusted `clone_outcome` and `holds`.
-use Rattle.std.specs.Prelude.{ℕ, ◌+◌, ◌≤◌, ◌<◌, List, Bool, false, cond, ◌||◌, not, eqb, ltb, get_or}
+use Rattle.std.specs.Prelude.{ℕ, ◌+◌, ◌≤◌, ◌<◌, ◌≡◌, List, Bool, false, cond, ◌||◌, not, eqb, ltb, get_or}
 use Rattle.octets.specs.Limits.{notify_header}
 use Rattle.octets.specs.Numbers.{number_of}
+use Rattle.octets.specs.declared.number.Number.{Number}
 use Rattle.octets.specs.declared.number.Number.TheVariants.{BadNotify, BadDataSize}
 use Rattle.octets.specs.Octets.{be16}
 use Rattle.octets.specs.Wire.{notify_payload, clone_ike_sa_supported, clone_ike_sa}
@@ -12,7 +13,15 @@ use Rattle.reader.specs.Chain.{Chain, ends, faulty, payload, Outcome, Whole, Bro
 use Rattle.reader.specs.declared.read.Reading.{Reading}
 use Rattle.clone_chain.specs.CloneChain.{is_clone, clone_fault, is_of_type}
 use Rattle.clone_chain.specs.declared.read.CloneReading.{CloneReading}
-use Rattle.clone_chain.specs.declared.read.Look.{Look}
+
+-- What looking for the two gives: the first of them that is malformed, by its number (0: none), its offset and how many
+-- payloads stand before it; and which of them were found up to there.
+pub record Look : Type 0 where
+  pub number : ℕ
+  pub offset : ℕ
+  pub ordinal : ℕ
+  pub supported : Bool
+  pub clone : Bool
 
 -- the number of an outcome, 0 where nothing is wrong
 abbrev pub outcome_number : Outcome → ℕ
@@ -34,6 +43,19 @@ number_at body at notify_type size =
 abbrev pub looked : ℕ → ℕ → ℕ → Bool → Bool → Look
 looked number offset ordinal supported clone =
     record { number = number; offset = offset; ordinal = ordinal; supported = supported; clone = clone }
+
+-- what the code says of a look: nothing is wrong, and which of the two were found
+pub record WellFormed (l : Look) (supported clone : Bool) : Type 0 where
+  pub none : l.number ≡ 0
+  pub supports : l.supported ≡ supported
+  pub clones : l.clone ≡ clone
+
+-- or one of the two is malformed
+pub record Malformed (l : Look) (n : Number) (offset ordinal : ℕ) : Type 0 where
+  pub number : l.number ≡ number_of n
+  pub some : l.number ≡ 0 → ⊥
+  pub there : l.offset ≡ offset
+  pub before : l.ordinal ≡ ordinal
 
 -- Looking at the payloads that begin before `stop`, after so many others and with this known of them. It ends at the
 -- first of the two that is malformed.

@@ -1,6 +1,5 @@
 -- One turn is in proofs/Turn.antt, by the size that is read.
-use Rattle.std.proofs.Common.{◌≡◌, refl, sym, ◌∙◌, arith}
-use Rattle.clone_chain.specs.Look.{notify_type_of, number_at}
+use Rattle.std.proofs.Common.{refl, ◌∙◌, arith}
 use Rattle.clone_chain.proofs.Turn.{turned, passed}
 use Rattle.clone_chain.proofs.read.look_to.Goals as goal
 
@@ -19,17 +18,16 @@ notify_type_of-notify_type-requires c =
     (turned a.stop l.payload_type a.body.now l.at l.invariant.0 c.requires.0 c.loop-at-test.true l.invariant.2 _
     c.be16_at-size.ensures).long
 
-pub returns-then-number-ne0 : goal.returns-then-number-ne0
-returns-then-number-ne0 c =
+pub returns-in-Err : goal.returns-in-Err
+returns-in-Err c =
     let a = c.args in
     let l = c.loop-at in
     let t =
     turned a.stop l.payload_type a.body.now l.at l.invariant.0 c.requires.0 c.loop-at-test.true l.invariant.2 _
     c.be16_at-size.ensures in
-    let e : c.clone_number-number.result
-    ≡ number_at a.body.now l.at (notify_type_of l.payload_type a.body.now l.at) c.be16_at-size.result =
-    rw (← c.notify_type_of-notify_type.ensures) c.clone_number-number.ensures in
-    rw (l.invariant.3, t.stops l.ordinal l.supported l.clone (λ z. c.if-number-ne0.true (e ∙ z)), e)
+    let e = rw c.notify_type_of-notify_type.ensures at c.in-Err.ensures in
+    rw (l.invariant.3 ∙ t.stops l.ordinal l.supported l.clone (λ z. omega (arith, e.0, e.1, z)))
+    (record { number = e.0; some = λ z. omega (arith, e.0, e.1, z); there = refl; before = refl })
 
 pub loop-at-smaller : goal.loop-at-smaller
 loop-at-smaller c =
@@ -47,19 +45,18 @@ loop-at-preserved c =
     let t =
     turned a.stop l.payload_type a.body.now l.at l.invariant.0 c.requires.0 c.loop-at-test.true l.invariant.2 _
     c.be16_at-size.ensures in
-    let e : c.clone_number-number.result
-    ≡ number_at a.body.now l.at (notify_type_of l.payload_type a.body.now l.at) c.be16_at-size.result =
-    rw (← c.notify_type_of-notify_type.ensures) c.clone_number-number.ensures in (
+    let e = rw c.notify_type_of-notify_type.ensures at c.in_default.ensures in (
       t.within,
       omega (arith, t.header),
       t.reaches,
       rw (c.stands-supported.ensures, c.stands-clone.ensures, c.notify_type_of-notify_type.ensures)
-          (l.invariant.3 ∙ t.goes_on l.ordinal l.supported l.clone (sym e ∙ c.if-number-ne0.false)),
+          (l.invariant.3 ∙ t.goes_on l.ordinal l.supported l.clone e),
     )
 
 pub returns : goal.returns
 returns c =
     let a = c.args in
     let l = c.loop-at in
-    sym (l.invariant.3 ∙ passed a.stop l.payload_type a.body.now l.at l.invariant.0 c.loop-at-test.false l.ordinal
+    rw (l.invariant.3 ∙ passed a.stop l.payload_type a.body.now l.at l.invariant.0 c.loop-at-test.false l.ordinal
     l.supported l.clone)
+    (record { none = refl; supports = refl; clones = refl })
