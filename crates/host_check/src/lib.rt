@@ -5,11 +5,12 @@ ghost use Rattle.routability.specs.Routability.{check_response, CheckedAs};
 
 use initiator::response::Assessment;
 use lent_closed::ended::end_owned;
-use lent_ike::ike::{ike_at, ike_place, ike_store};
+use lent_ike::ike::{ike_at, ike_place};
 use octets::limits::IKE_PLACES;
 use records::ike::IkeRecord;
 use records::ipsec::IpsecRecord;
 use routability::response::{CheckLooked, LentResponse, end_check};
+use walks::store;
 
 // Decides the response to the check that an IKE record has pending. Accepted, it moves the record's IPsec records to
 // the pair that the record has now; a close closes the record and what it owns; an error moves nothing. Each ends the
@@ -41,7 +42,7 @@ pub fn unmavreth_check(
     };
     let ending = end_check(&looked, &response);
     if let Some(entry) = ending.entry {
-        ike_store(ike, place, entry);
+        store(ike, place, entry);
     }
     end_owned(ipsec, ending.closes, ending.moves, spi, looked.entry.pair);
     ending.told

@@ -6,9 +6,10 @@ ghost use Rattle.cloning.specs.Clone.{clone_request, ClonedAs};
 
 use clone_answers::clone_at;
 use cloning::clone::{CloneLooked, CloneReply, LentCloneRequest};
-use lent_ike::ike::{ike_at, ike_count, ike_peers, ike_place, ike_store};
+use lent_ike::ike::{ike_at, ike_count, ike_peers, ike_place};
 use octets::limits::IKE_PLACES;
 use records::ike::IkeRecord;
+use walks::store;
 
 // Answers a CREATE_CHILD_SA request that rekeys an IKE SA: the response goes to the start of `out`, and what is past it
 // stays as it was. Done, the clone stands at the lowest free place; a refusal changes no record. No IPsec list is lent:
@@ -45,7 +46,7 @@ pub fn unmavreth_clone(
     };
     let answer = clone_at(&looked, &request, out);
     if let Some(clone) = answer.clone {
-        ike_store(ike, looked.free, clone);
+        store(ike, looked.free, clone);
     }
     answer.reply
 }

@@ -1,5 +1,5 @@
 // The IPsec records of an owner that is closed, in the lent list.
-ghost use Rattle.std.specs.Prelude.{◌≡◌, cond, map};
+ghost use Rattle.std.specs.Prelude.{◌≡◌, map};
 ghost use Rattle.records.specs.Records.{released};
 
 use records::ipsec::IpsecRecord;
@@ -11,15 +11,5 @@ pub fn release_all(records: &mut [IpsecRecord], owner: u64)
 {
     for record in records.iter_mut() {
         record.release(owner);
-    }
-}
-
-// Closes the records of an owner, if it was closed.
-pub fn release_if(records: &mut [IpsecRecord], closed: bool, owner: u64)
-    ensures { let before = records.old in
-        records.new ≡ cond closed (map (released owner) before) before }
-{
-    if closed {
-        release_all(records, owner);
     }
 }

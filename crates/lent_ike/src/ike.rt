@@ -1,5 +1,5 @@
 // The lent IKE table: the lowest place with an SPI, how many records an operator and a peer have, and the record at a
-// place, read, stored, and changed by an answer.
+// place, read and changed by an answer.
 ghost use Rattle.std.specs.Prelude.{◌≡◌, eqb, get_or, position, set};
 ghost use Rattle.octets.specs.Lists.{place_of, how_many};
 ghost use Rattle.records.specs.Records.{ike_spi, no_ike, of_operator, of_peer};
@@ -11,7 +11,6 @@ use records::check::PendingCheck;
 use records::ike::IkeRecord;
 use replying::change::changed;
 use replying::reply::CoreAnswer;
-use walks::store;
 
 // The lowest place with this SPI, if any.
 fn position_of(records: &[IkeRecord; IKE_PLACES], spi: u64) -> Option<usize>
@@ -55,13 +54,6 @@ pub fn ike_at(records: &[IkeRecord; IKE_PLACES], place: usize) -> IkeRecord
         Some(record) => *record,
         None => IkeRecord::none(),
     }
-}
-
-// Stores a record at a place; nothing past the end.
-pub fn ike_store(records: &mut [IkeRecord; IKE_PLACES], place: usize, new: IkeRecord)
-    ensures { records.new ≡ set records.old place new }
-{
-    store(records, place, new);
 }
 
 // Changes the record at a place by an answer, in place; nothing past the end.

@@ -1,5 +1,5 @@
 // The lent IPsec list: the lowest place with an SPI, and the record at a place.
-ghost use Rattle.std.specs.Prelude.{◌≡◌, eqb, get_or, length, position};
+ghost use Rattle.std.specs.Prelude.{◌≡◌, eqb, get_or, position};
 ghost use Rattle.octets.specs.Lists.{place_of};
 ghost use Rattle.records.specs.Records.{ipsec_spi, no_ipsec};
 
@@ -28,11 +28,4 @@ pub fn ipsec_at(records: &[IpsecRecord], place: usize) -> IpsecRecord
         Some(record) => *record,
         None => IpsecRecord::none(),
     }
-}
-
-// How many records are lent: it goes once no crate calls it.
-pub fn ipsec_count(records: &[IpsecRecord]) -> usize
-    ensures { result ≡ length records.now }
-{
-    records.len()
 }

@@ -6,7 +6,8 @@ ghost use Rattle.prefix.specs.Prefix.{address_bits, bits_of, prefix_matches};
 use crate::eights::eight_at;
 use octets::limits::ADDRESS_OCTETS;
 
-// Whether the first n octets are those of the prefix, one after the other.
+// Whether the first n octets are those of the prefix, one after the other: they are fewer than eight, for which `==` of
+// slices, a call of memcmp, takes more instructions.
 fn each_matches(prefix: [u8; ADDRESS_OCTETS], n: usize, octets: [u8; ADDRESS_OCTETS]) -> bool
     requires { n ≤ address_octets }
     ensures { result ≡ prefix_matches prefix (bits_of n) octets }

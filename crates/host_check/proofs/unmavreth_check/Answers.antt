@@ -12,7 +12,7 @@ returns c =
     let call = ends a.ike.now a.ipsec.now q c.told-ike in
     let is : c.match-ending.ike ≡ stored a.ike.now a.ipsec.now q c.told-ike c.end_check-ending.result.entry =
     elim c.match-ending.branch [
-      | in-Some w ↦ rw (w.ike-is, w.in-Some.is, w.ike_store.ensures, c.ike_place-place.ensures)
+      | in-Some w ↦ rw (w.ike-is, w.in-Some.is, w.store.ensures, c.ike_place-place.ensures)
       | in_default w ↦ rw (w.ike-is, w.in_default.is)
     ] in
     rw (

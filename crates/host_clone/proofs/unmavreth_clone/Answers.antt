@@ -15,7 +15,7 @@ returns c =
     let call = clones ike q c.told-ike in
     let is : c.match-answer.ike ≡ stored ike q c.clone_at-answer.result.clone =
     elim c.match-answer.branch [
-      | in-Some w ↦ rw (w.ike-is, w.in-Some.is, w.ike_store.ensures, c.ike_place.ensures)
+      | in-Some w ↦ rw (w.ike-is, w.in-Some.is, w.store.ensures, c.ike_place.ensures)
       | in_default w ↦ rw (w.ike-is, w.in_default.is)
     ] in
     rw (
