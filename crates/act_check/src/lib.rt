@@ -4,8 +4,8 @@
 ghost use Rattle.acts.specs.Performed.{Performs, checked_by};
 
 use calling::response_in;
-use given::outcome::{Outcome, numbered};
-use given::reading::{Slots, string_at};
+use given::outcome::Outcome;
+use given::reading::Slots;
 use host_check::unmavreth_check;
 use octets::limits::{IKE_PLACES, OPERATORS};
 use policy::rules::Policy;
@@ -19,14 +19,13 @@ pub fn check_entry(
     policies: &mut [Policy; OPERATORS],
     window: &[u8],
     e: Slots,
-    out: &mut [u8],
 ) -> Outcome
     ensures { let act = checked_by window.now e.slots in
         Performs act ike.old ipsec.old policies.old
         result ike.new ipsec.new policies.new }
 {
     let q = response_in(e);
-    let body = string_at(window, q.body);
+    let body = q.body.of(window);
     let a = unmavreth_check(ike, ipsec, q.spi, q.id, q.first, body, q.operator);
-    numbered(a.number)
+    Outcome::numbered(a.number)
 }

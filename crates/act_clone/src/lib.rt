@@ -5,8 +5,8 @@ ghost use Rattle.std.specs.Prelude.{length};
 ghost use Rattle.acts.specs.Performed.{Performs, cloned_by};
 
 use calling::clone_in;
-use given::outcome::{Outcome, numbered};
-use given::reading::{Slots, string_at};
+use given::outcome::Outcome;
+use given::reading::Slots;
 use host_clone::unmavreth_clone;
 use octets::limits::{IKE_PLACES, OPERATORS};
 use policy::rules::Policy;
@@ -27,7 +27,7 @@ pub fn clone_entry(
         result ike.new ipsec.new policies.new }
 {
     let q = clone_in(e);
-    let body = string_at(window, q.body);
+    let body = q.body.of(window);
     let a = unmavreth_clone(ike, q.spi, q.new_spi, q.first, body, out, q.operator);
-    numbered(a.number)
+    Outcome::numbered(a.number)
 }

@@ -3,9 +3,8 @@
 
 ghost use Rattle.acts.specs.Performed.{Performs, policy_set_by};
 
-use given::outcome::{Outcome, numbered};
+use given::outcome::Outcome;
 use given::reading::Slots;
-use given::rules::{count_in, policy_operator, rules_in};
 use lent_policy::rules::policy_store;
 use octets::limits::{IKE_PLACES, OPERATORS};
 use policy::rules::{Policy, set_policy};
@@ -19,16 +18,12 @@ pub fn policy_entry(
     policies: &mut [Policy; OPERATORS],
     window: &[u8],
     e: Slots,
-    out: &mut [u8],
 ) -> Outcome
     ensures { let act = policy_set_by window.now e.slots in
         Performs act ike.old ipsec.old policies.old
         result ike.new ipsec.new policies.new }
 {
-    let count = count_in(e);
-    let rules = rules_in(window, e);
-    let operator = policy_operator(e);
-    let a = set_policy(count, rules, operator);
+    let a = set_policy(e.rule_count(), e.rules(window), e.policy_operator());
     policy_store(policies, a.place, a.policy);
-    numbered(a.number)
+    Outcome::numbered(a.number)
 }

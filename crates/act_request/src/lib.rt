@@ -5,8 +5,8 @@ ghost use Rattle.std.specs.Prelude.{length};
 ghost use Rattle.acts.specs.Performed.{Performs, handled_by};
 
 use calling::request_in;
-use given::outcome::{Outcome, replied};
-use given::reading::{Slots, string_at};
+use given::outcome::Outcome;
+use given::reading::Slots;
 use host_request::unmavreth_handle;
 use octets::limits::{IKE_PLACES, OPERATORS};
 use policy::rules::Policy;
@@ -27,25 +27,21 @@ pub fn request_entry(
         result ike.new ipsec.new policies.new }
 {
     let q = request_in(window, e);
-    let nat_source = string_at(window, q.nat_source);
-    let nat_destination = string_at(window, q.nat_destination);
-    let body = string_at(window, q.body);
-    let cookie = string_at(window, q.cookie);
-    let r = unmavreth_handle(
+    let reply = unmavreth_handle(
         ike,
         ipsec,
         policies,
         q.spi,
         q.id,
         q.pair,
-        nat_source,
-        nat_destination,
-        cookie,
+        q.nat_source.of(window),
+        q.nat_destination.of(window),
+        q.cookie.of(window),
         q.check_id,
         q.first,
-        body,
+        q.body.of(window),
         out,
         q.operator,
     );
-    replied(r)
+    Outcome::from(reply)
 }

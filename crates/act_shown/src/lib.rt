@@ -4,7 +4,7 @@
 ghost use Rattle.acts.specs.Performed.{Performs, ike_shown_by, ipsec_shown_by};
 
 use calling::place_in;
-use given::outcome::{Outcome, shown_ike, shown_ipsec};
+use given::outcome::Outcome;
 use given::reading::Slots;
 use lent_ike::ike::ike_at;
 use lent_ipsec::places::ipsec_at;
@@ -18,17 +18,13 @@ pub fn show_ike(
     ike: &mut [IkeRecord; IKE_PLACES],
     ipsec: &mut [IpsecRecord],
     policies: &mut [Policy; OPERATORS],
-    window: &[u8],
     e: Slots,
-    out: &mut [u8],
 ) -> Outcome
     ensures { let act = ike_shown_by e.slots in
         Performs act ike.old ipsec.old policies.old
         result ike.new ipsec.new policies.new }
 {
-    let place = place_in(e);
-    let x = ike_at(ike, place);
-    shown_ike(x)
+    Outcome::from(ike_at(ike, place_in(e)))
 }
 
 // The IPsec record at the place that the first slot says.
@@ -36,15 +32,11 @@ pub fn show_ipsec(
     ike: &mut [IkeRecord; IKE_PLACES],
     ipsec: &mut [IpsecRecord],
     policies: &mut [Policy; OPERATORS],
-    window: &[u8],
     e: Slots,
-    out: &mut [u8],
 ) -> Outcome
     ensures { let act = ipsec_shown_by e.slots in
         Performs act ike.old ipsec.old policies.old
         result ike.new ipsec.new policies.new }
 {
-    let place = place_in(e);
-    let x = ipsec_at(ipsec, place);
-    shown_ipsec(x)
+    Outcome::from(ipsec_at(ipsec, place_in(e)))
 }

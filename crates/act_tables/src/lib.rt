@@ -5,7 +5,7 @@
 ghost use Rattle.acts.specs.Performed.{Performs, opened_by, added_by, closed_by, child_closed_by, marked_by};
 
 use calling::{adder_in, child_in, closer_in, opening_in, owner_in, spi_in};
-use given::outcome::{Outcome, numbered};
+use given::outcome::Outcome;
 use given::reading::Slots;
 use host_ike::{unmavreth_close_ike, unmavreth_mark_deletion, unmavreth_open};
 use host_ipsec::{unmavreth_close_ipsec, unmavreth_open_ipsec};
@@ -21,15 +21,12 @@ pub fn open_entry(
     policies: &mut [Policy; OPERATORS],
     window: &[u8],
     e: Slots,
-    out: &mut [u8],
 ) -> Outcome
     ensures { let act = opened_by window.now e.slots in
         Performs act ike.old ipsec.old policies.old
         result ike.new ipsec.new policies.new }
 {
-    let o = opening_in(window, e);
-    let number = unmavreth_open(ike, ipsec, o);
-    numbered(number)
+    Outcome::numbered(unmavreth_open(ike, ipsec, opening_in(window, e)))
 }
 
 // Opens another IPsec record.
@@ -37,19 +34,14 @@ pub fn add_entry(
     ike: &mut [IkeRecord; IKE_PLACES],
     ipsec: &mut [IpsecRecord],
     policies: &mut [Policy; OPERATORS],
-    window: &[u8],
     e: Slots,
-    out: &mut [u8],
 ) -> Outcome
     ensures { let act = added_by e.slots in
         Performs act ike.old ipsec.old policies.old
         result ike.new ipsec.new policies.new }
 {
-    let spi = child_in(e);
-    let owner = owner_in(e);
-    let operator = adder_in(e);
-    let number = unmavreth_open_ipsec(ike, ipsec, spi, owner, operator);
-    numbered(number)
+    let number = unmavreth_open_ipsec(ike, ipsec, child_in(e), owner_in(e), adder_in(e));
+    Outcome::numbered(number)
 }
 
 // Closes an IKE record.
@@ -57,18 +49,14 @@ pub fn close_entry(
     ike: &mut [IkeRecord; IKE_PLACES],
     ipsec: &mut [IpsecRecord],
     policies: &mut [Policy; OPERATORS],
-    window: &[u8],
     e: Slots,
-    out: &mut [u8],
 ) -> Outcome
     ensures { let act = closed_by e.slots in
         Performs act ike.old ipsec.old policies.old
         result ike.new ipsec.new policies.new }
 {
-    let spi = spi_in(e);
-    let operator = closer_in(e);
-    let number = unmavreth_close_ike(ike, ipsec, spi, operator);
-    numbered(number)
+    let number = unmavreth_close_ike(ike, ipsec, spi_in(e), closer_in(e));
+    Outcome::numbered(number)
 }
 
 // Closes an IPsec record.
@@ -76,18 +64,14 @@ pub fn close_child_entry(
     ike: &mut [IkeRecord; IKE_PLACES],
     ipsec: &mut [IpsecRecord],
     policies: &mut [Policy; OPERATORS],
-    window: &[u8],
     e: Slots,
-    out: &mut [u8],
 ) -> Outcome
     ensures { let act = child_closed_by e.slots in
         Performs act ike.old ipsec.old policies.old
         result ike.new ipsec.new policies.new }
 {
-    let spi = child_in(e);
-    let operator = closer_in(e);
-    let number = unmavreth_close_ipsec(ike, ipsec, spi, operator);
-    numbered(number)
+    let number = unmavreth_close_ipsec(ike, ipsec, child_in(e), closer_in(e));
+    Outcome::numbered(number)
 }
 
 // Marks an IKE record as being deleted.
@@ -95,16 +79,12 @@ pub fn mark_entry(
     ike: &mut [IkeRecord; IKE_PLACES],
     ipsec: &mut [IpsecRecord],
     policies: &mut [Policy; OPERATORS],
-    window: &[u8],
     e: Slots,
-    out: &mut [u8],
 ) -> Outcome
     ensures { let act = marked_by e.slots in
         Performs act ike.old ipsec.old policies.old
         result ike.new ipsec.new policies.new }
 {
-    let marked = spi_in(e);
-    let operator = closer_in(e);
-    let number = unmavreth_mark_deletion(ike, marked, operator);
-    numbered(number)
+    let number = unmavreth_mark_deletion(ike, spi_in(e), closer_in(e));
+    Outcome::numbered(number)
 }

@@ -1,4 +1,4 @@
-// Whatever an entry stands for, by the number of its kind.
+// Whatever is asked of the tables: an entry's call, by its kind, or a record to be shown.
 #![tactic(auto)]
 
 ghost use Rattle.std.specs.Prelude.{length};
@@ -10,33 +10,15 @@ use act_policy::policy_entry;
 use act_request::request_entry;
 use act_shown::{show_ike, show_ipsec};
 use act_tables::{add_entry, close_child_entry, close_entry, mark_entry, open_entry};
+use entries::kind::Kind;
 use given::outcome::Outcome;
-use given::reading::{SHOW_IKE, Slots};
+use given::reading::{Asked, Slots};
 use octets::limits::{IKE_PLACES, OPERATORS};
 use policy::rules::Policy;
 use records::ike::IkeRecord;
 use records::ipsec::IpsecRecord;
 
-// The numbers of the kinds of entries.
-const OPEN_BOTH: u8 = 0;
-
-const ADD_IPSEC: u8 = 1;
-
-const CLOSE_IKE: u8 = 2;
-
-const CLOSE_IPSEC: u8 = 3;
-
-const REQUEST: u8 = 4;
-
-const POLICY: u8 = 5;
-
-const CHECK_RESPONSE: u8 = 6;
-
-const CLONE: u8 = 7;
-
-const DELETION_MARK: u8 = 8;
-
-// Makes the call of an entry; of any other number it shows a record.
+// Makes the call of an entry, or shows a record.
 pub fn perform(
     ike: &mut [IkeRecord; IKE_PLACES],
     ipsec: &mut [IpsecRecord],
@@ -45,39 +27,21 @@ pub fn perform(
     e: Slots,
     out: &mut [u8],
 ) -> Outcome
-    ensures { let act = performed e.kind window.now e.slots (length out.old) in
+    ensures { let act = performed e.asked window.now e.slots (length out.old) in
         Performs act ike.old ipsec.old policies.old
         result ike.new ipsec.new policies.new }
 {
-    if e.kind == OPEN_BOTH {
-        return open_entry(ike, ipsec, policies, window, e, out);
+    match e.asked {
+        Asked::Entry(Kind::OpenBoth) => open_entry(ike, ipsec, policies, window, e),
+        Asked::Entry(Kind::AddIpsec) => add_entry(ike, ipsec, policies, e),
+        Asked::Entry(Kind::CloseIke) => close_entry(ike, ipsec, policies, e),
+        Asked::Entry(Kind::CloseIpsec) => close_child_entry(ike, ipsec, policies, e),
+        Asked::Entry(Kind::Request) => request_entry(ike, ipsec, policies, window, e, out),
+        Asked::Entry(Kind::Policy) => policy_entry(ike, ipsec, policies, window, e),
+        Asked::Entry(Kind::CheckResponse) => check_entry(ike, ipsec, policies, window, e),
+        Asked::Entry(Kind::Clone) => clone_entry(ike, ipsec, policies, window, e, out),
+        Asked::Entry(Kind::MarkDeletion) => mark_entry(ike, ipsec, policies, e),
+        Asked::ShowIke => show_ike(ike, ipsec, policies, e),
+        Asked::ShowIpsec => show_ipsec(ike, ipsec, policies, e),
     }
-    if e.kind == ADD_IPSEC {
-        return add_entry(ike, ipsec, policies, window, e, out);
-    }
-    if e.kind == CLOSE_IKE {
-        return close_entry(ike, ipsec, policies, window, e, out);
-    }
-    if e.kind == CLOSE_IPSEC {
-        return close_child_entry(ike, ipsec, policies, window, e, out);
-    }
-    if e.kind == REQUEST {
-        return request_entry(ike, ipsec, policies, window, e, out);
-    }
-    if e.kind == POLICY {
-        return policy_entry(ike, ipsec, policies, window, e, out);
-    }
-    if e.kind == CHECK_RESPONSE {
-        return check_entry(ike, ipsec, policies, window, e, out);
-    }
-    if e.kind == CLONE {
-        return clone_entry(ike, ipsec, policies, window, e, out);
-    }
-    if e.kind == DELETION_MARK {
-        return mark_entry(ike, ipsec, policies, window, e, out);
-    }
-    if e.kind == SHOW_IKE {
-        return show_ike(ike, ipsec, policies, window, e, out);
-    }
-    show_ipsec(ike, ipsec, policies, window, e, out)
 }

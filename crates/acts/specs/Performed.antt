@@ -3,8 +3,8 @@
 --   Gateway                 the tables and the operators' policies that calls are made on
 --   Performed, Performs     what is printed and what is left, and that the code gives and leaves it
 --   opened_by … marked_by     of each kind; ike_shown_by, ipsec_shown_by: of a record that is shown
---   performed               of whatever number
-use Rattle.std.specs.Prelude.{ℕ, ◌≡◌, cond, List, eqb, get_or}
+--   performed               of whatever is asked
+use Rattle.std.specs.Prelude.{ℕ, ◌≡◌, List, get_or}
 use Rattle.records.specs.Records.{no_ike, no_ipsec}
 use Rattle.records.specs.declared.ike.IkeRecord.{IkeRecord}
 use Rattle.records.specs.declared.ipsec.IpsecRecord.{IpsecRecord}
@@ -17,6 +17,9 @@ use Rattle.records.specs.Pending.{check_of}
 use Rattle.responder.specs.Handle.{handled}
 use Rattle.routability.specs.Routability.{CheckResponse, check_response, checked}
 use Rattle.cloning.specs.Clone.{CloneRequest, clone_request, cloned}
+use Rattle.entries.specs.declared.kind.Kind.TheVariants as kind
+use Rattle.given.specs.declared.reading.Asked.{Asked}
+use Rattle.given.specs.declared.reading.Asked.TheVariants.{Entry, ShowIke, ShowIpsec}
 use Rattle.given.specs.Given.{rules_in, count_in, policy_operator, string_in}
 use Rattle.calling.specs.Calling.{opening_in, request_in, response_in, clone_in, spi_in, child_in, owner_in, closer_in, adder_in}
 use Rattle.given.specs.Outcome.{numbered_by, replied_by, shown_of}
@@ -122,14 +125,15 @@ ipsec_shown_by slots g =
     let x = get_or g.ipsec (spi_in slots) no_ipsec in
     gives (shown_of x.spi x.pair) g
 
-abbrev pub performed : ℕ → List ℕ → List ℕ → ℕ → Gateway → Performed
-performed kind s slots room =
-    cond (eqb kind 0) (opened_by s slots)
-    (cond (eqb kind 1) (added_by slots)
-    (cond (eqb kind 2) (closed_by slots)
-    (cond (eqb kind 3) (child_closed_by slots)
-    (cond (eqb kind 4) (handled_by s slots room)
-    (cond (eqb kind 5) (policy_set_by s slots)
-    (cond (eqb kind 6) (checked_by s slots)
-    (cond (eqb kind 7) (cloned_by s slots room)
-    (cond (eqb kind 8) (marked_by slots) (cond (eqb kind 254) (ike_shown_by slots) (ipsec_shown_by slots))))))))))
+abbrev pub performed : Asked → List ℕ → List ℕ → ℕ → Gateway → Performed
+performed (Entry kind.OpenBoth) s slots room = opened_by s slots
+performed (Entry kind.AddIpsec) s slots room = added_by slots
+performed (Entry kind.CloseIke) s slots room = closed_by slots
+performed (Entry kind.CloseIpsec) s slots room = child_closed_by slots
+performed (Entry kind.Request) s slots room = handled_by s slots room
+performed (Entry kind.Policy) s slots room = policy_set_by s slots
+performed (Entry kind.CheckResponse) s slots room = checked_by s slots
+performed (Entry kind.Clone) s slots room = cloned_by s slots room
+performed (Entry kind.MarkDeletion) s slots room = marked_by slots
+performed ShowIke s slots room = ike_shown_by slots
+performed ShowIpsec s slots room = ipsec_shown_by slots

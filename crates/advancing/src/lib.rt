@@ -14,7 +14,7 @@ use given::outcome::Outcome;
 use looking::look;
 use printing::lines::LINE_ROOM;
 use replaying::keep::keep;
-use replaying::state::{State, Turn, refill};
+use replaying::state::{State, Turn};
 use std::io;
 use std::io::{Read, Write};
 use telling::put_line;
@@ -33,7 +33,7 @@ fn read_more<R: Read>(input: &mut R, window: &mut [u8], s: State) -> io::Result<
 {
     let kept = keep(window, s.at, s.len);
     let n = input.read(&mut window[kept..])?;
-    Ok(refill(s, kept, kept + n))
+    Ok(s.refilled(kept, kept + n))
 }
 
 // Reads, where more is wanted, and looks at what stands next in the window; at the end, or after a refusal, neither.
@@ -47,19 +47,13 @@ pub fn advance<R: Read>(input: &mut R, window: &mut [u8], s: State) -> io::Resul
     ensures failed { OnErr result (KeepsUnused window.old s window.new) }
     ensures read { OnErr result (s.turn ≡ More) }
 {
-    let turn = s.turn;
-    match turn {
+    match s.turn {
         Turn::More => {
             let n = read_more(input, window, s)?;
-            let len = n.len;
-            Ok(look(&window[..len], n))
+            Ok(look(&window[..n.len], n))
         }
-        Turn::Call => {
-            let len = s.len;
-            Ok(look(&window[..len], s))
-        }
-        Turn::Refuse(_) => Ok(s),
-        Turn::Show => Ok(s),
+        Turn::Call => Ok(look(&window[..s.len], s)),
+        Turn::Refuse(_) | Turn::Show => Ok(s),
     }
 }
 

@@ -51,32 +51,29 @@ pub struct GivenClone {
 pub fn pair_in(s: &[u8], e: Slots) -> Pair
     ensures { result ≡ pair_in s.now e.slots }
 {
-    let source = address_at(s, e.slots[3]);
-    let destination = address_at(s, e.slots[4]);
     Pair {
-        family: (e.slots[2] % 0x100) as u8,
-        source,
-        destination,
-        source_port: (e.slots[5] % 0x1_0000) as u16,
-        destination_port: (e.slots[6] % 0x1_0000) as u16,
+        family: e.octet(2),
+        source: address_at(s, e.slots[3]),
+        destination: address_at(s, e.slots[4]),
+        source_port: e.short(5),
+        destination_port: e.short(6),
     }
 }
 
 pub fn opening_in(s: &[u8], e: Slots) -> Opening
     ensures { result ≡ opening_in s.now e.slots }
 {
-    let pair = pair_in(s, e);
     let agreed = Agreed {
-        mobike: (e.slots[1] % 0x100) as u8,
-        cloning: (e.slots[9] % 0x100) as u8,
-        operator: (e.slots[10] % 0x100) as u8,
-        peer: (e.slots[8] % 0x1_0000_0000) as u32,
+        mobike: e.octet(1),
+        cloning: e.octet(9),
+        operator: e.octet(10),
+        peer: e.word(8),
     };
     Opening {
         spi: e.slots[0],
         agreed,
-        pair,
-        child: (e.slots[7] % 0x1_0000_0000) as u32,
+        pair: pair_in(s, e),
+        child: e.word(7),
     }
 }
 
@@ -91,7 +88,7 @@ pub fn spi_in(e: Slots) -> u64
 pub fn child_in(e: Slots) -> u32
     ensures { result ≡ child_in e.slots }
 {
-    (e.slots[0] % 0x1_0000_0000) as u32
+    e.word(0)
 }
 
 // The place that leads what is asked for at a trace's end.
@@ -112,79 +109,53 @@ pub fn owner_in(e: Slots) -> u64
 pub fn closer_in(e: Slots) -> u8
     ensures { result ≡ closer_in e.slots }
 {
-    (e.slots[1] % 0x100) as u8
+    e.octet(1)
 }
 
 // The operator that adds an IPsec record.
 pub fn adder_in(e: Slots) -> u8
     ensures { result ≡ adder_in e.slots }
 {
-    (e.slots[2] % 0x100) as u8
+    e.octet(2)
 }
 
 pub fn request_in(s: &[u8], e: Slots) -> Given
     ensures { result ≡ request_in s.now e.slots }
 {
-    let pair = pair_in(s, e);
-    let nat_source = Span {
-        at: e.slots[7],
-        size: e.slots[8],
-    };
-    let nat_destination = Span {
-        at: e.slots[9],
-        size: e.slots[10],
-    };
-    let body = Span {
-        at: e.slots[12],
-        size: e.slots[13],
-    };
-    let cookie = Span {
-        at: e.slots[14],
-        size: e.slots[15],
-    };
     Given {
         spi: e.slots[0],
-        id: (e.slots[1] % 0x1_0000_0000) as u32,
-        pair,
-        nat_source,
-        nat_destination,
-        first: (e.slots[11] % 0x100) as u8,
-        body,
-        cookie,
-        check_id: (e.slots[16] % 0x1_0000_0000) as u32,
-        operator: (e.slots[17] % 0x100) as u8,
+        id: e.word(1),
+        pair: pair_in(s, e),
+        nat_source: e.span(7),
+        nat_destination: e.span(9),
+        first: e.octet(11),
+        body: e.span(12),
+        cookie: e.span(14),
+        check_id: e.word(16),
+        operator: e.octet(17),
     }
 }
 
 pub fn response_in(e: Slots) -> GivenResponse
     ensures { result ≡ response_in e.slots }
 {
-    let body = Span {
-        at: e.slots[3],
-        size: e.slots[4],
-    };
     GivenResponse {
         spi: e.slots[0],
-        id: (e.slots[1] % 0x1_0000_0000) as u32,
-        first: (e.slots[2] % 0x100) as u8,
-        body,
-        operator: (e.slots[5] % 0x100) as u8,
+        id: e.word(1),
+        first: e.octet(2),
+        body: e.span(3),
+        operator: e.octet(5),
     }
 }
 
 pub fn clone_in(e: Slots) -> GivenClone
     ensures { result ≡ clone_in e.slots }
 {
-    let body = Span {
-        at: e.slots[3],
-        size: e.slots[4],
-    };
-    let first = (e.slots[2] % 0x100) as u8;
     GivenClone {
         spi: e.slots[0],
         new_spi: e.slots[1],
-        first,
-        body,
-        operator: (e.slots[5] % 0x100) as u8,
+        first: e.octet(2),
+        body: e.span(3),
+        operator: e.octet(5),
     }
 }

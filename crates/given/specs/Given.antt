@@ -1,12 +1,14 @@
 -- Trusted. What the slots of an entry point to, for any slots; of an entry that was read it is what its values say
 -- (`Performing` in replays/specs/Same.antt).
 --   address_in s at, string_in s at size   an address, a string; zeros, and none, where they would run past the end
+--   span_in slots slot                     where the string of two slots stands
 --   rule_in, rules_in, count_in             the rules of a policy, in all their places, and how many there are
 --   operator_in slot slots                the operator in a slot; `policy_operator`: whose policy an entry sets
 use Rattle.std.specs.Prelude.{ℕ, zero, suc, ◌+◌, ◌*◌, ◌%◌, ◌^◌, cond, List, [], ◌∷◌, leb, ltb, length, get_or, take, drop, replicate}
 use Rattle.octets.specs.Limits.{address_octets, rules_most}
 use Rattle.policy.specs.Policy.{no_rule}
 use Rattle.policy.specs.declared.rules.Rule.{Rule}
+use Rattle.given.specs.declared.reading.Span.{Span}
 
 abbrev pub address_in : List ℕ → ℕ → List ℕ
 address_in s at =
@@ -14,6 +16,9 @@ address_in s at =
 
 abbrev pub string_in : List ℕ → ℕ → ℕ → List ℕ
 string_in s at size = cond (leb (at + size) (length s)) (take size (drop at s)) []
+
+abbrev pub span_in : List ℕ → ℕ → Span
+span_in slots slot = record { at = get_or slots slot 0; size = get_or slots (slot + 1) 0 }
 
 module _ (s slots : List ℕ) where
   -- the rule whose slots begin at `first`

@@ -18,56 +18,62 @@ pub struct Outcome {
     pub pair: Pair,
 }
 
-// A record's SPI and pair; SPI 0 of a free place.
-pub fn shown(spi: u64, pair: Pair) -> Outcome
-    ensures { result ≡ shown_of spi pair }
-{
-    Outcome {
-        number: 0,
-        update: 0,
-        list: 0,
-        spi,
-        pair,
+impl Outcome {
+    // A record's SPI and pair; SPI 0 of a free place.
+    fn shown(spi: u64, pair: Pair) -> Outcome
+        ensures { result ≡ shown_of spi pair }
+    {
+        Outcome {
+            number: 0,
+            update: 0,
+            list: 0,
+            spi,
+            pair,
+        }
+    }
+
+    // A call that gives a number alone.
+    pub fn numbered(number: u8) -> Outcome
+        ensures { result ≡ numbered_by number }
+    {
+        let pair = Pair {
+            family: 0,
+            source: [0u8; ADDRESS_OCTETS],
+            destination: [0u8; ADDRESS_OCTETS],
+            source_port: 0,
+            destination_port: 0,
+        };
+        Outcome {
+            number,
+            ..Outcome::shown(0, pair)
+        }
     }
 }
 
-// An IKE record's, and an IPsec record's.
-pub fn shown_ike(x: IkeRecord) -> Outcome
-    ensures { result ≡ shown_of x.spi x.pair }
-{
-    let pair = x.pair;
-    shown(x.spi, pair)
+impl From<IkeRecord> for Outcome {
+    ghost from_gives = { λ x o. o ≡ shown_of x.spi x.pair };
+
+    fn from(x: IkeRecord) -> Outcome {
+        Outcome::shown(x.spi, x.pair)
+    }
 }
 
-pub fn shown_ipsec(x: IpsecRecord) -> Outcome
-    ensures { result ≡ shown_of x.spi x.pair }
-{
-    let pair = x.pair;
-    shown(x.spi as u64, pair)
+impl From<IpsecRecord> for Outcome {
+    ghost from_gives = { λ x o. o ≡ shown_of x.spi x.pair };
+
+    fn from(x: IpsecRecord) -> Outcome {
+        Outcome::shown(u64::from(x.spi), x.pair)
+    }
 }
 
-// A call that gives a number alone.
-pub fn numbered(number: u8) -> Outcome
-    ensures { result ≡ numbered_by number }
-{
-    let pair = Pair {
-        family: 0,
-        source: [0u8; ADDRESS_OCTETS],
-        destination: [0u8; ADDRESS_OCTETS],
-        source_port: 0,
-        destination_port: 0,
-    };
-    let mut o = shown(0, pair);
-    o.number = number;
-    o
-}
+impl From<Reply> for Outcome {
+    ghost from_gives = { λ reply o. o ≡ replied_by reply };
 
-// A request.
-pub fn replied(reply: Reply) -> Outcome
-    ensures { result ≡ replied_by reply }
-{
-    let mut o = numbered(reply.number);
-    o.update = reply.update;
-    o.list = reply.list;
-    o
+    fn from(reply: Reply) -> Outcome {
+        Outcome {
+            update: reply.update,
+            list: reply.list,
+            ..Outcome::numbered(reply.number)
+        }
+    }
 }

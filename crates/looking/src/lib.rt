@@ -2,24 +2,24 @@
 #![tactic(auto)]
 
 ghost use Rattle.std.specs.Prelude.{◌≡◌, ◌≤◌, length};
-ghost use Rattle.replaying.specs.Turns.{looked, turning, show_ike, no_slots, slots_for};
+ghost use Rattle.given.specs.declared.reading.Asked.TheVariants.{ShowIke};
+ghost use Rattle.replaying.specs.Turns.{looked, turning, no_slots, slots_for};
 ghost use Rattle.replaying.specs.Standing.{Standing};
 
 use entries::ENTRY_SLOTS;
-use given::reading::{SHOW_IKE, Slots};
-use replaying::state::{State, Turn, in_turn};
+use given::reading::{Asked, Slots};
+use replaying::state::{State, Turn};
 use windows::{Next, next_entry};
 
 // Where no call is to be made a record is looked at, which changes nothing.
 fn no_call(s: State, turn: Turn) -> State
-    ensures { result ≡ turning s turn s.next (slots_for show_ike no_slots) }
+    ensures { result ≡ turning s turn s.next (slots_for ShowIke no_slots) }
 {
-    let slots = [0u64; ENTRY_SLOTS];
     let entry = Slots {
-        kind: SHOW_IKE,
-        slots,
+        asked: Asked::ShowIke,
+        slots: [0u64; ENTRY_SLOTS],
     };
-    in_turn(s, turn, s.next, entry)
+    s.in_turn(turn, s.next, entry)
 }
 
 // Looks at what stands next in the window.
@@ -33,11 +33,8 @@ pub fn look(window: &[u8], s: State) -> State
     let mut slots = [0u64; ENTRY_SLOTS];
     match next_entry(window, s.at, s.ended, &mut slots) {
         Ok(Next::Entry(kind, next)) => {
-            let entry = Slots {
-                kind: u8::from(kind),
-                slots,
-            };
-            in_turn(s, Turn::Call, next, entry)
+            let asked = Asked::Entry(kind);
+            s.in_turn(Turn::Call, next, Slots { asked, slots })
         }
         Ok(Next::More) => no_call(s, Turn::More),
         Ok(Next::End) => no_call(s, Turn::Show),

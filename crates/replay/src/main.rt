@@ -5,7 +5,7 @@
 use acting::perform;
 use advancing::{advance, report};
 use empty::{no_ikes, no_ipsecs, no_policies, no_response, no_window};
-use replaying::state::begin;
+use replaying::state::State;
 use std::io;
 
 fn main(rt: HostRuntime) -> io::Result<()> {
@@ -16,9 +16,11 @@ fn main(rt: HostRuntime) -> io::Result<()> {
     let mut policies = no_policies();
     let mut window = no_window();
     let mut out = no_response();
-    let mut s = begin();
-    let mut turns = u64::MAX;
-    while turns > 0 && s.going {
+    let mut s = State::begin();
+    for _ in 0..u64::MAX {
+        if !s.going {
+            break;
+        }
         s = advance(&mut input, &mut window, s)?;
         let o = perform(
             &mut ike,
@@ -29,7 +31,6 @@ fn main(rt: HostRuntime) -> io::Result<()> {
             &mut out,
         );
         s = report(&mut output, s, o)?;
-        turns -= 1;
     }
     Ok(())
 }

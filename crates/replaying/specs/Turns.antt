@@ -9,7 +9,7 @@ use Rattle.writing.specs.Notify.{placed}
 use Rattle.address.specs.declared.pair.Pair.{Pair}
 use Rattle.fields.specs.Reading.{slots_of}
 use Rattle.fields.specs.Refusals.{refusal_number}
-use Rattle.entries.specs.Kinds.{kind_number}
+use Rattle.entries.specs.declared.kind.Kind.TheVariants.{OpenBoth}
 use Rattle.entries.specs.Entries.{entry_at}
 use Rattle.entries.specs.Slots.{entry_slots}
 use Rattle.windows.specs.Windows.{next_in}
@@ -17,24 +17,30 @@ use Rattle.fields.specs.declared.refusal.Refusal.{Refusal}
 use Rattle.windows.specs.declared.Next.{Next}
 use Rattle.windows.specs.declared.Next.TheVariants as next
 use Rattle.given.specs.declared.outcome.Outcome.{Outcome}
+use Rattle.given.specs.declared.reading.Asked.{Asked}
+use Rattle.given.specs.declared.reading.Asked.TheVariants.{Entry, ShowIke, ShowIpsec}
 use Rattle.given.specs.declared.reading.Slots.{Slots}
 use Rattle.printing.specs.Lines.{entry_line, refusal_line, pair_line}
 use Rattle.replaying.specs.declared.state.State.{State}
 use Rattle.replaying.specs.declared.state.Turn.{Turn}
 use Rattle.replaying.specs.declared.state.Turn.TheVariants.{More, Call, Refuse, Show}
 
--- the numbers of what is asked for at a trace's end: the record at a place of either table
-abbrev pub show_ike : ℕ
-show_ike = 254
+-- whether what is asked for is the record at a place of this table
+abbrev pub shows_ike : Asked → Bool
+shows_ike (Entry k) = false
+shows_ike ShowIke = true
+shows_ike ShowIpsec = false
 
-abbrev pub show_ipsec : ℕ
-show_ipsec = 255
+abbrev pub shows_ipsec : Asked → Bool
+shows_ipsec (Entry k) = false
+shows_ipsec ShowIke = false
+shows_ipsec ShowIpsec = true
 
 abbrev pub no_slots : List ℕ
 no_slots = replicate entry_slots 0
 
-abbrev pub slots_for : ℕ → List ℕ → Slots
-slots_for kind slots = record { kind = kind; slots = slots }
+abbrev pub slots_for : Asked → List ℕ → Slots
+slots_for asked slots = record { asked = asked; slots = slots }
 
 -- where the window stands; of which entry; and what the turn is for
 abbrev pub state : ℕ → ℕ → ℕ → Bool → ℕ → ℕ → Turn → Slots → Bool → State
@@ -52,7 +58,7 @@ state len at next ended offset ordinal turn entry going =
     }
 
 abbrev pub start : State
-start = state 0 0 0 false 0 0 More (slots_for 0 no_slots) true
+start = state 0 0 0 false 0 0 More (slots_for (Entry OpenBoth) no_slots) true
 
 -- ---- what is looked at
 
@@ -67,10 +73,10 @@ turning s t next e = state s.len s.at next s.ended s.offset s.ordinal t e s.goin
 
 -- where no call is to be made the record at place 0 is looked at, which changes nothing
 abbrev pub looked_by : State → List ℕ → Result Next Refusal → State
-looked_by s slots (Ok (next.Entry k n)) = turning s Call n (slots_for (kind_number k) slots)
-looked_by s slots (Err why) = turning s (Refuse (refusal_number why)) s.next (slots_for show_ike no_slots)
-looked_by s slots (Ok next.More) = turning s More s.next (slots_for show_ike no_slots)
-looked_by s slots (Ok next.End) = turning s Show s.next (slots_for show_ike no_slots)
+looked_by s slots (Ok (next.Entry k n)) = turning s Call n (slots_for (Entry k) slots)
+looked_by s slots (Err why) = turning s (Refuse (refusal_number why)) s.next (slots_for ShowIke no_slots)
+looked_by s slots (Ok next.More) = turning s More s.next (slots_for ShowIke no_slots)
+looked_by s slots (Ok next.End) = turning s Show s.next (slots_for ShowIke no_slots)
 
 abbrev pub looked : List ℕ → State → State
 looked w s = looked_by s (placed no_slots 0 (slots_of (entry_at w s.at))) (next_in w s.at s.ended)
@@ -89,7 +95,7 @@ abbrev pub printed_by : Turn → State → Outcome → List ℕ
 printed_by More s o = []
 printed_by Call s o = line_of s.ordinal o
 printed_by (Refuse number) s o = refusal_line number s.offset
-printed_by Show s o = pair_at (eqb s.entry.kind show_ipsec) o.spi o.pair
+printed_by Show s o = pair_at (shows_ipsec s.entry.asked) o.spi o.pair
 
 abbrev pub printed : State → Outcome → List ℕ
 printed s o = printed_by s.turn s o
@@ -98,13 +104,13 @@ printed s o = printed_by s.turn s o
 abbrev pub place_after : Slots → Slots
 place_after e =
     let place = (get_or e.slots 0 0 + 1) % 2 ^ 64 in
-    cond (eqb e.kind show_ike)
-    (cond (eqb place ike_places) (slots_for show_ipsec (set e.slots 0 0)) (slots_for show_ike (set e.slots 0 place)))
-    (slots_for e.kind (set e.slots 0 place))
+    cond (shows_ike e.asked)
+    (cond (eqb place ike_places) (slots_for ShowIpsec (set e.slots 0 0)) (slots_for ShowIke (set e.slots 0 place)))
+    (slots_for e.asked (set e.slots 0 place))
 
 -- a record is left to be shown
 abbrev pub to_show : Slots → Bool → Bool
-to_show e going = cond (eqb e.kind show_ipsec) (ltb (get_or e.slots 0 0) ipsec_places) going
+to_show e going = cond (shows_ipsec e.asked) (ltb (get_or e.slots 0 0) ipsec_places) going
 
 abbrev pub after_call : State → State
 after_call s =

@@ -7,14 +7,8 @@ pub fn keep(window: &mut [u8], at: usize, len: usize) -> usize
     ensures value { result ≡ len - at }
     ensures window_after { take (len - at) window.new ≡ take (len - at) (drop at window.old) }
 {
-    let n = len - at;
-    if at == 0 {
-        return n;
+    if at > 0 {
+        window.copy_within(at..len, 0);
     }
-    let mut i = 0;
-    while i < n {
-        window[i] = window[at + i];
-        i += 1;
-    }
-    n
+    len - at
 }

@@ -4,7 +4,8 @@ ghost use Rattle.replaying.specs.Turns.{start, turning, refilled};
 ghost use Rattle.replaying.specs.Standing.{Standing};
 
 use entries::ENTRY_SLOTS;
-use given::reading::Slots;
+use entries::kind::Kind;
+use given::reading::{Asked, Slots};
 
 // What a turn is for.
 #[derive(Clone, Copy)]
@@ -35,50 +36,49 @@ pub struct State {
     pub going: bool,
 }
 
-// Nothing is read yet.
-pub fn begin() -> State
-    ensures value { result ≡ start }
-    ensures stands { Standing result }
-{
-    let slots = [0u64; ENTRY_SLOTS];
-    let entry = Slots { kind: 0, slots };
-    State {
-        len: 0,
-        at: 0,
-        next: 0,
-        ended: false,
-        offset: 0,
-        ordinal: 0,
-        turn: Turn::More,
-        entry,
-        going: true,
+impl State {
+    // Nothing is read yet.
+    pub fn begin() -> State
+        ensures value { result ≡ start }
+        ensures stands { Standing result }
+    {
+        State {
+            len: 0,
+            at: 0,
+            next: 0,
+            ended: false,
+            offset: 0,
+            ordinal: 0,
+            turn: Turn::More,
+            entry: Slots {
+                asked: Asked::Entry(Kind::OpenBoth),
+                slots: [0u64; ENTRY_SLOTS],
+            },
+            going: true,
+        }
     }
-}
 
-// The state in a turn, with the entry that it is for and the offset after that.
-pub fn in_turn(s: State, turn: Turn, next: usize, entry: Slots) -> State
-    ensures { result ≡ turning s turn next entry }
-{
-    State {
-        len: s.len,
-        at: s.at,
-        next,
-        ended: s.ended,
-        offset: s.offset,
-        ordinal: s.ordinal,
-        turn,
-        entry,
-        going: s.going,
+    // The state in a turn, with the entry that it is for and the offset after that.
+    pub fn in_turn(self, turn: Turn, next: usize, entry: Slots) -> State
+        ensures { result ≡ turning self turn next entry }
+    {
+        State {
+            turn,
+            next,
+            entry,
+            ..self
+        }
     }
-}
 
-// The state with more in the window: what was not used is at its front, and `len` octets are in it.
-pub fn refill(s: State, kept: usize, len: usize) -> State
-    ensures { result ≡ refilled s kept len }
-{
-    let mut n = s;
-    n.at = 0;
-    n.len = len;
-    n.ended = len == kept;
-    n
+    // The state with more in the window: what was not used is at its front, and `len` octets are in it.
+    pub fn refilled(self, kept: usize, len: usize) -> State
+        ensures { result ≡ refilled self kept len }
+    {
+        State {
+            at: 0,
+            len,
+            ended: len == kept,
+            ..self
+        }
+    }
 }

@@ -16,10 +16,11 @@ use Rattle.routability.specs.Routability.{CheckResponse, checked}
 use Rattle.cloning.specs.Clone.{CloneRequest, cloned}
 use Rattle.fields.specs.Fields.{Value, none, ◌then◌}
 use Rattle.fields.specs.Slots.{value_in, fits_in}
-use Rattle.entries.specs.Kinds.{kind_number, fields_of, operator}
+use Rattle.entries.specs.Kinds.{fields_of, operator}
 use Rattle.entries.specs.declared.kind.Kind.{Kind}
 use Rattle.entries.specs.declared.kind.Kind.TheVariants as kind
 use Rattle.entry_laws.proofs.RoundTrips.{entries}
+use Rattle.given.specs.declared.reading.Asked.TheVariants as asked
 use Rattle.given.specs.Outcome.{numbered_by, replied_by}
 use Rattle.calling.specs.Calling.{closer_in}
 use Rattle.acts.specs.Performed.{Gateway, gateway, gives, performed}
@@ -41,7 +42,7 @@ closer_taken w behind slots h =
 
 -- by its kind
 acts_as : (k : Kind) (w behind slots : List ℕ) (g : Gateway) → fits_in (fields_of k) w slots ≡ true
-    → performed (kind_number k) (w ++ behind) (lent slots) response_room g ≡ called_as k (value_in (fields_of k) w slots) g
+    → performed (asked.Entry k) (w ++ behind) (lent slots) response_room g ≡ called_as k (value_in (fields_of k) w slots) g
 unfolding value_in
 acts_as kind.OpenBoth w behind slots g h =
     ap (λ (o : Opening).
@@ -108,7 +109,7 @@ pub replays : Replays
 unfolding replayed
 replays rs n o small brings turns =
     let t = all_read rs in
-    (runs performing t o small n).1 false rs [] [] 0 0 0 0 0 (slots_for 0 no_slots) empty
+    (runs performing t o small n).1 false rs [] [] 0 0 0 0 0 (slots_for (asked.Entry kind.OpenBoth) no_slots) empty
     (record {
       octets = o;
       inside = omega arith;

@@ -15,7 +15,9 @@ use Rattle.records.specs.declared.ike.IkeRecord.{IkeRecord}
 use Rattle.records.specs.declared.ipsec.IpsecRecord.{IpsecRecord}
 use Rattle.fields.specs.Fields.{each_of}
 use Rattle.acts.specs.Performed.{Gateway}
-use Rattle.replaying.specs.Turns.{show_ike, show_ipsec, slots_for, state, pair_at}
+use Rattle.given.specs.declared.reading.Asked.{Asked}
+use Rattle.given.specs.declared.reading.Asked.TheVariants.{ShowIke, ShowIpsec}
+use Rattle.replaying.specs.Turns.{slots_for, state, pair_at}
 use Rattle.replaying.specs.declared.state.Turn.TheVariants.{Show}
 use Rattle.replays.specs.Runs.{Read, Window, window, ran, run}
 use Rattle.replays.proofs.Turned.{goes, stops}
@@ -36,17 +38,17 @@ next_place slots place e h = rw e (mod-eq_of_lt (omega arith) ∙ omega arith)
 module _ (rs : List Read) (held behind : List ℕ) (len at next : ℕ) (ended : Bool) (offset ordinal : ℕ) (g : Gateway)
     (sized : Sized g)
   where
-    abbrev showing : ℕ → List ℕ → Bool → Window
-    showing kind slots going =
-        window held behind (state len at next ended offset ordinal Show (slots_for kind slots) going)
+    abbrev showing : Asked → List ℕ → Bool → Window
+    showing asked slots going =
+        window held behind (state len at next ended offset ordinal Show (slots_for asked slots) going)
 
     ipsec_shown : (m n : ℕ) (slots : List ℕ) (place : ℕ) (going : Bool) → get_or slots 0 0 ≡ place → 0 < length slots
         → place + m ≡ ipsec_places → m ≤ n → going ≡ ltb place ipsec_places
-        → run n rs (showing show_ipsec slots going) g ≡ ran (each_of of_ipsec (drop place g.ipsec)) g
+        → run n rs (showing ShowIpsec slots going) g ≡ ran (each_of of_ipsec (drop place g.ipsec)) g
     ipsec_shown zero n slots place going e l p h q =
         let past : length g.ipsec ≤ place = omega (arith, sized.ipsecs) in
         let none : drop place g.ipsec ≡ [] = drop_of_length-le g.ipsec past in
-        rw none (stops n rs (showing show_ipsec slots going) g (q ∙ le-ltb place ipsec_places (omega arith)))
+        rw none (stops n rs (showing ShowIpsec slots going) g (q ∙ le-ltb place ipsec_places (omega arith)))
     ipsec_shown (suc m) zero slots place going e l p h q = absurd (omega arith)
     ipsec_shown (suc m) (suc n) slots place going e l p h q =
         let one = drop-cons g.ipsec place no_ipsec (omega (arith, sized.ipsecs)) in
@@ -57,12 +59,12 @@ module _ (rs : List Read) (held behind : List ℕ) (len at next : ℕ) (ended : 
         let ih =
         ipsec_shown m n moved (suc place) (ltb (get_or moved 0 0) ipsec_places) there long (omega arith) (omega arith)
         (ap (λ (x : ℕ). ltb x ipsec_places) there) in
-        goes n rs (showing show_ipsec slots going) g (q ∙ lt-ltb place ipsec_places (omega arith))
+        goes n rs (showing ShowIpsec slots going) g (q ∙ lt-ltb place ipsec_places (omega arith))
         ∙ rw (one, up, ih, e)
 
     pub ike_shown : (m n : ℕ) (slots : List ℕ) (place : ℕ) → get_or slots 0 0 ≡ place → 0 < length slots
         → place + suc m ≡ ike_places → suc m + ipsec_places ≤ n
-        → run n rs (showing show_ike slots true) g
+        → run n rs (showing ShowIke slots true) g
         ≡ ran (each_of of_ike (drop place g.ike) ++ each_of of_ipsec g.ipsec) g
     ike_shown m zero slots place e l p h = absurd (omega arith)
     ike_shown zero (suc n) slots place e l p h =
@@ -77,7 +79,7 @@ module _ (rs : List Read) (held behind : List ℕ) (len at next : ℕ) (ended : 
         let ih =
         ipsec_shown ipsec_places n moved 0 (ltb (get_or moved 0 0) ipsec_places) there long refl (omega arith)
         (ap (λ (x : ℕ). ltb x ipsec_places) there) in
-        goes n rs (showing show_ike slots true) g refl
+        goes n rs (showing ShowIke slots true) g refl
         ∙ rw (one, none, up, last, ih, e, append-nil)
     ike_shown (suc m) (suc n) slots place e l p h =
         let one = drop-cons g.ike place no_ike (omega (arith, sized.ikes)) in
@@ -87,4 +89,4 @@ module _ (rs : List Read) (held behind : List ℕ) (len at next : ℕ) (ended : 
         let long : 0 < length moved = rw length-set l in
         let ih = ike_shown m n moved (suc place) there long (omega arith) (omega arith) in
         let inside : eqb (suc place) ike_places ≡ false = ne_eqb (suc place) ike_places (λ q. omega arith) in
-        goes n rs (showing show_ike slots true) g refl ∙ rw (one, up, inside, ih, e, append_assoc)
+        goes n rs (showing ShowIke slots true) g refl ∙ rw (one, up, inside, ih, e, append_assoc)

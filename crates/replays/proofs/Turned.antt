@@ -12,7 +12,7 @@ use Rattle.replays.specs.Runs.{Read, next_read, reads_after, Window, window, adv
 abbrev pub acted : ℕ → List Read → Window → Gateway → Ran
 acted n rs v g =
     let s = v.state in
-    let p = performed s.entry.kind (v.held ++ v.behind) s.entry.slots response_room g in
+    let p = performed s.entry.asked (v.held ++ v.behind) s.entry.slots response_room g in
     behind_line (printed s p.outcome) (run n rs (window v.held v.behind (after s)) p.after)
 
 pub goes : (n : ℕ) (rs : List Read) (w : Window) (g : Gateway) → w.state.going ≡ true

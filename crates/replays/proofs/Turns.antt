@@ -12,7 +12,6 @@ use Rattle.leb128.specs.RoundTrips.{Octets}
 use Rattle.leb128.proofs.Stable.{first_octets}
 use Rattle.fields.specs.Reading.{Reading, read, refused, slots_of}
 use Rattle.fields.specs.declared.refusal.Refusal.{Refusal}
-use Rattle.entries.specs.Kinds.{kind_number}
 use Rattle.entries.specs.Entries.{Entry, entry_at, entry_step}
 use Rattle.entries.specs.declared.kind.Kind.{Kind}
 use Rattle.traces.specs.Traces.{finished, stopped, Trace, trace, led, trace_from}
@@ -23,9 +22,10 @@ use Rattle.entry_laws.proofs.RoundTrips.{ok_parts}
 use Rattle.windows.specs.declared.Next.{Next}
 use Rattle.windows.specs.declared.Next.TheVariants as next
 use Rattle.windows.proofs.Windows.{windows}
+use Rattle.given.specs.declared.reading.Asked.TheVariants as asked
 use Rattle.given.specs.declared.reading.Slots.{Slots}
 use Rattle.acts.specs.Performed.{Gateway, Performed}
-use Rattle.replaying.specs.Turns.{state, turning, looked_by, no_slots, slots_for, show_ike, line_of, after}
+use Rattle.replaying.specs.Turns.{state, turning, looked_by, no_slots, slots_for, line_of, after}
 use Rattle.replaying.specs.declared.state.State.{State}
 use Rattle.replaying.specs.declared.state.Turn.{Turn}
 use Rattle.replaying.specs.declared.state.Turn.TheVariants.{More, Call}
@@ -144,7 +144,7 @@ module _ (performing : Performing) (t : List ℕ) (o : Octets t) (small : length
     at_more ih e =
         let open-ended : ended ≡ false = (tells.more e).0 in
         let spare : shows ended ≡ 161 = ap shows open-ended in
-        ih open-ended rs held behind len at nx offset ordinal (slots_for show_ike no_slots) g st sized
+        ih open-ended rs held behind len at nx offset ordinal (slots_for asked.ShowIke no_slots) g st sized
         (omega arith)
 
     -- the window behind an entry stands in the trace behind it
@@ -169,10 +169,10 @@ module _ (performing : Performing) (t : List ℕ) (o : Octets t) (small : length
     entry_made : Runs t n Call ended (shows ended) → (x y : Entry) (sl sm : List ℕ) (m past : ℕ) → at < m
         → m ≤ length held → entry_at held at ≡ read x sl m → entry_at t offset ≡ read y sm past
         → x ≡ y → AsFar at offset m past
-        → acted n rs (window held behind (turning s Call m (slots_for (kind_number x.kind) (placed no_slots 0 sl)))) g
+        → acted n rs (window held behind (turning s Call m (slots_for (asked.Entry x.kind) (placed no_slots 0 sl)))) g
         ≡ replayed_from (trace_from t offset) ordinal g
     entry_made ih x y sl sm m past l h p q same far =
-        let e : Slots = slots_for (kind_number x.kind) (placed no_slots 0 sl) in
+        let e : Slots = slots_for (asked.Entry x.kind) (placed no_slots 0 sl) in
         let w : Window = window held behind (after (turning s Call m e)) in
         let made = performing held behind at x sl m g (first_octets held (all_read rs) st.octets) p in
         let far-by = far.here in

@@ -37,6 +37,6 @@ run (suc n) rs w g =
     let turn = w.state.turn in
     let v = advanced_by turn (next_read rs) w in
     let s = v.state in
-    let p = performed s.entry.kind (v.held ++ v.behind) s.entry.slots response_room g in
+    let p = performed s.entry.asked (v.held ++ v.behind) s.entry.slots response_room g in
     let rest = run n (reads_after turn rs) (window v.held v.behind (after s)) p.after in
     cond w.state.going (behind_line (printed s p.outcome) rest) (ran [] g)

@@ -10,8 +10,8 @@ use Rattle.octets.specs.Limits.{ike_places, ipsec_places, response_room}
 use Rattle.writing.specs.Notify.{placed}
 use Rattle.leb128.specs.RoundTrips.{Octets}
 use Rattle.fields.specs.Reading.{read}
-use Rattle.entries.specs.Kinds.{kind_number}
 use Rattle.entries.specs.Entries.{Entry, entry_at}
+use Rattle.given.specs.declared.reading.Asked.TheVariants as asked
 use Rattle.acts.specs.Performed.{Gateway, performed}
 use Rattle.replaying.specs.Turns.{start, no_slots}
 use Rattle.replays.specs.Calls.{called, empty}
@@ -22,7 +22,7 @@ abbrev pub Performing : Type 0
 Performing =
     (w behind : List ℕ) (at : ℕ) (e : Entry) (slots : List ℕ) (next : ℕ) (g : Gateway) → Octets w
     → entry_at w at ≡ read e slots next
-    → performed (kind_number e.kind) (w ++ behind) (placed no_slots 0 slots) response_room g ≡ called e g
+    → performed (asked.Entry e.kind) (w ++ behind) (placed no_slots 0 slots) response_room g ≡ called e g
 
 abbrev pub all_read : List Read → List ℕ
 all_read [] = []

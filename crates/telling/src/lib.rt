@@ -7,7 +7,7 @@ ghost use Rattle.printing.specs.Lines.{line_room};
 ghost use Rattle.replaying.specs.Turns.{printed, pair_at};
 
 use given::outcome::Outcome;
-use given::reading::SHOW_IPSEC;
+use given::reading::Asked;
 use printing::lines::{put_entry_line, put_pair_line, put_refusal_line};
 use replaying::state::{State, Turn};
 
@@ -22,8 +22,7 @@ fn put_pair(line: &mut [u8], ipsec: bool, o: Outcome) -> usize
     if o.spi == 0 {
         return 0;
     }
-    let pair = o.pair;
-    put_pair_line(line, ipsec, o.spi, pair)
+    put_pair_line(line, ipsec, o.spi, o.pair)
 }
 
 // Puts what a turn prints at the front of a line, and returns how long that is.
@@ -34,14 +33,10 @@ pub fn put_line(line: &mut [u8], s: State, o: Outcome) -> usize
     ensures size { result ≡ length (printed s o) }
     ensures octets { line.new ≡ placed line.old 0 (printed s o) }
 {
-    let turn = s.turn;
-    match turn {
+    match s.turn {
         Turn::More => 0,
         Turn::Call => put_entry_line(line, s.ordinal, o.number, o.update, o.list),
         Turn::Refuse(number) => put_refusal_line(line, number, s.offset),
-        Turn::Show => {
-            let e = s.entry;
-            put_pair(line, e.kind == SHOW_IPSEC, o)
-        }
+        Turn::Show => put_pair(line, matches!(s.entry.asked, Asked::ShowIpsec), o),
     }
 }

@@ -5,24 +5,20 @@ ghost use Rattle.std.specs.Prelude.{◌≡◌, ◌≤◌};
 ghost use Rattle.replaying.specs.Turns.{place_after, to_show, after, after_call, after_show};
 ghost use Rattle.replaying.specs.Standing.{Standing};
 
-use given::reading::{SHOW_IKE, SHOW_IPSEC, Slots};
+use given::reading::{Asked, Slots};
 use octets::limits::{IKE_PLACES, IPSEC_PLACES};
 use replaying::state::{State, Turn};
-use std::num::wrapping_add_u64;
 
 // The place that is shown after this one; behind the last IKE record come the IPsec records.
 fn place_after(e: Slots) -> Slots
     ensures { result ≡ place_after e }
 {
-    let place = wrapping_add_u64(e.slots[0], 1);
+    let place = e.slots[0].wrapping_add(1);
     let mut n = e;
     n.slots[0] = place;
-    if e.kind == SHOW_IKE {
-        if place as usize == IKE_PLACES {
-            n.kind = SHOW_IPSEC;
-            n.slots[0] = 0;
-            return n;
-        }
+    if matches!(e.asked, Asked::ShowIke) && place as usize == IKE_PLACES {
+        n.asked = Asked::ShowIpsec;
+        n.slots[0] = 0;
     }
     n
 }
@@ -31,10 +27,10 @@ fn place_after(e: Slots) -> Slots
 fn to_show(e: Slots, going: bool) -> bool
     ensures { result ≡ to_show e going }
 {
-    if e.kind == SHOW_IPSEC {
-        return (e.slots[0] as usize) < IPSEC_PLACES;
+    match e.asked {
+        Asked::ShowIpsec => (e.slots[0] as usize) < IPSEC_PLACES,
+        _ => going,
     }
-    going
 }
 
 // The state after a call.
@@ -42,23 +38,24 @@ fn after_call(s: State) -> State
     requires { s.at ≤ s.next }
     ensures { result ≡ after_call s }
 {
-    let mut n = s;
-    n.ordinal = wrapping_add_u64(s.ordinal, 1);
-    n.offset = wrapping_add_u64(s.offset, (s.next - s.at) as u64);
-    n.at = s.next;
-    n
+    State {
+        ordinal: s.ordinal.wrapping_add(1),
+        offset: s.offset.wrapping_add((s.next - s.at) as u64),
+        at: s.next,
+        ..s
+    }
 }
 
 // The state after a record was shown.
 fn after_show(s: State) -> State
     ensures { result ≡ after_show s }
 {
-    let e = s.entry;
-    let following = place_after(e);
-    let mut n = s;
-    n.entry = following;
-    n.going = to_show(following, s.going);
-    n
+    let entry = place_after(s.entry);
+    State {
+        entry,
+        going: to_show(entry, s.going),
+        ..s
+    }
 }
 
 // The state after a turn.
@@ -68,15 +65,10 @@ pub fn turn_after(s: State) -> State
     ensures stands { Standing result }
     ensures size { result.len ≡ s.len }
 {
-    let turn = s.turn;
-    match turn {
+    match s.turn {
         Turn::More => s,
         Turn::Call => after_call(s),
-        Turn::Refuse(_) => {
-            let mut n = s;
-            n.going = false;
-            n
-        }
+        Turn::Refuse(_) => State { going: false, ..s },
         Turn::Show => after_show(s),
     }
 }

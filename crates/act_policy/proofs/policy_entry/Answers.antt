@@ -14,7 +14,7 @@ returns c =
     let rules = rules_in c.args.window.now c.args.e.slots in
     let operator = policy_operator c.args.e.slots in
     let same : c.set_policy-a.result ≡ policy_setting count rules operator =
-    cc (c.set_policy-a.ensures, c.count_in-count.ensures, c.rules_in-rules.ensures, c.policy_operator-operator.ensures) in
+    cc (c.set_policy-a.ensures, c.rule_count.ensures, c.rules.ensures, c.policy_operator.ensures) in
     let call = sets policies c.told-policies count rules operator in
     record {
       outcome = c.numbered.ensures ∙ ap (λ (a : PolicyChange). numbered_by a.number) same ∙ ap numbered_by call.0;
