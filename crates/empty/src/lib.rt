@@ -11,8 +11,8 @@ use octets::limits::{
     ADDRESS_OCTETS, IKE_PLACES, IPSEC_PLACES, OPERATORS, RESPONSE_ROOM, RULES_MOST,
 };
 use policy::rules::{Policy, Rule};
-use records::ike::{IkeRecord, no_ike};
-use records::ipsec::{IpsecRecord, no_ipsec};
+use records::ike::IkeRecord;
+use records::ipsec::IpsecRecord;
 
 // The octets of the window: as many as decide any entry fit.
 pub const WINDOW: usize = 20480;
@@ -20,15 +20,13 @@ pub const WINDOW: usize = 20480;
 pub fn no_ikes() -> [IkeRecord; IKE_PLACES]
     ensures { result ≡ replicate ike_places no_ike }
 {
-    let k = no_ike();
-    [k; IKE_PLACES]
+    [IkeRecord::none(); IKE_PLACES]
 }
 
 pub fn no_ipsecs() -> [IpsecRecord; IPSEC_PLACES]
     ensures { result ≡ replicate ipsec_places no_ipsec }
 {
-    let k = no_ipsec();
-    [k; IPSEC_PLACES]
+    [IpsecRecord::none(); IPSEC_PLACES]
 }
 
 fn no_policy() -> Policy
@@ -48,8 +46,7 @@ fn no_policy() -> Policy
 pub fn no_policies() -> [Policy; OPERATORS]
     ensures { result ≡ replicate operators no_policy }
 {
-    let k = no_policy();
-    [k; OPERATORS]
+    [no_policy(); OPERATORS]
 }
 
 pub fn no_window() -> [u8; WINDOW]

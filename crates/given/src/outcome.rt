@@ -36,6 +36,7 @@ impl Outcome {
     pub fn numbered(number: u8) -> Outcome
         ensures { result ≡ numbered_by number }
     {
+        // (`Pair::default()` says this of each octet alone, and the proof that it is `no_pair` would be longer.)
         let pair = Pair {
             family: 0,
             source: [0u8; ADDRESS_OCTETS],
