@@ -5,9 +5,10 @@ ghost use Rattle.acts.specs.Performed.{Performs, policy_set_by};
 
 use given::outcome::Outcome;
 use given::reading::Slots;
-use lent_policy::rules::policy_store;
+use lent_policy::rules::set_policy;
 use octets::limits::{IKE_PLACES, OPERATORS};
-use policy::rules::{Policy, set_policy};
+use octets::number::told;
+use policy::rules::Policy;
 use records::ike::IkeRecord;
 use records::ipsec::IpsecRecord;
 
@@ -23,7 +24,7 @@ pub fn policy_entry(
         Performs act ike.old ipsec.old policies.old
         result ike.new ipsec.new policies.new }
 {
-    let a = set_policy(e.rule_count(), e.rules(window), e.policy_operator());
-    policy_store(policies, a.place, a.policy);
-    Outcome::numbered(a.number)
+    let rules = e.rules(window);
+    let set = set_policy(policies, e.rule_count(), &rules, e.policy_operator());
+    Outcome::numbered(told(set))
 }

@@ -53,7 +53,8 @@ pub fn advance<R: Read>(input: &mut R, window: &mut [u8], s: State) -> io::Resul
             Ok(look(&window[..n.len], n))
         }
         Turn::Call => Ok(look(&window[..s.len], s)),
-        Turn::Refuse(_) | Turn::Show => Ok(s),
+        Turn::Refuse(_) => Ok(s),
+        Turn::Show => Ok(s),
     }
 }
 

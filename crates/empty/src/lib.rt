@@ -7,10 +7,8 @@ ghost use Rattle.policy.specs.Policy.{no_policy};
 ghost use Rattle.records.specs.Records.{no_ike, no_ipsec};
 ghost use Rattle.entry_laws.specs.Sight.{entry_sight};
 
-use octets::limits::{
-    ADDRESS_OCTETS, IKE_PLACES, IPSEC_PLACES, OPERATORS, RESPONSE_ROOM, RULES_MOST,
-};
-use policy::rules::{Policy, Rule};
+use octets::limits::{IKE_PLACES, IPSEC_PLACES, OPERATORS, RESPONSE_ROOM};
+use policy::rules::Policy;
 use records::ike::IkeRecord;
 use records::ipsec::IpsecRecord;
 
@@ -29,24 +27,10 @@ pub fn no_ipsecs() -> [IpsecRecord; IPSEC_PLACES]
     [IpsecRecord::none(); IPSEC_PLACES]
 }
 
-fn no_policy() -> Policy
-    ensures { result ≡ no_policy }
-{
-    let none = Rule {
-        family: 0,
-        source: [0u8; ADDRESS_OCTETS],
-        destination: [0u8; ADDRESS_OCTETS],
-        source_len: 0,
-        destination_len: 0,
-    };
-    let rules = [none; RULES_MOST];
-    Policy { count: 0, rules }
-}
-
 pub fn no_policies() -> [Policy; OPERATORS]
     ensures { result ≡ replicate operators no_policy }
 {
-    [no_policy(); OPERATORS]
+    [Policy::none(); OPERATORS]
 }
 
 pub fn no_window() -> [u8; WINDOW]

@@ -4,7 +4,7 @@ ghost use Rattle.given.specs.Given.{count_in, policy_operator, rule_in, rules_in
 ghost use Rattle.entries.specs.Slots.{entry_slots};
 
 use crate::reading::{Slots, address_at};
-use octets::limits::{ADDRESS_OCTETS, RULES_MOST};
+use octets::limits::RULES_MOST;
 use policy::rules::Rule;
 
 impl Slots {
@@ -40,14 +40,7 @@ impl Slots {
     pub fn rules(&self, s: &[u8]) -> [Rule; RULES_MOST]
         ensures { result ≡ rules_in s.now self.now.slots }
     {
-        let none = Rule {
-            family: 0,
-            source: [0u8; ADDRESS_OCTETS],
-            destination: [0u8; ADDRESS_OCTETS],
-            source_len: 0,
-            destination_len: 0,
-        };
-        let mut rules = [none; RULES_MOST];
+        let mut rules = [Rule::none(); RULES_MOST];
         for (i, rule) in rules.iter_mut().enumerate() {
             if (i as u64) < self.slots[0] {
                 *rule = self.rule(s, 1 + 5 * i);

@@ -7,7 +7,7 @@ pub returns-clause-reads : goal.returns-clause-reads
 returns-clause-reads g c =
     let a = c.args in
     let e = c.keep-kept.ensures in
-    rw c.refill.ensures
+    rw c.refilled.ensures
     (reads_behind a.window.now c.keep-kept.new.window c.read.new.buf _ a.s c.keep-kept.result c.in_ok-n.n
     c.requires.standing.at_len c.requires.len_in_bounds e.value e.window_after c.keep-kept.auto.window
     (omega (arith, c.in_ok-n.ensures.bound)))
