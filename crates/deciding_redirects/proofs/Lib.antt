@@ -1,3 +1,4 @@
 -- Laws that belong to no one function.
 pub mod Joined
-pub mod Nonce
+pub mod Init
+pub mod Told

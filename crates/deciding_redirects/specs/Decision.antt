@@ -5,14 +5,17 @@
 --   decision_checks   all checks, in their order; `heard` are the times of accepted ones
 --   decision_number   the number told: 0 accepted, else that of the first check that fails
 --   after_number      the record after a decision with a number; `after_decision` after a decision
---   told_of           what is told of it
+--   told_of           what is told of it; `decision_told`: by the gateway that it gives
 --   DecidedAs        what the exported call promises
-use Rattle.std.specs.Prelude.{ℕ, ◌≡◌, List, [], ◌∷◌, ◌++◌, cond, ◌&&◌, ◌||◌, not, eqb, length}
+use Rattle.std.specs.Prelude.{ℕ, ◌≡◌, List, [], ◌∷◌, ◌++◌, cond, ◌&&◌, ◌||◌, not, eqb, length, Result, Ok, Err}
 use Rattle.std.specs.Borrow.{Bor}
+use Rattle.octets.specs.declared.number.Number.{Number}
 use Rattle.octets.specs.declared.number.Number.TheVariants.{BadRedirect, WrongExchange, WrongNonce}
+use Rattle.octets.specs.Numbers.{number_of}
 use Rattle.octets.specs.Checks.{Check, ◌gives◌, first_failed}
 use Rattle.initiator.specs.Response.{same}
 use Rattle.redirect.specs.Identity.{nonce_fits}
+use Rattle.redirect.specs.declared.gateway.Gateway.{Gateway}
 use Rattle.redirect.specs.Read.{nonce_in, redirect_malformed, type_told, IdentityOf}
 use Rattle.redirecting.specs.Exchange.{exchange_of, is_init, allows}
 use Rattle.redirecting.specs.Times.{kept, time_checks, keeping}
@@ -61,6 +64,11 @@ told_of number octets =
       identity_type = type_told number octets;
       nonce_len = cond (eqb number 0) (length (nonce_in octets)) 0;
     }
+
+-- the same of a gateway in the data, or a refusal
+abbrev pub decision_told : Result Gateway Number → RedirectDecision
+decision_told (Ok g) = record { number = 0; identity_type = g.identity_type; nonce_len = length g.nonce.now }
+decision_told (Err n) = record { number = number_of n; identity_type = 0; nonce_len = 0 }
 
 -- What is promised where `r` was lent and `after` is left in it. The identity is handed out as a part of the data.
 pub record DecidedAs (r : Accepted) (exchange : ℕ) (sent : List ℕ) (time : ℕ) (octets : Bor (List ℕ))

@@ -2,18 +2,19 @@
 // those accepted before.
 #![tactic(auto)]
 
-ghost use Rattle.std.specs.Prelude.{◌≡◌};
+ghost use Rattle.std.specs.Prelude.{◌≡◌, ◌≢◌, IfErr, IfOk};
+ghost use Rattle.octets.specs.Numbers.{number_of, told};
 ghost use Rattle.octets.specs.Checks.{first_failed};
-ghost use Rattle.initiator.specs.Response.{same};
+ghost use Rattle.redirect.specs.Gateway.{GatewayIn};
 ghost use Rattle.redirecting.specs.Times.{kept};
-ghost use Rattle.deciding_redirects.specs.Decision.{asked, data_checks, decision_number, after_number, told_of};
+ghost use Rattle.deciding_redirects.specs.Decision.{asked, data_checks, decision_number, after_decision, decision_told};
 
-use initiator::response::same_octets;
 use octets::number::Number;
-use reading_redirects::{nonce_of, redirect_malformed, type_told};
+use reading_redirects::read_gateway;
+use redirect::gateway::{Gateway, Notification};
 use redirect::identity::nonce_fits;
-use redirecting::exchange::{Exchange, allows, exchange_of, is_init};
-use redirecting::times::{Accepted, keep_time, time_number};
+use redirecting::exchange::Exchange;
+use redirecting::times::Accepted;
 
 // What is told of a REDIRECT; with a refusal all but the number is 0.
 #[repr(C)]
@@ -24,76 +25,63 @@ pub struct RedirectDecision {
     pub nonce_len: usize,
 }
 
-// Whether two nonces are the same, octet by octet and in length.
-fn is_same(a: &[u8], b: &[u8]) -> bool
-    ensures { result ≡ same a.now b.now }
-{
-    if a.len() == b.len() {
-        same_octets(a, b)
-    } else {
-        false
-    }
-}
+impl From<Result<Gateway<'_>, Number>> for RedirectDecision {
+    ghost from_gives = { λ decided told. told ≡ decision_told decided };
 
-// What the data, the exchange and the nonce sent refuse with; 0 where they do not.
-fn data_number(exchange: Exchange, sent: &[u8], data: &[u8]) -> u8
-    ensures { result ≡ first_failed (data_checks exchange sent.now «data».now) }
-{
-    if redirect_malformed(data) {
-        return u8::from(Number::BadRedirect);
-    }
-    let nonce = nonce_of(data, 0);
-    if is_init(exchange) {
-        if nonce_fits(sent.len()) {
-            if is_same(nonce, sent) {
-                return 0;
-            }
-            return u8::from(Number::WrongNonce);
+    fn from(decided: Result<Gateway<'_>, Number>) -> RedirectDecision {
+        match decided {
+            Ok(gateway) => RedirectDecision {
+                number: u8::from(Number::Done),
+                identity_type: gateway.identity_type,
+                nonce_len: gateway.nonce.len(),
+            },
+            Err(number) => RedirectDecision {
+                number: u8::from(number),
+                identity_type: 0,
+                nonce_len: 0,
+            },
         }
-        return u8::from(Number::BadRedirect);
     }
-    if nonce.len() != 0 {
-        return u8::from(Number::WrongExchange);
-    }
-    if allows(exchange) {
-        return 0;
-    }
-    u8::from(Number::WrongExchange)
 }
 
-// The number of the decision; 0 where the REDIRECT is accepted. `sent` is the nonce sent, at which only IKE_SA_INIT
-// looks.
-#[tactic(auto, unfolding(crate::specs::Decision::decision_number))]
-pub fn decision_number(record: Accepted, exchange: u8, sent: &[u8], time: u64, data: &[u8]) -> u8
-    ensures { let a = asked exchange sent.now time «data».now in
-        result ≡ decision_number (kept «record») a }
+// The gateway that a client is moved to, unless the data, the exchange or the nonce refuse. At the nonce sent only
+// IKE_SA_INIT looks, where it must come back; elsewhere there is none.
+#[tactic(auto, using(initiator::proofs::Same::same_is, crate::proofs::Init::init_allows))]
+fn gateway_in<'a>(exchange: Exchange, sent: &[u8], data: &'a [u8]) -> Result<Gateway<'a>, Number>
+    ensures told { told result ≡ first_failed (data_checks exchange sent.now «data».now) }
+    ensures gateway { IfOk result (λ g. GatewayIn «data».entry g) }
+    ensures refusal { IfErr result (λ n. number_of n ≢ 0) }
 {
-    let number = data_number(exchange_of(exchange), sent, data);
-    if number != 0 {
-        return number;
+    let gateway = read_gateway(Notification::Redirect, data)?;
+    if exchange.is_init() {
+        if !nonce_fits(sent.len()) {
+            return Err(Number::BadRedirect);
+        }
+        if gateway.nonce != sent {
+            return Err(Number::WrongNonce);
+        }
+    } else if !exchange.allows() || !gateway.nonce.is_empty() {
+        return Err(Number::WrongExchange);
     }
-    time_number(record, time)
+    Ok(gateway)
 }
 
-// The record after a decision with this number.
-#[tactic(auto, unfolding(crate::specs::Decision::after_number))]
-pub fn after_number(record: Accepted, time: u64, number: u8) -> Accepted
-    ensures { result ≡ after_number «record» time number }
+// Decides on a REDIRECT; where it is accepted the record keeps its time.
+#[tactic(auto, using(crate::proofs::Joined::two_parts), unfolding(crate::specs::Decision::after_number))]
+pub fn decide<'a>(
+    accepted: &mut Accepted,
+    exchange: u8,
+    sent: &[u8],
+    time: u64,
+    data: &'a [u8],
+) -> Result<Gateway<'a>, Number>
+    ensures told { told result ≡ decision_number (kept accepted.old) (asked exchange sent.now time «data».now) }
+    ensures after { accepted.new ≡ after_decision accepted.old (asked exchange sent.now time «data».now) }
+    ensures gateway { IfOk result (λ g. GatewayIn «data».entry g) }
+    ensures refusal { IfErr result (λ n. number_of n ≢ 0) }
 {
-    if number != 0 {
-        return record;
-    }
-    keep_time(record, time)
-}
-
-// What is told of a decision with this number.
-pub fn told_of(data: &[u8], number: u8) -> RedirectDecision
-    ensures { result ≡ told_of number «data».now }
-{
-    let nonce = nonce_of(data, number);
-    RedirectDecision {
-        number,
-        identity_type: type_told(data, number),
-        nonce_len: nonce.len(),
-    }
+    let gateway = gateway_in(Exchange::from(exchange), sent, data)?;
+    accepted.check(time)?;
+    *accepted = accepted.with(time);
+    Ok(gateway)
 }

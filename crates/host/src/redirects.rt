@@ -7,15 +7,18 @@ ghost use Rattle.redirect.specs.Write.{gateway_octets, unfit, DataWrittenAs};
 ghost use Rattle.redirecting.specs.Times.{accepted};
 ghost use Rattle.deciding_redirects.specs.Decision.{DecidedAs};
 
-use deciding_redirects::{RedirectDecision, after_number, decision_number, told_of};
-use reading_redirects::{identity_of, nonce_of};
-use redirect::told::{DataWritten, GatewayRead};
+use deciding_redirects::{RedirectDecision, decide};
+use octets::number::told;
+use reading_redirects::{handed_out, read_gateway};
+use redirect::gateway::{DataWritten, Gateway, GatewayRead, Notification};
 use redirecting::limits::REDIRECTS_MOST;
 use redirecting::times::Accepted;
+use writing_redirects::write_gateway;
 
 // Reads the data of a REDIRECT (16407), at the client: in an IKE_SA_INIT response, with the nonce that the client
 // sent; in the first or the last IKE_AUTH response, or in an INFORMATIONAL request of the gateway, without one. The
 // new gateway's identity and the nonce are handed out as parts of the data; empty if there is none.
+#[tactic(auto, using(reading_redirects::proofs::Told::redirect_told))]
 pub fn unmavreth_read_redirect<'s, 'a>(
     identity: &'s mut &'a [u8],
     nonce: &'s mut &'a [u8],
@@ -23,30 +26,32 @@ pub fn unmavreth_read_redirect<'s, 'a>(
 ) -> GatewayRead
     ensures { RedirectReadAs «data».entry result identity.new nonce.new }
 {
-    let told = reading_redirects::read_redirect(data);
-    *identity = identity_of(data, told.number);
-    *nonce = nonce_of(data, told.number);
-    told
+    let read = read_gateway(Notification::Redirect, data);
+    let gateway = handed_out(read, data);
+    *identity = gateway.identity;
+    *nonce = gateway.nonce;
+    GatewayRead::from(read)
 }
 
 // Reads the data of a REDIRECTED_FROM (16408), at the gateway that a client was moved to: in an IKE_SA_INIT request.
 // The identity of the gateway that it comes from is handed out as a part of the data; empty if there is none.
+#[tactic(auto, using(reading_redirects::proofs::Told::from_told))]
 pub fn unmavreth_read_redirected_from<'s, 'a>(
     identity: &'s mut &'a [u8],
     data: &'a [u8],
 ) -> GatewayRead
     ensures { FromReadAs «data».entry result identity.new }
 {
-    let told = reading_redirects::read_redirected_from(data);
-    *identity = identity_of(data, told.number);
-    told
+    let read = read_gateway(Notification::RedirectedFrom, data);
+    *identity = handed_out(read, data).identity;
+    GatewayRead::from(read)
 }
 
 // Reads the data of a REDIRECT_SUPPORTED (16406), at the gateway: in a client's IKE_SA_INIT request. It has none.
 pub fn unmavreth_read_redirect_supported(data: &[u8]) -> u8
     ensures { result ≡ first_failed (supported_checks «data».now) }
 {
-    reading_redirects::read_redirect_supported(data)
+    told(reading_redirects::read_redirect_supported(data))
 }
 
 // Writes the data of a REDIRECT, at the gateway: for an IKE_SA_INIT response with the nonce of the client's request;
@@ -62,7 +67,12 @@ pub fn unmavreth_write_redirect(
         let octets = gateway_octets identity_type identity.now nonce.now in
         DataWrittenAs malformed octets out.old result out.new }
 {
-    writing_redirects::write_redirect(identity_type, identity, nonce, out)
+    let gateway = Gateway {
+        identity_type,
+        identity,
+        nonce,
+    };
+    DataWritten::from(write_gateway(Notification::Redirect, gateway, out))
 }
 
 // Writes the data of a REDIRECTED_FROM, at the client: for the IKE_SA_INIT request to the gateway that it was moved
@@ -76,7 +86,12 @@ pub fn unmavreth_write_redirected_from(
         let octets = gateway_octets identity_type identity.now [] in
         DataWrittenAs malformed octets out.old result out.new }
 {
-    writing_redirects::write_redirected_from(identity_type, identity, out)
+    let gateway = Gateway {
+        identity_type,
+        identity,
+        nonce: &[],
+    };
+    DataWritten::from(write_gateway(Notification::RedirectedFrom, gateway, out))
 }
 
 // Writes the data of a REDIRECT_SUPPORTED, at the client: for its first IKE_SA_INIT request. There is none, but the
@@ -84,7 +99,7 @@ pub fn unmavreth_write_redirected_from(
 pub fn unmavreth_write_redirect_supported(out: &mut [u8]) -> DataWritten
     ensures { DataWrittenAs false [] out.old result out.new }
 {
-    writing_redirects::write_redirect_supported(out)
+    DataWritten::from(writing_redirects::write_redirect_supported(out))
 }
 
 // Decides on a REDIRECT, at the client, by its data and the exchange that it came in: 0 IKE_SA_INIT, 1 the first
@@ -92,6 +107,7 @@ pub fn unmavreth_write_redirect_supported(out: &mut [u8]) -> DataWritten
 // request, at which only that exchange looks; `time` is in seconds. `count` and `times` are the client's record of
 // accepted times, oldest first, which a refusal leaves as it was; a fresh one is all zeros. The new gateway's identity
 // is handed out as a part of the data; empty with a refusal.
+#[tactic(auto, using(deciding_redirects::proofs::Told::decided))]
 pub fn unmavreth_decide_redirect<'s, 'a>(
     count: &mut u8,
     times: &mut [u64; REDIRECTS_MOST],
@@ -105,16 +121,13 @@ pub fn unmavreth_decide_redirect<'s, 'a>(
         let after = accepted count.new times.new in
         DecidedAs old exchange sent.now time «data».entry result after identity.new }
 {
-    let kept = *times;
-    let old = Accepted {
+    let mut accepted = Accepted {
         count: *count,
-        times: kept,
+        times: *times,
     };
-    let number = decision_number(old, exchange, sent, time, data);
-    let after = after_number(old, time, number);
-    let list = after.times;
-    *count = after.count;
-    *times = list;
-    *identity = identity_of(data, number);
-    told_of(data, number)
+    let decided = decide(&mut accepted, exchange, sent, time, data);
+    *count = accepted.count;
+    *times = accepted.times;
+    *identity = handed_out(decided, data).identity;
+    RedirectDecision::from(decided)
 }

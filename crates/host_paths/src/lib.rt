@@ -5,16 +5,18 @@
 ghost use Rattle.std.specs.Prelude.{◌≡◌, List, ℕ, Float};
 ghost use Rattle.paths.specs.Calls.{answer};
 ghost use Rattle.paths.specs.Choice.{choice};
+ghost use Rattle.paths.specs.Best.{choice_told};
 ghost use Rattle.paths.specs.Columns.{columns, paths_of, started_columns, sampled_columns, lost_columns};
 
 use octets::number::Number;
-use paths::choice::{PathChoice, is_better, told_of};
-use paths::columns::{ROUND_TRIP, kind_of, milliseconds_of, path_of};
+use paths::choice::{PathChoice, is_quicker};
+use paths::columns::ROUND_TRIP;
 use paths::limits::PATHS_MOST;
-use paths::path::{lost_path, sampled_path};
-use paths::refusal::{event_number, start_number};
+use paths::path::Path;
+use paths::refusal::{check_count, check_event};
 
 // Starts with so many paths and forgets what was kept before; a number over 8 is refused.
+#[tactic(auto, using(paths::proofs::Laws::refused), unfolding(paths::specs::Columns::started_columns))]
 pub fn unmavreth_start_paths(
     count: &mut u32,
     event: &mut [u8; PATHS_MOST],
@@ -30,9 +32,8 @@ pub fn unmavreth_start_paths(
         smoothed.new spread.new in
         answer result after ≡ started_columns number_of_paths before }
 {
-    let number = start_number(number_of_paths);
-    if number != 0 {
-        return number;
+    if let Err(number) = check_count(number_of_paths) {
+        return u8::from(number);
     }
     *count = number_of_paths;
     *event = [0; PATHS_MOST];
@@ -44,6 +45,7 @@ pub fn unmavreth_start_paths(
 }
 
 // Takes a round trip of so many milliseconds on a path.
+#[tactic(auto, using(paths::proofs::Laws::refused), unfolding(paths::specs::Columns::sampled_columns))]
 pub fn unmavreth_take_sample(
     count: u32,
     event: &mut [u8; PATHS_MOST],
@@ -60,23 +62,21 @@ pub fn unmavreth_take_sample(
         smoothed.new spread.new in
         answer result after ≡ sampled_columns before ordinal round_trip }
 {
-    let number = event_number(count, ordinal, round_trip);
-    if number != 0 {
-        return number;
+    if let Err(number) = check_event(count, ordinal, round_trip) {
+        return u8::from(number);
     }
     let k = ordinal as usize;
-    let old = path_of(
+    let old = Path::lent(
         event[k],
         sampled[k],
         milliseconds[k],
         smoothed[k],
         spread[k],
     );
-    let new = sampled_path(old, round_trip);
-    let heard = new.last;
-    event[k] = kind_of(heard);
+    let new = old.after_sample(round_trip);
+    event[k] = new.last.kind();
     sampled[k] = 1;
-    milliseconds[k] = milliseconds_of(heard);
+    milliseconds[k] = new.last.milliseconds();
     smoothed[k] = new.smoothed;
     spread[k] = new.spread;
     0
@@ -84,6 +84,7 @@ pub fn unmavreth_take_sample(
 
 // Takes a loss on a path, noticed after so many milliseconds: neither whether a round trip was ever taken nor the two
 // numbers change.
+#[tactic(auto, using(paths::proofs::Laws::refused), unfolding(paths::specs::Columns::lost_columns))]
 pub fn unmavreth_take_loss(
     count: u32,
     event: &mut [u8; PATHS_MOST],
@@ -100,23 +101,42 @@ pub fn unmavreth_take_loss(
         smoothed.new spread.new in
         answer result after ≡ lost_columns before ordinal waited }
 {
-    let number = event_number(count, ordinal, waited);
-    if number != 0 {
-        return number;
+    if let Err(number) = check_event(count, ordinal, waited) {
+        return u8::from(number);
     }
     let k = ordinal as usize;
-    let old = path_of(
+    let old = Path::lent(
         event[k],
         sampled[k],
         milliseconds[k],
         smoothed[k],
         spread[k],
     );
-    let new = lost_path(old, waited);
-    let last = new.last;
-    event[k] = kind_of(last);
-    milliseconds[k] = milliseconds_of(last);
+    let last = old.after_loss(waited).last;
+    event[k] = last.kind();
+    milliseconds[k] = last.milliseconds();
     0
+}
+
+// The ordinal of the path that is quickest now.
+fn quickest(
+    count: u32,
+    event: &[u8; PATHS_MOST],
+    smoothed: &[f64; PATHS_MOST],
+) -> Result<u32, Number>
+    ensures { (sampled : List ℕ) (milliseconds spread : List Float) →
+        choice_told result ≡ choice (paths_of (columns count event.now sampled milliseconds smoothed.now spread)) }
+{
+    check_count(count)?;
+    let mut best: Option<(u32, f64)> = None;
+    for ordinal in 0..count {
+        let k = ordinal as usize;
+        if event[k] == ROUND_TRIP && is_quicker(best, smoothed[k]) {
+            best = Some((ordinal, smoothed[k]));
+        }
+    }
+    best.map(|(ordinal, _)| ordinal)
+        .ok_or(Number::NoPathQualifies)
 }
 
 // Chooses the path that is quickest now.
@@ -128,25 +148,5 @@ pub fn unmavreth_choose_path(
     ensures { (sampled : List ℕ) (milliseconds spread : List Float) →
         result ≡ choice (paths_of (columns count event.now sampled milliseconds smoothed.now spread)) }
 {
-    if count as usize > PATHS_MOST {
-        return PathChoice {
-            number: u8::from(Number::NoSuchPath),
-            ordinal: 0,
-        };
-    }
-    let mut found = false;
-    let mut ordinal = 0;
-    let mut least = 0.0;
-    let mut i = 0;
-    while i < count {
-        let k = i as usize;
-        let x = smoothed[k];
-        if is_better(found, least, event[k] == ROUND_TRIP, x) {
-            found = true;
-            ordinal = i;
-            least = x;
-        }
-        i += 1;
-    }
-    told_of(found, ordinal)
+    PathChoice::from(quickest(count, event, smoothed))
 }

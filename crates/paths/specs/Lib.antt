@@ -3,3 +3,4 @@ pub mod Update
 pub mod Calls
 pub mod Choice
 pub mod Columns
+pub mod Best

@@ -1,7 +1,6 @@
 // The choice among paths: whether a path takes the place of the best so far, and what is told in the end.
-ghost use Rattle.std.specs.Prelude.{◌≡◌, ◌&&◌, not};
-ghost use Rattle.std.specs.Float.Ieee.{is_nan};
-ghost use Rattle.paths.specs.Choice.{is_better, pick};
+ghost use Rattle.std.specs.Prelude.{◌≡◌};
+ghost use Rattle.paths.specs.Best.{is_quicker, choice_told};
 
 use octets::number::Number;
 
@@ -13,32 +12,26 @@ pub struct PathChoice {
     pub ordinal: u32,
 }
 
-// Whether a path takes the place of the best so far, if there is one: `heard` if a round trip was last heard on it.
-// Only a NaN differs from itself.
-#[tactic(auto, using(crate::proofs::Numbers::equals_itself))]
-pub fn is_better(found: bool, least: f64, heard: bool, smoothed: f64) -> bool
-    ensures { result ≡ is_better (heard && not (is_nan smoothed)) found least smoothed }
-{
-    if heard {
-        if smoothed == smoothed {
-            if found {
-                return smoothed < least;
-            }
-            return true;
+impl From<Result<u32, Number>> for PathChoice {
+    ghost from_gives = { λ chosen told. told ≡ choice_told chosen };
+
+    fn from(chosen: Result<u32, Number>) -> PathChoice {
+        match chosen {
+            Ok(ordinal) => PathChoice {
+                number: u8::from(Number::Done),
+                ordinal,
+            },
+            Err(number) => PathChoice {
+                number: u8::from(number),
+                ordinal: 0,
+            },
         }
     }
-    false
 }
 
-// What is told of the best of all.
-pub fn told_of(found: bool, ordinal: u32) -> PathChoice
-    ensures { result ≡ pick found ordinal }
+// Whether a smoothed round trip takes the place of the best so far, which is an ordinal with its smoothed round trip.
+pub fn is_quicker(best: Option<(u32, f64)>, smoothed: f64) -> bool
+    ensures { result ≡ is_quicker best smoothed }
 {
-    if found {
-        return PathChoice { number: 0, ordinal };
-    }
-    PathChoice {
-        number: u8::from(Number::NoPathQualifies),
-        ordinal: 0,
-    }
+    !smoothed.is_nan() && best.is_none_or(|(_, least)| smoothed < least)
 }

@@ -10,46 +10,46 @@ pub const ROUND_TRIP: u8 = 1;
 
 pub const LOSS: u8 = 2;
 
-pub fn event_of(kind: u8, milliseconds: f64) -> LastEvent
-    ensures { result ≡ event_of kind milliseconds }
-{
-    if kind == ROUND_TRIP {
-        return LastEvent::RoundTrip(milliseconds);
+impl LastEvent {
+    pub fn lent(kind: u8, milliseconds: f64) -> LastEvent
+        ensures { result ≡ event_of kind milliseconds }
+    {
+        match kind {
+            ROUND_TRIP => LastEvent::RoundTrip(milliseconds),
+            LOSS => LastEvent::Loss(milliseconds),
+            _ => LastEvent::Nothing,
+        }
     }
-    if kind == LOSS {
-        return LastEvent::Loss(milliseconds);
+
+    pub fn kind(self) -> u8
+        ensures { result ≡ kind_of self }
+    {
+        match self {
+            LastEvent::Nothing => 0,
+            LastEvent::RoundTrip(_) => ROUND_TRIP,
+            LastEvent::Loss(_) => LOSS,
+        }
     }
-    LastEvent::Nothing
+
+    pub fn milliseconds(self) -> f64
+        ensures { result ≡ milliseconds_of self }
+    {
+        match self {
+            LastEvent::Nothing => 0.0,
+            LastEvent::RoundTrip(milliseconds) | LastEvent::Loss(milliseconds) => milliseconds,
+        }
+    }
 }
 
-pub fn kind_of(event: LastEvent) -> u8
-    ensures { result ≡ kind_of event }
-{
-    match event {
-        LastEvent::Nothing => 0,
-        LastEvent::RoundTrip(_) => ROUND_TRIP,
-        LastEvent::Loss(_) => LOSS,
-    }
-}
-
-pub fn milliseconds_of(event: LastEvent) -> f64
-    ensures { result ≡ milliseconds_of event }
-{
-    match event {
-        LastEvent::Nothing => 0.0,
-        LastEvent::RoundTrip(milliseconds) => milliseconds,
-        LastEvent::Loss(milliseconds) => milliseconds,
-    }
-}
-
-pub fn path_of(kind: u8, sampled: u8, milliseconds: f64, smoothed: f64, spread: f64) -> Path
-    ensures { result ≡ path_of kind sampled milliseconds smoothed spread }
-{
-    let last = event_of(kind, milliseconds);
-    Path {
-        smoothed,
-        spread,
-        sampled: is_yes(sampled),
-        last,
+impl Path {
+    pub fn lent(kind: u8, sampled: u8, milliseconds: f64, smoothed: f64, spread: f64) -> Path
+        ensures { result ≡ path_of kind sampled milliseconds smoothed spread }
+    {
+        Path {
+            smoothed,
+            spread,
+            sampled: is_yes(sampled),
+            last: LastEvent::lent(kind, milliseconds),
+        }
     }
 }

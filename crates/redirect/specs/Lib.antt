@@ -3,3 +3,4 @@ pub mod Rooms
 pub mod Identity
 pub mod Read
 pub mod Write
+pub mod Gateway

@@ -23,7 +23,7 @@ use Rattle.octets.specs.Checks.{Check, ◌gives◌, first_failed}
 use Rattle.values.specs.Values.{part_of, PartOf}
 use Rattle.redirect.specs.Wire.{identity_header}
 use Rattle.redirect.specs.Identity.{identity_fits}
-use Rattle.redirect.specs.declared.told.GatewayRead.{GatewayRead}
+use Rattle.redirect.specs.declared.gateway.GatewayRead.{GatewayRead}
 
 -- 0 where the data ends before it
 abbrev pub identity_type : List ℕ → ℕ

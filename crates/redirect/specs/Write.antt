@@ -11,7 +11,7 @@ use Rattle.octets.specs.Checks.{Check, ◌gives◌, first_failed}
 use Rattle.writing.specs.Notify.{placed}
 use Rattle.redirect.specs.Wire.{redirect_room}
 use Rattle.redirect.specs.Identity.{identity_fits, no_nonce_or}
-use Rattle.redirect.specs.declared.told.DataWritten.{DataWritten}
+use Rattle.redirect.specs.declared.gateway.DataWritten.{DataWritten}
 
 -- RFC 5685, 9.2 and 9.3: "GW Ident Type", "GW Ident Len", the identity, "Nonce Data"
 unfoldable pub gateway_octets : ℕ → List ℕ → List ℕ → List ℕ

@@ -1,26 +1,24 @@
 // Which gateway identities and nonces have a size that is allowed.
 ghost use Rattle.std.specs.Prelude.{◌≡◌};
+ghost use Rattle.redirect.specs.Gateway.{may_be_named};
 ghost use Rattle.redirect.specs.Identity.{identity_fits, nonce_fits, no_nonce_or};
 
+use crate::gateway::Notification;
 use crate::wire::{
     FQDN_IDENTITY, FQDN_LEAST, FQDN_MOST, IP4_IDENTITY, IP6_IDENTITY, NONCE_LEAST, NONCE_MOST,
 };
 use octets::limits::{IP4_OCTETS, IP6_OCTETS};
 
-// Whether an identity of this type may have this size; `named` says whether a name (FQDN) may stand there.
+// Whether an identity of this type may have this size in a notification.
 #[tactic(auto, unfolding(crate::specs::Identity::identity_fits))]
-pub fn identity_fits(named: bool, identity_type: u8, size: usize) -> bool
-    ensures { result ≡ identity_fits named identity_type size }
+pub fn identity_fits(notification: Notification, identity_type: u8, size: usize) -> bool
+    ensures { result ≡ identity_fits (may_be_named notification) identity_type size }
 {
     match identity_type {
         IP4_IDENTITY => size == IP4_OCTETS,
         IP6_IDENTITY => size == IP6_OCTETS,
         FQDN_IDENTITY => {
-            if named {
-                FQDN_LEAST <= size && size <= FQDN_MOST
-            } else {
-                false
-            }
+            notification == Notification::Redirect && FQDN_LEAST <= size && size <= FQDN_MOST
         }
         _ => false,
     }

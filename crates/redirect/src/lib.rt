@@ -2,6 +2,6 @@
 // their numbers and sizes, which identities and nonces fit, and what is told of their data.
 #![tactic(auto)]
 
+pub mod gateway;
 pub mod identity;
-pub mod told;
 pub mod wire;

@@ -1,15 +1,18 @@
--- How many elements of a list pass a test: one more, and two lists one behind the other.
-use Prim.Native.Nat.{ℕ, suc, ◌+◌, ◌<◌}
-use mathlib.Core.Path.{◌≡◌}
+-- How many elements of a list pass a test: as the library counts them, and of two lists one behind the other.
+use Prim.Native.Nat.{suc, ◌+◌}
+use mathlib.Core.Path.{◌≡◌, refl, sym}
 use mathlib.Core.List.{List, [], ◌∷◌, ◌++◌}
 use mathlib.Core.Bool.{Bool, true, false, cond}
 use native.Mathlib.Omega.{arith}
-use native.Mathlib.Numerals.{add-one}
-use lib.ListN.{length, get_or, take}
-use lib.Seq.{take-suc}
+use native.Mathlib.Numerals.{one-add}
+use Rattle.std.specs.List.{count_by}
+use Rattle.std.proofs.lemmas.List.Recursion.{is_count_by}
 use Rattle.redirecting.specs.Times.{how_many}
 
 module _ {A : Type 0} (f : A → Bool) where
+  pub counted : (xs : List A) → count_by f xs ≡ how_many f xs
+  counted xs = sym (is_count_by (how_many f) f refl (λ x xs. rw one-add refl) xs)
+
   pub both_counted : (xs ys : List A) → how_many f (xs ++ ys) ≡ how_many f xs + how_many f ys
   both_counted [] ys = omega arith
   both_counted (x ∷ xs) ys = go (f x) (both_counted xs ys)
@@ -19,13 +22,3 @@ module _ {A : Type 0} (f : A → Bool) where
           ≡ cond b (suc (how_many f xs)) (how_many f xs) + how_many f ys
       go true e = omega arith
       go false e = e
-
-  module _ (xs : List A) (i : ℕ) (d : A) (h : i < length xs) where
-    one_more : how_many f (take (i + 1) xs) ≡ how_many f (take i xs) + cond (f (get_or xs i d)) 1 0
-    one_more = rw (add-one, take-suc xs i d h) (both_counted (take i xs) (get_or xs i d ∷ []))
-
-    pub passes_too : f (get_or xs i d) ≡ true → how_many f (take i xs) + 1 ≡ how_many f (take (i + 1) xs)
-    passes_too e = rw (one_more, e)
-
-    pub passes_not : f (get_or xs i d) ≡ false → how_many f (take i xs) ≡ how_many f (take (i + 1) xs)
-    passes_not e = rw (one_more, e) (omega arith)

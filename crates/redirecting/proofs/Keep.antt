@@ -1,88 +1,63 @@
--- The record that keeps one time more, as a loop fills it: the kept times without the oldest, where there are five, the
--- new one behind them, and 0 in the other places.
-use Prim.Native.Nat.{ℕ, suc, ◌+◌, ◌-◌, ◌<◌, ◌≤◌, min}
-use mathlib.Core.Path.{◌≡◌}
+-- The record that keeps one time more: the kept times without the oldest, where there are five, the new one behind
+-- them, and 0 in the other places.
+use Prim.Native.Nat.{ℕ, suc, ◌+◌, ◌-◌, ◌<◌, ◌≤◌}
+use mathlib.Core.Path.{◌≡◌, refl, ap, ◌∙◌}
 use mathlib.Core.List.{List, [], ◌∷◌, ◌++◌, append_assoc}
 use native.Mathlib.Omega.{arith}
-use lib.ListN.{length, get_or, take, drop, set, replicate, length-append, length-drop}
-use lib.Seq.{take_all, drop-append-le, get_or-take, get_or-drop, set_at, length-take-le}
+use lib.ListN.{length, take, drop, set, replicate, length-append, length-drop}
+use lib.Seq.{take_all, drop-append-le, set_at}
+use Rattle.std.proofs.lemmas.List.{drop-replicate}
 use Rattle.octets.specs.Lists.{first_of}
-use Rattle.octets.proofs.Pad.{copied, stored}
 use Rattle.redirecting.specs.Limits.{redirects_most}
-use Rattle.redirecting.specs.Times.{accepted, last_of, keeping}
+use Rattle.redirecting.specs.Times.{accepted, kept, last_of, keeping}
 use Rattle.redirecting.specs.declared.times.Accepted.{Accepted}
 
--- the oldest that is kept on, where there are n, and where the new one goes
-abbrev pub oldest : ℕ → ℕ
-oldest n = n + 1 - redirects_most
+-- an element put behind others into places that hold 0
+put : (places : ℕ) (xs : List ℕ) (x : ℕ) → length xs < places
+    → set (xs ++ drop (length xs) (replicate places 0)) (length xs) x
+    ≡ first_of places 0 (length xs + 1) (xs ++ x ∷ [])
+put places xs x h =
+    let left : places - length xs ≡ suc (places - (length xs + 1)) = omega arith in
+    let long : length (xs ++ x ∷ []) ≡ length xs + 1 = simp length-append in
+    rw (
+      drop-replicate {X = ℕ} (length xs) places 0,
+      left,
+      take_all (length xs + 1) (xs ++ x ∷ []) (omega (arith, long)),
+      append_assoc xs (x ∷ []) (replicate (places - (length xs + 1)) 0),
+    )
+    (set_at xs 0 (replicate (places - (length xs + 1)) 0) x (length xs) refl)
 
-abbrev pub last : ℕ → ℕ
-last n = n - oldest n
+abbrev keep : List ℕ → ℕ → Accepted
+keep ts time =
+    let times = last_of redirects_most (ts ++ time ∷ []) in
+    accepted (length times) (first_of redirects_most 0 (length times) times)
 
-module _ (ts : List ℕ) (n : ℕ) (long : length ts ≡ n) (most : n ≤ redirects_most) where
-  abbrev pub rest : List ℕ
-  rest = drop (oldest n) ts
+-- `part` are the kept times without the oldest, where there are five
+module _ (ts : List ℕ) (time : ℕ) (few : length ts ≤ redirects_most) (part : List ℕ)
+    (rest : part ≡ drop (length ts + 1 - redirects_most) ts) where
+  is_last : last_of redirects_most (ts ++ time ∷ []) ≡ part ++ time ∷ []
+  is_last =
+      let long : length (ts ++ time ∷ []) ≡ length ts + 1 = simp length-append in
+      rw (long, rest) (drop-append-le (length ts + 1 - redirects_most) ts (time ∷ []) (omega arith))
 
-  abbrev pub filled : ℕ → List ℕ
-  filled i = copied 0 rest redirects_most i
+  long : length (part ++ time ∷ []) ≡ length part + 1
+  long = simp length-append
 
-  rest_long : length rest ≡ last n
-  rest_long = simp (length-drop, long)
+  room : length part < redirects_most
+  room = rw rest (simp length-drop (omega arith))
 
-  pub fills_one : (i : ℕ) → i < last n → set (filled i) i (get_or ts (oldest n + i) 0) ≡ filled (i + 1)
-  fills_one i h =
-      rw (← get_or-drop (oldest n) ts i 0) (stored 0 rest redirects_most i (omega (arith, rest_long)) (omega arith) 0)
+  put_last : accepted (length part + 1) (set (part ++ drop (length part) (replicate redirects_most 0)) (length part) time)
+      ≡ keep ts time
+  put_last = rw (is_last, long, put redirects_most part time room)
 
-  module _ (time : ℕ) where
-    is_last : last_of redirects_most (ts ++ time ∷ []) ≡ rest ++ time ∷ []
-    is_last =
-        let m : length (ts ++ time ∷ []) ≡ n + 1 = simp (length-append, long) in
-        rw m (drop-append-le (oldest n) ts (time ∷ []) (omega arith))
-
-    more_long : length (rest ++ time ∷ []) ≡ last n + 1
-    more_long = simp (length-append, rest_long)
-
-    pub fills_last : set (filled (last n)) (last n) time ≡ first_of redirects_most 0 (last n + 1) (rest ++ time ∷ [])
-    fills_last =
-        let k : redirects_most - last n ≡ suc (redirects_most - (last n + 1)) = omega arith in
-        rw (
-          take_all (last n) rest (omega (arith, rest_long)),
-          k,
-          take_all (last n + 1) (rest ++ time ∷ []) (omega (arith, more_long)),
-          append_assoc rest (time ∷ []) (replicate (redirects_most - (last n + 1)) 0),
-        )
-        (set_at rest 0 (replicate (redirects_most - (last n + 1)) 0) time (last n) rest_long)
-
--- a record that keeps n times, of its five places
-module _ (r : Accepted) (n : ℕ) (five : length r.times ≡ redirects_most)
-    (counts : n ≡ min r.count redirects_most) where
-  abbrev ts : List ℕ
-  ts = take n r.times
-
-  most : n ≤ redirects_most
-  most = omega arith
-
-  long : length ts ≡ n
-  long = length-take-le n r.times (omega arith)
-
-  abbrev pub turned : ℕ → List ℕ
-  turned i = copied 0 (drop (oldest n) ts) redirects_most i
-
-  pub turns_one : (list : List ℕ) (i first : ℕ) → i < last n → first ≡ oldest n → list ≡ turned i
-      → set list i (get_or r.times (first + i) 0) ≡ turned (i + 1)
-  turns_one list i first h f e =
-      rw (e, f, ← get_or-take n r.times (oldest n + i) 0 (omega arith)) (fills_one ts n long most i h)
-
-  pub keeps : (time count place : ℕ) (list : List ℕ) → place ≡ last n → count ≡ last n + 1 → list ≡ turned (last n)
-      → accepted count (set list place time) ≡ keeping r time
-  unfolding keeping
-  keeps time count place list p c l =
-      rw (
-        p,
-        c,
-        l,
-        ← counts,
-        is_last ts n long most time,
-        more_long ts n long most time,
-        fills_last ts n long most time,
-      )
+pub keeps : (r : Accepted) (ts : List ℕ) (time first : ℕ) (copied part : List ℕ) → ts ≡ kept r
+    → length ts ≤ redirects_most → first ≡ length ts - 4 → part ≡ take (length ts - first) (drop first ts)
+    → copied ≡ part
+    → accepted (length part + 1) (set (copied ++ drop (length part) (replicate redirects_most 0)) (length part) time)
+    ≡ keeping r time
+unfolding keeping
+keeps r ts time first copied part e few f p c =
+    let all : take (length ts - first) (drop first ts) ≡ drop first ts =
+    take_all (length ts - first) (drop first ts) (omega (arith, length-drop first ts)) in
+    let same : first ≡ length ts + 1 - redirects_most = omega arith in
+    rw c (put_last ts time few part (p ∙ all ∙ ap (λ (n : ℕ). drop n ts) same) ∙ ap (λ (xs : List ℕ). keep xs time) e)

@@ -7,7 +7,7 @@ ghost use Rattle.redirecting.specs.Times.{accepted};
 ghost use Rattle.deciding_redirects.specs.Decision.{DecidedAs};
 
 use deciding_redirects::RedirectDecision;
-use redirect::told::{DataWritten, GatewayRead};
+use redirect::gateway::{DataWritten, GatewayRead};
 use redirecting::limits::REDIRECTS_MOST;
 
 // Reads the data of a REDIRECT (16407), at the client: in an IKE_SA_INIT response, with the nonce that the client

@@ -1,110 +1,76 @@
 // The data of each redirect notification written to the start of an output.
 #![tactic(auto)]
 
-ghost use Rattle.std.specs.Prelude.{◌≡◌, true, false, [], ◌+◌, ◌≤◌, length};
-ghost use Rattle.octets.specs.Checks.{first_failed};
+ghost use Rattle.std.specs.Prelude.{◌≡◌, [], ◌+◌, ◌<◌, ◌≤◌, false, length, not, MatchResult};
+ghost use Rattle.octets.specs.declared.number.Number.TheVariants.{OutputTooShort};
 ghost use Rattle.writing.specs.Notify.{placed};
-ghost use Rattle.redirect.specs.Wire.{identity_header, fqdn_most};
-ghost use Rattle.redirect.specs.Write.{gateway_octets, unfit, write_checks, DataWrittenAs};
+ghost use Rattle.redirect.specs.Wire.{identity_header, fqdn_most, redirect_room};
+ghost use Rattle.redirect.specs.Write.{gateway_octets, unfit, DataWrittenAs};
+ghost use Rattle.redirect.specs.Gateway.{may_be_named, written_told};
 
 use octets::number::Number;
+use redirect::gateway::{Gateway, Notification};
 use redirect::identity::{identity_fits, no_nonce_or};
-use redirect::told::DataWritten;
 use redirect::wire::{IDENTITY_HEADER, REDIRECT_ROOM};
 use writing::copy_octets;
 
-// Whether an identity and a nonce to write are malformed.
-fn is_unfit(named: bool, identity_type: u8, identity: &[u8], nonce: &[u8]) -> bool
-    ensures { result ≡ unfit named identity_type identity.now nonce.now }
-{
-    if identity_fits(named, identity_type, identity.len()) {
-        if no_nonce_or(nonce.len()) {
-            false
-        } else {
-            true
-        }
-    } else {
-        true
-    }
-}
-
-// The number of a writer.
-fn write_number(malformed: bool, room: usize) -> u8
-    ensures { result ≡ first_failed (write_checks malformed room) }
+// Whatever is written, the output has room for the longest data.
+fn check_room(room: usize) -> Result<(), Number>
+    ensures { MatchResult result (λ _. redirect_room ≤ room) (λ n. (n ≡ OutputTooShort) × (room < redirect_room)) }
 {
     if room < REDIRECT_ROOM {
-        return u8::from(Number::OutputTooShort);
+        return Err(Number::OutputTooShort);
     }
-    if malformed {
-        return u8::from(Number::BadRedirect);
-    }
-    0
+    Ok(())
+}
+
+// Whether a notification may have this identity and this nonce.
+fn fits(notification: Notification, gateway: Gateway<'_>) -> bool
+    ensures { let g = gateway.entry in
+        result ≡ not (unfit (may_be_named notification) g.identity_type g.identity.now g.nonce.now) }
+{
+    identity_fits(notification, gateway.identity_type, gateway.identity.len())
+        && no_nonce_or(gateway.nonce.len())
 }
 
 // Writes identity and nonce to the start of `out`, and returns how many octets that are.
-fn put_gateway(identity_type: u8, identity: &[u8], nonce: &[u8], out: &mut [u8]) -> usize
-    requires identity_len_bound { length identity.now ≤ fqdn_most }
-    requires nonce_in_bounds { identity_header + length identity.now + length nonce.now ≤ length out.old }
-    ensures { let octets = gateway_octets identity_type identity.now nonce.now in
+fn put_gateway(gateway: Gateway<'_>, out: &mut [u8]) -> usize
+    requires identity_len_bound { length gateway.identity.now ≤ fqdn_most }
+    requires nonce_in_bounds { identity_header + length gateway.identity.now + length gateway.nonce.now ≤ length out.old }
+    ensures { let g = gateway.entry in
+        let octets = gateway_octets g.identity_type g.identity.now g.nonce.now in
         (result ≡ length octets) × (out.new ≡ placed out.old 0 octets) }
 {
-    let size = identity.len();
-    let header = [identity_type, size as u8];
-    copy_octets(out, 0, &header);
-    copy_octets(out, IDENTITY_HEADER, identity);
-    copy_octets(out, IDENTITY_HEADER + size, nonce);
-    IDENTITY_HEADER + size + nonce.len()
+    let size = gateway.identity.len();
+    copy_octets(out, 0, &[gateway.identity_type, size as u8]);
+    copy_octets(out, IDENTITY_HEADER, gateway.identity);
+    copy_octets(out, IDENTITY_HEADER + size, gateway.nonce);
+    IDENTITY_HEADER + size + gateway.nonce.len()
 }
 
-// Writes a gateway's identity and a nonce; `named` says whether the identity may be a name.
-fn write_gateway(
-    named: bool,
-    identity_type: u8,
-    identity: &[u8],
-    nonce: &[u8],
+// Writes the data of a REDIRECT or of a REDIRECTED_FROM, and returns how many octets it has.
+#[tactic(auto, using(crate::proofs::Short::room_for), unfolding(redirect::specs::Write::written))]
+pub fn write_gateway(
+    notification: Notification,
+    gateway: Gateway<'_>,
     out: &mut [u8],
-) -> DataWritten
-    ensures { let malformed = unfit named identity_type identity.now nonce.now in
-        let octets = gateway_octets identity_type identity.now nonce.now in
-        DataWrittenAs malformed octets out.old result out.new }
+) -> Result<usize, Number>
+    ensures { let g = gateway.entry in
+        let malformed = unfit (may_be_named notification) g.identity_type g.identity.now g.nonce.now in
+        let octets = gateway_octets g.identity_type g.identity.now g.nonce.now in
+        DataWrittenAs malformed octets out.old (written_told result) out.new }
 {
-    let number = write_number(is_unfit(named, identity_type, identity, nonce), out.len());
-    if number != 0 {
-        return DataWritten { number, length: 0 };
+    check_room(out.len())?;
+    if !fits(notification, gateway) {
+        return Err(Number::BadRedirect);
     }
-    let length = put_gateway(identity_type, identity, nonce, out);
-    DataWritten { number, length }
-}
-
-// Writes the data of a REDIRECT; an empty nonce is none.
-pub fn write_redirect(
-    identity_type: u8,
-    identity: &[u8],
-    nonce: &[u8],
-    out: &mut [u8],
-) -> DataWritten
-    ensures { let malformed = unfit true identity_type identity.now nonce.now in
-        let octets = gateway_octets identity_type identity.now nonce.now in
-        DataWrittenAs malformed octets out.old result out.new }
-{
-    write_gateway(true, identity_type, identity, nonce, out)
-}
-
-// Writes the data of a REDIRECTED_FROM.
-pub fn write_redirected_from(identity_type: u8, identity: &[u8], out: &mut [u8]) -> DataWritten
-    ensures { let malformed = unfit false identity_type identity.now [] in
-        let octets = gateway_octets identity_type identity.now [] in
-        DataWrittenAs malformed octets out.old result out.new }
-{
-    write_gateway(false, identity_type, identity, &identity[..0], out)
+    Ok(put_gateway(gateway, out))
 }
 
 // Writes the data of a REDIRECT_SUPPORTED: none.
-pub fn write_redirect_supported(out: &mut [u8]) -> DataWritten
-    ensures { DataWrittenAs false [] out.old result out.new }
+#[tactic(auto, using(writing::proofs::Placed::placed_none), unfolding(redirect::specs::Write::written))]
+pub fn write_redirect_supported(out: &mut [u8]) -> Result<usize, Number>
+    ensures { DataWrittenAs false [] out.old (written_told result) out.new }
 {
-    DataWritten {
-        number: write_number(false, out.len()),
-        length: 0,
-    }
+    check_room(out.len()).map(|()| 0)
 }

@@ -5,8 +5,8 @@ use Rattle.writing_redirects.proofs.put_gateway.Goals as goal
 
 pub returns : goal.returns
 returns c =
-    let a = c.args in (
-      sym (octets_length a.identity_type a.identity.now a.nonce.now),
-      all_put a.identity_type a.identity.now a.nonce.now a.out.now _ _ _ c.requires.nonce_in_bounds
+    let g = c.args.gateway in (
+      sym (octets_length g.identity_type g.identity.now g.nonce.now),
+      all_put g.identity_type g.identity.now g.nonce.now c.args.out.now _ _ _ c.requires.nonce_in_bounds
           c.copy_octets.ensures c.copy_octets-2.ensures c.copy_octets-3.ensures,
     )

@@ -1,7 +1,7 @@
 -- The constants are the numbers that they write.
 use lib.Ieee.{of_bits}
-use Rattle.paths.proofs.path.later_path.Goals as goal
+use Rattle.paths.proofs.path.Path.later.Goals as goal
 
 pub returns : goal.returns
 unfolding of_bits
-returns c = rw c.deviation-d.ensures
+returns c = rw c.deviation.ensures
