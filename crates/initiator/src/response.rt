@@ -1,6 +1,5 @@
 // The responder's answer to a request of ours: accepted, refused, or so wrong that the IKE SA is to be closed.
-ghost use Rattle.std.specs.Prelude.{◌≡◌, ◌≤◌, length};
-ghost use Rattle.octets.specs.Lists.{same_octets};
+ghost use Rattle.std.specs.Prelude.{◌≡◌, ◌≤◌};
 ghost use Rattle.initiator.specs.Response.{outcome_number, closes, error_outcome, outcome_of, tally_of};
 ghost use Rattle.initiator.specs.Response.{refusal, AssessedAs};
 
@@ -52,15 +51,6 @@ impl From<Outcome> for u8 {
             Outcome::Accepted => 5,
         }
     }
-}
-
-// Whether two parts of the same length have the same octets: it goes once no crate calls it.
-#[tactic(auto, using(octets::proofs::Same::same_from_eq))]
-pub fn same_octets(a: &[u8], b: &[u8]) -> bool
-    requires { length a.now ≡ length b.now }
-    ensures { result ≡ same_octets (length a.now) a.now b.now }
-{
-    a == b
 }
 
 // Whether the response doesn't bring back the cookie that was sent.
