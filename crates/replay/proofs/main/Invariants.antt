@@ -3,5 +3,5 @@ use Rattle.std.proofs.Common.{◌≤◌, length}
 use Rattle.replaying.specs.Standing.{Standing}
 use Rattle.replay.proofs.main.Given as goal
 
-abbrev pub invariant-loop-s : goal.invariant-loop-s
-invariant-loop-s l = Standing l.s × (l.s.len ≤ length l.window)
+abbrev pub invariant-loop : goal.invariant-loop
+invariant-loop l = Standing l.s × (l.s.len ≤ length l.window)
