@@ -1,5 +1,5 @@
 // The lent policies, set and asked.
-ghost use Rattle.std.specs.Prelude.{◌≡◌, ◌&&◌, set};
+ghost use Rattle.std.specs.Prelude.{◌≡◌, ◌&&◌};
 ghost use Rattle.octets.specs.Numbers.{told};
 ghost use Rattle.policy.specs.Policy.{acceptable, policy_of, set_policy};
 
@@ -8,13 +8,6 @@ use octets::limits::{OPERATORS, RULES_MOST};
 use octets::number::Number;
 use policy::rules::{Policy, Rule, policy_number};
 use walks::store;
-
-// Stores a whole policy at a place; past the end it stores nothing.
-pub fn policy_store(policies: &mut [Policy; OPERATORS], place: usize, new: Policy)
-    ensures { policies.new ≡ set policies.old place new }
-{
-    store(policies, place, new);
-}
 
 // Sets an operator's whole policy, or refuses and leaves it. The other's stays.
 pub fn set_policy(

@@ -6,12 +6,11 @@ ghost use Rattle.octets.specs.Lists.{all};
 ghost use Rattle.octets.specs.Numbers.{told, number_of};
 ghost use Rattle.policy.specs.Policy.{rule_fits, lengths_fit, rule_matches, acceptable};
 ghost use Rattle.policy.specs.Policy.{no_rule, no_policy, new_policy, policy_checks};
-ghost use Rattle.policy.specs.Change.{policy_setting};
 
 use address::address::{both_fit, width_of};
 use address::pair::Pair;
-use octets::limits::{ADDRESS_OCTETS, OPERATORS, RULES_MOST};
-use octets::number::{Number, told};
+use octets::limits::{ADDRESS_OCTETS, RULES_MOST};
+use octets::number::Number;
 use octets::operator::not_operator;
 use prefix::prefix::prefix_matches;
 
@@ -133,35 +132,4 @@ pub fn policy_number(n: usize, rules: &[Rule; RULES_MOST], operator: u8) -> Resu
         return Err(Number::BadPolicy);
     }
     Ok(())
-}
-
-// The number that setting a policy gives, and the policy that is stored at an operator's place; past the end, where
-// nothing is stored, with any number but 0.
-#[derive(Clone, Copy)]
-pub struct PolicyChange {
-    pub number: u8,
-    pub place: usize,
-    pub policy: Policy,
-}
-
-// Sets an operator's whole policy, or refuses.
-#[tactic(auto, unfolding(crate::specs::Change::policy_setting))]
-pub fn set_policy(count: u16, rules: [Rule; RULES_MOST], operator: u8) -> PolicyChange
-    ensures { result ≡ policy_setting count rules operator }
-{
-    let n = count as usize;
-    let number = told(policy_number(n, &rules, operator));
-    if number == 0 {
-        PolicyChange {
-            number,
-            place: operator as usize,
-            policy: Policy::new(count, &rules),
-        }
-    } else {
-        PolicyChange {
-            number,
-            place: OPERATORS,
-            policy: Policy { count, rules },
-        }
-    }
 }

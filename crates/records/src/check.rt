@@ -52,16 +52,3 @@ impl PendingCheck {
         cookie_sized(self.length as usize)
     }
 }
-
-// As functions: they go once no crate calls them.
-pub fn check_of(cookie: &[u8], id: u32) -> PendingCheck
-    ensures { result ≡ check_of cookie.now id }
-{
-    PendingCheck::of(cookie, id)
-}
-
-pub fn is_pending(check: PendingCheck) -> bool
-    ensures { result ≡ is_pending check }
-{
-    check.is_pending()
-}

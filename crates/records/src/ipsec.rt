@@ -46,10 +46,3 @@ impl IpsecRecord {
         }
     }
 }
-
-// As functions: they go once no crate calls them.
-pub fn no_ipsec() -> IpsecRecord
-    ensures { result ≡ no_ipsec }
-{
-    IpsecRecord::none()
-}

@@ -8,7 +8,6 @@ ghost use Rattle.responder.specs.Handle.{HandledAs};
 use address::pair::Pair;
 use octets::limits::{IKE_PLACES, OPERATORS};
 use policy::rules::Policy;
-use records::check::check_of;
 use records::ike::IkeRecord;
 use records::ipsec::IpsecRecord;
 use replying::reply::Reply;

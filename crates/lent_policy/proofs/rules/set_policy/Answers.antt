@@ -3,7 +3,7 @@ use Rattle.std.proofs.Common.{rules, ◌≡◌, ◌∙◌, sym}
 use Rattle.octets.specs.Checks.{first_failed}
 use Rattle.octets.specs.Numbers.{told}
 use Rattle.policy.specs.Policy.{policy_checks}
-use Rattle.policy.proofs.Changed.{sets_passed, sets_refused}
+use Rattle.policy.proofs.Changed.{sets_policy_lem}
 use Rattle.lent_policy.proofs.rules.set_policy.Goals as goal
 
 pub returns-in_err-policy_number : goal.returns-in_err-policy_number
@@ -11,7 +11,7 @@ returns-in_err-policy_number c =
     let a = c.args in
     let w = c.in_err-policy_number.ensures in
     let refused : first_failed (policy_checks a.count a.rules.now a.operator) ≡ 0 → ⊥ = λ e. w.refuses (w.as_listed ∙ e) in
-    let s = sets_refused a.policies.now a.count a.rules.now a.operator refused in
+    let s = (sets_policy_lem a.policies.now a.count a.rules.now a.operator).refused refused in
     let t : told c.from_residual.result ≡ first_failed (policy_checks a.count a.rules.now a.operator) = search rules in
     (t ∙ s.0, s.1)
 
@@ -19,4 +19,5 @@ pub returns : goal.returns
 returns c =
     let a = c.args in
     rw (c.store.ensures, c.new.ensures)
-    (sets_passed a.policies.now a.count a.rules.now a.operator (sym c.in_ok-policy_number.ensures.as_listed))
+    ((sets_policy_lem a.policies.now a.count a.rules.now a.operator).passed
+    (sym c.in_ok-policy_number.ensures.as_listed))
