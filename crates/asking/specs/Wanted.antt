@@ -1,4 +1,4 @@
--- Trusted. What the writer is given, read as the draft of a request.
+-- Inner. What the writer is given, read as the draft of a request.
 --
 --   draft_of   the draft: of each address the family and the octets
 use Rattle.address.specs.Address.{families_of, octets_of}

@@ -1,4 +1,4 @@
--- The best path so far as the code holds it, and a call's number and path as it passes them on.
+-- Inner. The best path so far as the code holds it, and a call's number and path as it passes them on.
 --
 --   is_quicker    whether a smoothed round trip takes the place of the best so far, if there is one
 --   as_best       the best so far, by its ordinal and its smoothed round trip, as `Choice.antt` has it

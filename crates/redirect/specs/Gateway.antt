@@ -1,4 +1,4 @@
--- A gateway read or to write, as the functions below the exported calls pass it on.
+-- Inner. A gateway read or to write, as the functions below the exported calls pass it on.
 --
 --   may_be_named            whether a notification may name a gateway by an FQDN
 --   malformed               what 30 tells of a notification's data
