@@ -4,7 +4,7 @@ ghost use Rattle.policy.specs.Policy.{acceptable, policy_of, set_policy};
 
 use address::pair::Pair;
 use octets::limits::{OPERATORS, RULES_MOST};
-use policy::rules::{Policy, Rule, set_policy};
+use policy::rules::{Policy, Rule};
 
 // Sets an operator's whole policy, or refuses and leaves it. The other's stays.
 #[unsafe(no_mangle)]
