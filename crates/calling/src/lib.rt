@@ -37,7 +37,7 @@ pub struct GivenResponse {
     pub operator: u8,
 }
 
-// A clone request, as an entry gives it.
+// A clone request, as an entry gives it: a response's fields but for an SPI of 64 bits in the place of an ID of 32.
 #[derive(Clone, Copy)]
 pub struct GivenClone {
     pub spi: u64,

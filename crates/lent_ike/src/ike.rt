@@ -20,6 +20,7 @@ fn position_of(records: &[IkeRecord; IKE_PLACES], spi: u64) -> Option<usize>
 }
 
 // The lowest place with this SPI, or the table's length where there is none; of SPI 0, the lowest free place.
+// (A number, since `place_of` of every theorem on the tables is one; `position_of` is the search itself.)
 pub fn ike_place(records: &[IkeRecord; IKE_PLACES], spi: u64) -> usize
     ensures { result ≡ place_of ike_spi spi records.now }
 {

@@ -13,6 +13,7 @@ fn position_of(records: &[IpsecRecord], spi: u32) -> Option<usize>
 }
 
 // The lowest place with this SPI, or the list's length where there is none; of SPI 0, the lowest free place.
+// (`ike_place` is of another record and another width of SPI: a trait for the two would be longer than both.)
 #[tactic(auto, using(octets::proofs::Iterators::position_is))]
 pub fn ipsec_place(records: &[IpsecRecord], spi: u32) -> usize
     ensures { result ≡ place_of ipsec_spi spi records.now }

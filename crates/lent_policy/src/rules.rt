@@ -25,7 +25,7 @@ pub fn set_policy(
 }
 
 // Whether it is asked, and some rule of the policy at the place accepts the pair; past the end none does. Both policies
-// are lent, and the one is read where it lies.
+// are lent, and the one is read where it lies. (Whether it is asked stands in the fact that `host_request` uses whole.)
 #[tactic(auto, using(crate::proofs::Past::past_end))]
 pub fn accepts_if(policies: &[Policy; OPERATORS], place: usize, asked: bool, pair: Pair) -> bool
     ensures { result ≡ (asked && acceptable (policy_of policies.now place) pair) }

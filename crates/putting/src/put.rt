@@ -18,7 +18,8 @@ use octets::limits::PORT_SIZE;
 use octets::wire::NOTIFY_PAYLOAD;
 use writing::put_notify;
 
-// The type of what stands here: a Notify if one is asked for, else what follows.
+// The type of what stands here: a Notify if one is asked for, else what follows. (Here and below `asked` is what the
+// host asks for, as `if_asked` has it.)
 pub fn type_if(asked: bool, next: u8) -> u8
     ensures { TypeIf asked next result }
 {

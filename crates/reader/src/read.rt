@@ -86,18 +86,30 @@ impl Reading {
         let number = u8::from(fault_number(f));
         *self = refuse(number, fault_type(f), at as u16, self.seen.tally.payloads);
     }
+
+    // Ends: the chain is read whole.
+    fn end(&mut self)
+        ensures { self.new ≡ answer ends Whole self.old.seen }
+    {
+        self.number = u8::from(Number::Done);
+        self.critical = 0;
+        self.offset = 0;
+        self.ordinal = 0;
+    }
 }
 
 // Reads on from `at`, where a payload of type `payload_type` stands: one call a payload, the octets left falling by at
 // least four. What comes of it stands in the reading, which is changed in place: a `Result<(), (Fault, u16)>` goes back
 // through memory at each call (543 instructions for the chain of 112 octets, where a number in a register took 393).
 pub fn scan_from(payload_type: u8, body: &[u8], at: usize, reading: &mut Reading)
-    requires { Scanning body.now at reading.old.seen × (reading.old ≡ answer ends Whole reading.old.seen) }
+    requires { Scanning body.now at reading.old.seen }
     ensures { let scan = scanned reading.old.seen (chain_at body.now payload_type at) in
         reading.new ≡ ends_as scan.outcome scan.seen }
 {
     if payload_type == 0 {
-        if at != body.len() {
+        if at == body.len() {
+            reading.end();
+        } else {
             reading.stop(Fault::Leftover, at);
         }
         return;

@@ -10,6 +10,7 @@ use crate::wire::{
 use octets::limits::{IP4_OCTETS, IP6_OCTETS};
 
 // Whether an identity of this type may have this size in a notification.
+// (The type is an octet as it is read, told and written; an enum would be made for this one `match`.)
 #[tactic(auto, unfolding(crate::specs::Identity::identity_fits))]
 pub fn identity_fits(notification: Notification, identity_type: u8, size: usize) -> bool
     ensures { result ≡ identity_fits (may_be_named notification) identity_type size }

@@ -57,7 +57,7 @@ pub fn put_error(out: &mut [u8], notify_type: u16, octets: &[u8], cookie: &[u8])
     }
 }
 
-// The two lent NAT detection values, source first, if they are wanted; then the cookie.
+// The two lent NAT detection values, source first, if they are wanted, a flag in `response_to` too; then the cookie.
 pub fn put_done(
     out: &mut [u8],
     wanted: bool,

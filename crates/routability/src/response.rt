@@ -35,7 +35,7 @@ pub struct CheckLooked {
 }
 
 // What is told of a response, the record to store at its place, none with a refusal, and whether what it owns is closed
-// or moved.
+// or moved (two flags, as `lent_closed` takes them).
 #[derive(Clone, Copy)]
 pub struct Ending {
     pub told: Assessment,
