@@ -3,5 +3,6 @@
 #![tactic(auto)]
 
 pub mod field_type;
+pub mod listed;
 pub mod refusal;
 pub mod room;

@@ -7,19 +7,24 @@ pub mod tables;
 ghost use Rattle.std.specs.Prelude.{◌≤◌, length};
 ghost use Rattle.fields.specs.Codes.{ReadsTo};
 ghost use Rattle.entries.specs.Kinds.{fields_of};
-ghost use Rattle.entries.specs.Slots.{entry_slots};
 
 use crate::tables::{
-    ADD_IPSEC, AFTER_RULES, CHECK_RESPONSE, CLONE, CLOSE_IKE, CLOSE_IPSEC, DELETION_MARK,
-    OPEN_BOTH, REQUEST, RULE, RULE_SLOTS,
+    ADD_IPSEC, CHECK_RESPONSE, CLONE, CLOSE_IKE, CLOSE_IPSEC, DELETION_MARK, OPEN_BOTH, POLICY,
+    REQUEST,
 };
+use entries::ENTRY_SLOTS;
 use entries::kind::Kind;
 use fields::refusal::Refusal;
 use reading_lists::read_listed;
 use reading_tables::read_table;
 
-pub fn read_fields(kind: Kind, s: &[u8], at: usize, slots: &mut [u64]) -> Result<usize, Refusal>
-    requires { (at ≤ length s.now) × (entry_slots ≤ length slots.old) }
+pub fn read_fields(
+    kind: Kind,
+    s: &[u8],
+    at: usize,
+    slots: &mut [u64; ENTRY_SLOTS],
+) -> Result<usize, Refusal>
+    requires { at ≤ length s.now }
     ensures { ReadsTo (fields_of kind) s.now at slots.old 0 slots.new result }
 {
     match kind {
@@ -28,7 +33,7 @@ pub fn read_fields(kind: Kind, s: &[u8], at: usize, slots: &mut [u64]) -> Result
         Kind::CloseIke => read_table(s, at, &CLOSE_IKE, slots, 0),
         Kind::CloseIpsec => read_table(s, at, &CLOSE_IPSEC, slots, 0),
         Kind::Request => read_table(s, at, &REQUEST, slots, 0),
-        Kind::Policy => read_listed(s, at, &RULE, RULE_SLOTS, &AFTER_RULES, slots, 0),
+        Kind::Policy => read_listed(s, at, POLICY, slots, 0),
         Kind::CheckResponse => read_table(s, at, &CHECK_RESPONSE, slots, 0),
         Kind::Clone => read_table(s, at, &CLONE, slots, 0),
         Kind::MarkDeletion => read_table(s, at, &DELETION_MARK, slots, 0),

@@ -1,5 +1,6 @@
 // The fields of each kind.
 use fields::field_type::{ADDRESS, BITS_8, BITS_16, BITS_32, BITS_64, FieldType, STRING, YES_NO};
+use fields::listed::Listed;
 
 // The operator that each call names, A (0) or B (1): one bit, at the end.
 const OPERATOR: FieldType = YES_NO;
@@ -59,13 +60,16 @@ pub const RULE: [FieldType; 5] = [
     BITS_8, // its length
 ];
 
-// How many slots a rule has.
-pub const RULE_SLOTS: usize = 5;
-
 // What follows the rules of a policy.
 pub const AFTER_RULES: [FieldType; 1] = [
     OPERATOR, // whose policy it is
 ];
+
+pub const POLICY: Listed = Listed {
+    each: &RULE,
+    size: 5,
+    last: &AFTER_RULES,
+};
 
 pub const CHECK_RESPONSE: [FieldType; 5] = [
     BITS_64, // SPI of the IKE record that is checked

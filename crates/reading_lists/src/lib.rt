@@ -6,25 +6,23 @@ ghost use Rattle.fields.specs.Fields.{list_of, ◌then◌};
 ghost use Rattle.fields.specs.Slots.{width};
 ghost use Rattle.fields.specs.Codes.{table_of, ReadsTo};
 
-use fields::field_type::{FieldType, LIST_MOST, LIST_PLACES};
+use fields::field_type::{LIST_MOST, LIST_PLACES};
+use fields::listed::Listed;
 use fields::refusal::Refusal;
 use leb128::read_number;
 use reading_fields::filling::fill;
 use reading_tables::read_table;
 
-// A list: its count, the items that it has, and 0 in the slots of those that it could have more. `size` is how many
-// slots an item has.
+// A list: its count, the items that it has, and 0 in the slots of those that it could have more.
 fn read_list(
     s: &[u8],
     at: usize,
-    each: &[FieldType],
-    size: usize,
+    list: Listed,
     slots: &mut [u64],
     slot: usize,
 ) -> Result<usize, Refusal>
-    requires size_value { size ≡ width (table_of each.now) }
-    requires each_in_bounds { slot + width (list_of (table_of each.now)) ≤ length slots.old }
-    ensures { let f = list_of (table_of each.now) in
+    requires each_in_bounds { slot + width (list_of (table_of list.each.now)) ≤ length slots.old }
+    ensures { let f = list_of (table_of list.entry.each.now) in
         ReadsTo f s.now at slots.old slot slots.new result }
 {
     let (count, mut next) = read_number(s, at).ok_or(Refusal::Cut)?;
@@ -34,28 +32,31 @@ fn read_list(
     slots[slot] = count;
     let mut place = slot + 1;
     for _ in 0..count {
-        next = read_table(s, next, each, slots, place)?;
-        place += size;
+        next = read_table(s, next, list.each, slots, place)?;
+        place += list.size;
     }
-    fill(slots, place, slot + 1 + LIST_PLACES * size);
+    fill(slots, place, slot + 1 + LIST_PLACES * list.size);
     Ok(next)
 }
 
-// A list, and the fields that follow it. `size` is how many slots an item has.
+// A list, and the fields that follow it.
 pub fn read_listed(
     s: &[u8],
     at: usize,
-    each: &[FieldType],
-    size: usize,
-    last: &[FieldType],
+    list: Listed,
     slots: &mut [u64],
     slot: usize,
 ) -> Result<usize, Refusal>
-    requires size_value { size ≡ width (table_of each.now) }
-    requires last_in_bounds { slot + width (list_of (table_of each.now) then table_of last.now) ≤ length slots.old }
-    ensures { let f = list_of (table_of each.now) then table_of last.now in
+    requires last_in_bounds { slot + width (list_of (table_of list.each.now) then table_of list.last.now) ≤ length slots.old }
+    ensures { let f = list_of (table_of list.entry.each.now) then table_of list.entry.last.now in
         ReadsTo f s.now at slots.old slot slots.new result }
 {
-    let next = read_list(s, at, each, size, slots, slot)?;
-    read_table(s, next, last, slots, slot + 1 + LIST_PLACES * size)
+    let next = read_list(s, at, list, slots, slot)?;
+    read_table(
+        s,
+        next,
+        list.last,
+        slots,
+        slot + 1 + LIST_PLACES * list.size,
+    )
 }

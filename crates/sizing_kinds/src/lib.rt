@@ -1,26 +1,25 @@
 // What the fields of a kind of entry leave of the room of an output.
 #![tactic(auto)]
 
-ghost use Rattle.std.specs.Prelude.{◌≡◌, ◌≤◌, length};
+ghost use Rattle.std.specs.Prelude.{◌≡◌};
 ghost use Rattle.fields.specs.Writing.{room_in};
 ghost use Rattle.entries.specs.Kinds.{fields_of};
-ghost use Rattle.entries.specs.Slots.{entry_slots};
 
+use entries::ENTRY_SLOTS;
 use entries::kind::Kind;
 use fields::room::Unfit;
 use reading_kinds::tables::{
-    ADD_IPSEC, AFTER_RULES, CHECK_RESPONSE, CLONE, CLOSE_IKE, CLOSE_IPSEC, DELETION_MARK,
-    OPEN_BOTH, REQUEST, RULE, RULE_SLOTS,
+    ADD_IPSEC, CHECK_RESPONSE, CLONE, CLOSE_IKE, CLOSE_IPSEC, DELETION_MARK, OPEN_BOTH, POLICY,
+    REQUEST,
 };
 use sizing_tables::{listed_room, table_room};
 
 pub fn fields_room(
     kind: Kind,
-    slots: &[u64],
+    slots: &[u64; ENTRY_SLOTS],
     source: &[u8],
     room: Result<usize, Unfit>,
 ) -> Result<usize, Unfit>
-    requires { entry_slots ≤ length slots.now }
     ensures { result ≡ room_in (fields_of kind) source.now slots.now room }
 {
     match kind {
@@ -29,7 +28,7 @@ pub fn fields_room(
         Kind::CloseIke => table_room(&CLOSE_IKE, slots, 0, source, room),
         Kind::CloseIpsec => table_room(&CLOSE_IPSEC, slots, 0, source, room),
         Kind::Request => table_room(&REQUEST, slots, 0, source, room),
-        Kind::Policy => listed_room(&RULE, RULE_SLOTS, &AFTER_RULES, slots, 0, source, room),
+        Kind::Policy => listed_room(POLICY, slots, 0, source, room),
         Kind::CheckResponse => table_room(&CHECK_RESPONSE, slots, 0, source, room),
         Kind::Clone => table_room(&CLONE, slots, 0, source, room),
         Kind::MarkDeletion => table_room(&DELETION_MARK, slots, 0, source, room),

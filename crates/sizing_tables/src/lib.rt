@@ -9,6 +9,7 @@ ghost use Rattle.fields.specs.Codes.{table_of};
 ghost use Rattle.fields.specs.Writing.{room_in};
 
 use fields::field_type::{FieldType, LIST_MOST, LIST_PLACES};
+use fields::listed::Listed;
 use fields::room::{Unfit, less_by};
 use leb128::number_size;
 use sizing_fields::field_room;
@@ -34,18 +35,16 @@ pub fn table_room(
     left
 }
 
-// A list. `size` is how many slots an item has.
+// A list.
 fn list_room(
-    each: &[FieldType],
-    size: usize,
+    list: Listed,
     slots: &[u64],
     slot: usize,
     source: &[u8],
     room: Result<usize, Unfit>,
 ) -> Result<usize, Unfit>
-    requires size_value { size ≡ width (table_of each.now) }
-    requires each_in_bounds { slot + width (list_of (table_of each.now)) ≤ length slots.now }
-    ensures { let f = list_of (table_of each.now) in
+    requires each_in_bounds { slot + width (list_of (table_of list.each.now)) ≤ length slots.now }
+    ensures { let f = list_of (table_of list.entry.each.now) in
         result ≡ room_in f source.now (drop slot slots.now) room }
 {
     let count = slots[slot];
@@ -55,27 +54,30 @@ fn list_room(
     let mut left = less_by(number_size(count), room);
     let mut place = slot + 1;
     for _ in 0..count {
-        left = table_room(each, slots, place, source, left);
-        place += size;
+        left = table_room(list.each, slots, place, source, left);
+        place += list.size;
     }
     left
 }
 
-// A list, and the fields that follow it. `size` is how many slots an item has.
+// A list, and the fields that follow it.
 pub fn listed_room(
-    each: &[FieldType],
-    size: usize,
-    last: &[FieldType],
+    list: Listed,
     slots: &[u64],
     slot: usize,
     source: &[u8],
     room: Result<usize, Unfit>,
 ) -> Result<usize, Unfit>
-    requires size_value { size ≡ width (table_of each.now) }
-    requires last_in_bounds { slot + width (list_of (table_of each.now) then table_of last.now) ≤ length slots.now }
-    ensures { let f = list_of (table_of each.now) then table_of last.now in
+    requires last_in_bounds { slot + width (list_of (table_of list.each.now) then table_of list.last.now) ≤ length slots.now }
+    ensures { let f = list_of (table_of list.entry.each.now) then table_of list.entry.last.now in
         result ≡ room_in f source.now (drop slot slots.now) room }
 {
-    let left = list_room(each, size, slots, slot, source, room);
-    table_room(last, slots, slot + 1 + LIST_PLACES * size, source, left)
+    let left = list_room(list, slots, slot, source, room);
+    table_room(
+        list.last,
+        slots,
+        slot + 1 + LIST_PLACES * list.size,
+        source,
+        left,
+    )
 }

@@ -6,14 +6,21 @@ ghost use Rattle.fields.specs.Codes.{Ready, Puts};
 ghost use Rattle.fields.specs.Writing.{octets_in};
 ghost use Rattle.entries.specs.Kinds.{fields_of};
 
+use entries::ENTRY_SLOTS;
 use entries::kind::Kind;
 use reading_kinds::tables::{
-    ADD_IPSEC, AFTER_RULES, CHECK_RESPONSE, CLONE, CLOSE_IKE, CLOSE_IPSEC, DELETION_MARK,
-    OPEN_BOTH, REQUEST, RULE, RULE_SLOTS,
+    ADD_IPSEC, CHECK_RESPONSE, CLONE, CLOSE_IKE, CLOSE_IPSEC, DELETION_MARK, OPEN_BOTH, POLICY,
+    REQUEST,
 };
 use writing_tables::{put_listed, put_table};
 
-pub fn put_fields(out: &mut [u8], at: usize, kind: Kind, slots: &[u64], source: &[u8]) -> usize
+pub fn put_fields(
+    out: &mut [u8],
+    at: usize,
+    kind: Kind,
+    slots: &[u64; ENTRY_SLOTS],
+    source: &[u8],
+) -> usize
     requires { Ready (fields_of kind) source.now slots.now 0 out.old at }
     ensures { let octets = octets_in (fields_of kind) source.now slots.now in
         Puts octets out.old at out.new result }
@@ -24,7 +31,7 @@ pub fn put_fields(out: &mut [u8], at: usize, kind: Kind, slots: &[u64], source: 
         Kind::CloseIke => put_table(out, at, &CLOSE_IKE, slots, 0, source),
         Kind::CloseIpsec => put_table(out, at, &CLOSE_IPSEC, slots, 0, source),
         Kind::Request => put_table(out, at, &REQUEST, slots, 0, source),
-        Kind::Policy => put_listed(out, at, &RULE, RULE_SLOTS, &AFTER_RULES, slots, 0, source),
+        Kind::Policy => put_listed(out, at, POLICY, slots, 0, source),
         Kind::CheckResponse => put_table(out, at, &CHECK_RESPONSE, slots, 0, source),
         Kind::Clone => put_table(out, at, &CLONE, slots, 0, source),
         Kind::MarkDeletion => put_table(out, at, &DELETION_MARK, slots, 0, source),

@@ -8,6 +8,7 @@ ghost use Rattle.fields.specs.Codes.{table_of, Ready, Puts};
 ghost use Rattle.fields.specs.Writing.{octets_in};
 
 use fields::field_type::{FieldType, LIST_PLACES};
+use fields::listed::Listed;
 use leb128::put_number;
 use writing_fields::put_field;
 
@@ -33,19 +34,17 @@ pub fn put_table(
     next
 }
 
-// A list. `size` is how many slots an item has.
+// A list.
 fn put_list(
     out: &mut [u8],
     at: usize,
-    each: &[FieldType],
-    size: usize,
+    list: Listed,
     slots: &[u64],
     slot: usize,
     source: &[u8],
 ) -> usize
-    requires size_value { size ≡ width (table_of each.now) }
-    requires ready { Ready (list_of (table_of each.now)) source.now slots.now slot out.old at }
-    ensures { let f = list_of (table_of each.now) in
+    requires ready { Ready (list_of (table_of list.each.now)) source.now slots.now slot out.old at }
+    ensures { let f = list_of (table_of list.entry.each.now) in
         let octets = octets_in f source.now (drop slot slots.now) in
         Puts octets out.old at out.new result }
 {
@@ -53,31 +52,28 @@ fn put_list(
     let mut next = put_number(out, at, count);
     let mut place = slot + 1;
     for _ in 0..count {
-        next = put_table(out, next, each, slots, place, source);
-        place += size;
+        next = put_table(out, next, list.each, slots, place, source);
+        place += list.size;
     }
     next
 }
 
-// A list, and the fields that follow it. `size` is how many slots an item has.
+// A list, and the fields that follow it.
 pub fn put_listed(
     out: &mut [u8],
     at: usize,
-    each: &[FieldType],
-    size: usize,
-    last: &[FieldType],
+    list: Listed,
     slots: &[u64],
     slot: usize,
     source: &[u8],
 ) -> usize
-    requires size_value { size ≡ width (table_of each.now) }
-    requires ready { let f = list_of (table_of each.now) then table_of last.now in
+    requires ready { let f = list_of (table_of list.each.now) then table_of list.last.now in
         Ready f source.now slots.now slot out.old at }
-    ensures { let f = list_of (table_of each.now) then table_of last.now in
+    ensures { let f = list_of (table_of list.entry.each.now) then table_of list.entry.last.now in
         let octets = octets_in f source.now (drop slot slots.now) in
         Puts octets out.old at out.new result }
 {
-    let next = put_list(out, at, each, size, slots, slot, source);
-    let place = slot + 1 + LIST_PLACES * size;
-    put_table(out, next, last, slots, place, source)
+    let next = put_list(out, at, list, slots, slot, source);
+    let place = slot + 1 + LIST_PLACES * list.size;
+    put_table(out, next, list.last, slots, place, source)
 }

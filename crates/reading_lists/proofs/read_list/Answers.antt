@@ -25,20 +25,20 @@ returns-in_err-count c =
     let n = c.in_err-count.ensures in
     let q = rw n.ok_part at n.value in
     let x : c.in_err-count.field-0.0 ≡ Cut = cc in
-    rw (p.1, p.2, x) (list_bad _ _ _ _ (table_of c.args.each.now) (sym c.read_number.ensures.value ∙ n.ok_part))
+    rw (p.1, p.2, x) (list_bad _ _ _ _ (table_of c.args.list.each.now) (sym c.read_number.ensures.value ∙ n.ok_part))
 
 -- too many
 pub returns-then-count-gt-LIST_MOST : goal.returns-then-count-gt-LIST_MOST
 returns-then-count-gt-LIST_MOST c =
     let r = c.in_ok-count.ensures.ok_part in
-    list_large _ _ _ _ (table_of c.args.each.now) _ _ (sym c.read_number.ensures.value ∙ r)
+    list_large _ _ _ _ (table_of c.args.list.each.now) _ _ (sym c.read_number.ensures.value ∙ r)
     c.if-count-gt-LIST_MOST.true
 
 -- the items
 pub loop-init : goal.loop-init
 loop-init c =
     let a = c.args in
-    let f = table_of a.each.now in
+    let f = table_of a.list.each.now in
     let n = c.read_number.ensures.within in
     let k = c.in_ok-count.count in
     let z : k - 0 ≡ k = omega arith in
@@ -55,14 +55,14 @@ pub read_table-requires : goal.read_table-requires
 read_table-requires c =
     let l = c.loop in
     let here : l.counter < c.in_ok-count.count = omega arith in
-    let w = rw (many_next c.in_ok-count.count l.counter (table_of c.args.each.now) here) at l.invariant.room in
+    let w = rw (many_next c.in_ok-count.count l.counter (table_of c.args.list.each.now) here) at l.invariant.room in
     (l.invariant.inside, omega arith)
 
 pub returns-in_err-next : goal.returns-in_err-next
 returns-in_err-next c =
     let a = c.args in
     let l = c.loop in
-    let f = table_of a.each.now in
+    let f = table_of a.list.each.now in
     let here : l.counter < c.in_ok-count.count = omega arith in
     let r = c.in_ok-count.ensures.ok_part in
     let p = err_from_is_err_and c.from_residual-in_err-next.result c.from_residual-in_err-next.ensures.1 in
@@ -77,14 +77,14 @@ pub loop-preserved : goal.loop-preserved
 loop-preserved c =
     let a = c.args in
     let l = c.loop in
-    let f = table_of a.each.now in
+    let f = table_of a.list.each.now in
     let here : l.counter < c.in_ok-count.count = omega arith in
     let e = many_next c.in_ok-count.count l.counter f here in
     let w = rw e at l.invariant.room in
-    let s = c.requires.size_value in
+    let s = c.args.list.size_value in
     record {
       inside = c.in_ok-next.ensures.within;
-      here = omega (arith, l.invariant.here, item_more l.counter a.size);
+      here = omega (arith, l.invariant.here, item_more l.counter a.list.size);
       room = omega (arith, c.read_table.auto.slots, s);
       sized = c.read_table.auto.slots ∙ l.invariant.sized;
       whole = λ left r h. l.invariant.whole left r
@@ -95,17 +95,17 @@ loop-preserved c =
 pub fill-requires : goal.fill-requires
 fill-requires c =
     let l = c.loop in
-    let m = at_most l.counter list_most c.args.size (omega arith) in (
+    let m = at_most l.counter list_most c.args.list.size (omega arith) in (
       omega (arith, m, l.invariant.here),
-      omega (arith, c.requires.each_in_bounds, c.requires.size_value, l.invariant.sized),
+      omega (arith, c.requires.each_in_bounds, c.args.list.size_value, l.invariant.sized),
     )
 
 pub returns : goal.returns
 returns c =
     let a = c.args in
     let l = c.loop in
-    let f = table_of a.each.now in
-    let s = c.requires.size_value in
+    let f = table_of a.list.each.now in
+    let s = c.args.list.size_value in
     let z : c.in_ok-count.count - l.counter ≡ 0 = omega arith in
     let all : l.counter ≡ c.in_ok-count.count = omega arith in
     let r = c.in_ok-count.ensures.ok_part in

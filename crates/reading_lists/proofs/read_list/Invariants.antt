@@ -10,10 +10,10 @@ abbrev pub invariant-loop : goal.invariant-loop
 invariant-loop l =
     record {
       inside : l.next ≤ length l.s;
-      here : l.place ≡ l.slot + 1 + l.counter * l.size;
-      room : l.place + width (many (l.count - l.counter) (table_of l.each)) ≤ length l.slots;
+      here : l.place ≡ l.slot + 1 + l.counter * l.list.size;
+      room : l.place + width (many (l.count - l.counter) (table_of l.list.each.now)) ≤ length l.slots;
       sized : length l.slots ≡ length l.fn.slots;
       whole : (left : List ℕ) (r : Result ℕ Refusal)
-          → ReadsTo (many (l.count - l.counter) (table_of l.each)) l.s l.next l.slots l.place left r
-          → ReadsTo (many l.count (table_of l.each)) l.s l.initial.next l.initial.slots (l.slot + 1) left r;
+          → ReadsTo (many (l.count - l.counter) (table_of l.list.each.now)) l.s l.next l.slots l.place left r
+          → ReadsTo (many l.count (table_of l.list.each.now)) l.s l.initial.next l.initial.slots (l.slot + 1) left r;
     }

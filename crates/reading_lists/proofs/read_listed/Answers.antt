@@ -10,7 +10,7 @@ use Rattle.reading_lists.proofs.read_listed.Goals as goal
 pub returns : goal.returns
 returns c =
     let a = c.args in
-    let e : a.slot + 1 + list_most * a.size ≡ a.slot + width (list_of (table_of a.each.now)) = omega arith in
+    let e : a.slot + 1 + list_most * a.list.size ≡ a.slot + width (list_of (table_of a.list.each.now)) = omega arith in
     then_read _ _ a.s.now a.at a.slots.now a.slot _ _ _ _ c.requires.last_in_bounds c.in_ok-next.ensures
     (rw e at c.read_table.ensures)
 

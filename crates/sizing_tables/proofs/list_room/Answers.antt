@@ -12,13 +12,13 @@ use Rattle.sizing_tables.proofs.list_room.Goals as goal
 pub returns-then-count-gt-LIST_MOST : goal.returns-then-count-gt-LIST_MOST
 returns-then-count-gt-LIST_MOST c =
     let a = c.args in
-    copies.list_large (table_of a.each.now) a.source.now a.slots.now a.slot a.room c.if-count-gt-LIST_MOST.true
+    copies.list_large (table_of a.list.each.now) a.source.now a.slots.now a.slot a.room c.if-count-gt-LIST_MOST.true
 
 pub loop-init : goal.loop-init
 loop-init c =
     let a = c.args in
     let k = get_or a.slots.now a.slot 0 in
-    let f = table_of a.each.now in
+    let f = table_of a.list.each.now in
     let z : k - 0 ≡ k = omega arith in
     let m = mul-le-mul_right (width f) c.if-count-gt-LIST_MOST.false in
     record { told = rw (z, width_many f k) (omega (arith, m, c.requires.each_in_bounds)); whole = rw z }
@@ -28,7 +28,7 @@ table_room-left-requires c =
     let l = c.loop in
     let k = get_or c.args.slots.now c.args.slot 0 in
     let here : l.counter < k = omega arith in
-    let w = rw (many_next k l.counter (table_of c.args.each.now) here) at l.invariant.told in
+    let w = rw (many_next k l.counter (table_of c.args.list.each.now) here) at l.invariant.told in
     omega arith
 
 pub loop-preserved : goal.loop-preserved
@@ -36,11 +36,11 @@ loop-preserved c =
     let a = c.args in
     let l = c.loop in
     let k = get_or a.slots.now a.slot 0 in
-    let f = table_of a.each.now in
+    let f = table_of a.list.each.now in
     let here : l.counter < k = omega arith in
     let e = many_next k l.counter f here in
     let w = rw e at l.invariant.told in
-    let s = c.requires.size_value in
+    let s = c.args.list.size_value in
     record {
       told = omega (arith, s);
       whole = rw (s, c.table_room-left.ensures, ← drop-drop (width f) l.place a.slots.now)
@@ -57,4 +57,4 @@ returns c =
     none_room a.source.now (drop l.place a.slots.now) l.left
     ∙ (rw z at l.invariant.whole)
     ∙ rw (c.less_by-left.ensures, c.number_size.ensures)
-    (copies.list_room (table_of a.each.now) a.source.now a.slots.now a.slot a.room c.if-count-gt-LIST_MOST.false)
+    (copies.list_room (table_of a.list.each.now) a.source.now a.slots.now a.slot a.room c.if-count-gt-LIST_MOST.false)

@@ -10,8 +10,8 @@ use Rattle.sizing_tables.proofs.listed_room.Goals as goal
 pub returns : goal.returns
 returns c =
     let a = c.args in
-    let f = list_of (table_of a.each.now) in
-    let e : a.slot + 1 + list_most * a.size ≡ a.slot + width f = omega arith in
+    let f = list_of (table_of a.list.each.now) in
+    let e : a.slot + 1 + list_most * a.list.size ≡ a.slot + width f = omega arith in
     c.table_room.ensures
     ∙ rw (e, c.list_room-left.ensures, ← drop-drop (width f) a.slot a.slots.now)
-    (then_room f (table_of a.last.now) a.source.now (drop a.slot a.slots.now) a.room)
+    (then_room f (table_of a.list.last.now) a.source.now (drop a.slot a.slots.now) a.room)

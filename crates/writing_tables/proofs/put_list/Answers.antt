@@ -11,12 +11,12 @@ use Rattle.writing_tables.proofs.put_list.Goals as goal
 pub put_number-next-requires : goal.put_number-next-requires
 put_number-next-requires c =
     let a = c.args in
-    omega (arith, list_room (table_of a.each.now) a.source.now a.slots.now a.slot a.out.now a.at c.requires.ready)
+    omega (arith, list_room (table_of a.list.each.now) a.source.now a.slots.now a.slot a.out.now a.at c.requires.ready)
 
 pub loop-init : goal.loop-init
 loop-init c =
     let a = c.args in
-    let f = table_of a.each.now in
+    let f = table_of a.list.each.now in
     let k = get_or a.slots.now a.slot 0 in
     let z : k - 0 ≡ k = omega arith in
     let q = c.requires.ready in
@@ -34,7 +34,7 @@ put_table-next-requires c =
     let l = c.loop in
     let k = get_or a.slots.now a.slot 0 in
     let here : l.counter < k = omega arith in
-    let e = many_next k l.counter (table_of a.each.now) here in
+    let e = many_next k l.counter (table_of a.list.each.now) here in
     first_ready _ _ a.source.now a.slots.now l.place l.out l.next (rw e at l.invariant.ready)
 
 pub loop-preserved : goal.loop-preserved
@@ -43,9 +43,9 @@ loop-preserved c =
     let l = c.loop in
     let k = get_or a.slots.now a.slot 0 in
     let here : l.counter < k = omega arith in
-    let e = many_next k l.counter (table_of a.each.now) here in
+    let e = many_next k l.counter (table_of a.list.each.now) here in
     let p = rw e at l.invariant.ready in
-    let s = c.requires.size_value in
+    let s = c.args.list.size_value in
     record {
       ready = rw s (rest_ready _ _ a.source.now a.slots.now l.place l.out l.next p _ _ c.put_table-next.ensures);
       whole = λ left r h. l.invariant.whole left r
@@ -61,6 +61,6 @@ returns c =
     let k = get_or a.slots.now a.slot 0 in
     let z : k - l.counter ≡ 0 = omega arith in
     let p = c.put_number-next.ensures in
-    list_put (table_of a.each.now) a.source.now a.slots.now a.slot a.out.now a.at c.requires.ready _ _ _ _
+    list_put (table_of a.list.each.now) a.source.now a.slots.now a.slot a.out.now a.at c.requires.ready _ _ _ _
     (record { place = p.value; written = p.out_after })
     (l.invariant.whole _ _ (rw z (puts_none l.out l.next)))
