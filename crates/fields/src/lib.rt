@@ -3,6 +3,7 @@
 #![tactic(auto)]
 
 pub mod field_type;
+pub mod lent_values;
 pub mod listed;
 pub mod refusal;
 pub mod room;

@@ -1,4 +1,6 @@
 // One field, read at an offset of a lent buffer. What is read goes to lent slots, from `slot` on.
+// (The buffer, its offset, the slots and theirs stay four parameters: both offsets go on with each field and the slots are
+// changed, so a struct of them would be taken apart in each function.)
 #![tactic(auto)]
 
 pub mod filling;

@@ -10,6 +10,7 @@ ghost use Rattle.fields.specs.Codes.{field_of};
 ghost use Rattle.fields.specs.Writing.{room_in};
 
 use fields::field_type::{FieldType, STRING_MOST};
+use fields::lent_values::LentValues;
 use fields::room::{Unfit, less_by};
 use leb128::number_size;
 use octets::limits::ADDRESS_OCTETS;
@@ -24,50 +25,43 @@ fn lies_within(length: usize, offset: u64, size: u64) -> bool
 // A number of at most `most`.
 fn number_room(
     most: u64,
-    slots: &[u64],
+    values: LentValues,
     slot: usize,
-    source: &[u8],
     room: Result<usize, Unfit>,
 ) -> Result<usize, Unfit>
-    requires { slot + 1 ≤ length slots.now }
-    ensures { result ≡ room_in (up_to most) source.now (drop slot slots.now) room }
+    requires { slot + 1 ≤ length values.slots.now }
+    ensures { result ≡ room_in (up_to most) values.entry.source.now (drop slot values.entry.slots.now) room }
 {
-    let v = slots[slot];
+    let v = values.slots[slot];
     if v > most {
         return Err(Unfit::TooLarge);
     }
     less_by(number_size(v), room)
 }
 
-fn address_room(
-    slots: &[u64],
-    slot: usize,
-    source: &[u8],
-    room: Result<usize, Unfit>,
-) -> Result<usize, Unfit>
-    requires { slot + 1 ≤ length slots.now }
-    ensures { result ≡ room_in address source.now (drop slot slots.now) room }
+fn address_room(values: LentValues, slot: usize, room: Result<usize, Unfit>) -> Result<usize, Unfit>
+    requires { slot + 1 ≤ length values.slots.now }
+    ensures { result ≡ room_in address values.entry.source.now (drop slot values.entry.slots.now) room }
 {
-    if lies_within(source.len(), slots[slot], ADDRESS_OCTETS as u64) {
+    if lies_within(
+        values.source.len(),
+        values.slots[slot],
+        ADDRESS_OCTETS as u64,
+    ) {
         return less_by(ADDRESS_OCTETS, room);
     }
     Err(Unfit::TooLarge)
 }
 
-fn string_room(
-    slots: &[u64],
-    slot: usize,
-    source: &[u8],
-    room: Result<usize, Unfit>,
-) -> Result<usize, Unfit>
-    requires { slot + 2 ≤ length slots.now }
-    ensures { result ≡ room_in string source.now (drop slot slots.now) room }
+fn string_room(values: LentValues, slot: usize, room: Result<usize, Unfit>) -> Result<usize, Unfit>
+    requires { slot + 2 ≤ length values.slots.now }
+    ensures { result ≡ room_in string values.entry.source.now (drop slot values.entry.slots.now) room }
 {
-    let size = slots[slot + 1];
+    let size = values.slots[slot + 1];
     if size > STRING_MOST {
         return Err(Unfit::TooLarge);
     }
-    if lies_within(source.len(), slots[slot], size) {
+    if lies_within(values.source.len(), values.slots[slot], size) {
         return less_by(number_size(size) + size as usize, room);
     }
     Err(Unfit::TooLarge)
@@ -76,17 +70,16 @@ fn string_room(
 // One field.
 pub fn field_room(
     field: FieldType,
-    slots: &[u64],
+    values: LentValues,
     slot: usize,
-    source: &[u8],
     room: Result<usize, Unfit>,
 ) -> Result<usize, Unfit>
-    requires { slot + width (field_of field) ≤ length slots.now }
-    ensures { result ≡ room_in (field_of field) source.now (drop slot slots.now) room }
+    requires { slot + width (field_of field) ≤ length values.slots.now }
+    ensures { result ≡ room_in (field_of field) values.entry.source.now (drop slot values.entry.slots.now) room }
 {
     match field {
-        FieldType::Number(most) => number_room(most, slots, slot, source, room),
-        FieldType::Address => address_room(slots, slot, source, room),
-        FieldType::OctetString => string_room(slots, slot, source, room),
+        FieldType::Number(most) => number_room(most, values, slot, room),
+        FieldType::Address => address_room(values, slot, room),
+        FieldType::OctetString => string_room(values, slot, room),
     }
 }

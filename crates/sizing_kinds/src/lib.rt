@@ -7,6 +7,7 @@ ghost use Rattle.entries.specs.Kinds.{fields_of};
 
 use entries::ENTRY_SLOTS;
 use entries::kind::Kind;
+use fields::lent_values::LentValues;
 use fields::room::Unfit;
 use reading_kinds::tables::{
     ADD_IPSEC, CHECK_RESPONSE, CLONE, CLOSE_IKE, CLOSE_IPSEC, DELETION_MARK, OPEN_BOTH, POLICY,
@@ -22,15 +23,16 @@ pub fn fields_room(
 ) -> Result<usize, Unfit>
     ensures { result ≡ room_in (fields_of kind) source.now slots.now room }
 {
+    let values = LentValues { slots, source };
     match kind {
-        Kind::OpenBoth => table_room(&OPEN_BOTH, slots, 0, source, room),
-        Kind::AddIpsec => table_room(&ADD_IPSEC, slots, 0, source, room),
-        Kind::CloseIke => table_room(&CLOSE_IKE, slots, 0, source, room),
-        Kind::CloseIpsec => table_room(&CLOSE_IPSEC, slots, 0, source, room),
-        Kind::Request => table_room(&REQUEST, slots, 0, source, room),
-        Kind::Policy => listed_room(POLICY, slots, 0, source, room),
-        Kind::CheckResponse => table_room(&CHECK_RESPONSE, slots, 0, source, room),
-        Kind::Clone => table_room(&CLONE, slots, 0, source, room),
-        Kind::MarkDeletion => table_room(&DELETION_MARK, slots, 0, source, room),
+        Kind::OpenBoth => table_room(&OPEN_BOTH, values, 0, room),
+        Kind::AddIpsec => table_room(&ADD_IPSEC, values, 0, room),
+        Kind::CloseIke => table_room(&CLOSE_IKE, values, 0, room),
+        Kind::CloseIpsec => table_room(&CLOSE_IPSEC, values, 0, room),
+        Kind::Request => table_room(&REQUEST, values, 0, room),
+        Kind::Policy => listed_room(POLICY, values, 0, room),
+        Kind::CheckResponse => table_room(&CHECK_RESPONSE, values, 0, room),
+        Kind::Clone => table_room(&CLONE, values, 0, room),
+        Kind::MarkDeletion => table_room(&DELETION_MARK, values, 0, room),
     }
 }

@@ -9,6 +9,7 @@ ghost use Rattle.fields.specs.Codes.{table_of};
 ghost use Rattle.fields.specs.Writing.{room_in};
 
 use fields::field_type::{FieldType, LIST_MOST, LIST_PLACES};
+use fields::lent_values::LentValues;
 use fields::listed::Listed;
 use fields::room::{Unfit, less_by};
 use leb128::number_size;
@@ -17,19 +18,18 @@ use sizing_fields::field_room;
 // A whole table.
 pub fn table_room(
     table: &[FieldType],
-    slots: &[u64],
+    values: LentValues,
     slot: usize,
-    source: &[u8],
     room: Result<usize, Unfit>,
 ) -> Result<usize, Unfit>
-    requires { slot + width (table_of table.now) ≤ length slots.now }
+    requires { slot + width (table_of table.now) ≤ length values.slots.now }
     ensures { let f = table_of table.now in
-        result ≡ room_in f source.now (drop slot slots.now) room }
+        result ≡ room_in f values.entry.source.now (drop slot values.entry.slots.now) room }
 {
     let mut left = room;
     let mut place = slot;
     for field in table {
-        left = field_room(*field, slots, place, source, left);
+        left = field_room(*field, values, place, left);
         place += field.width();
     }
     left
@@ -38,23 +38,22 @@ pub fn table_room(
 // A list.
 fn list_room(
     list: Listed,
-    slots: &[u64],
+    values: LentValues,
     slot: usize,
-    source: &[u8],
     room: Result<usize, Unfit>,
 ) -> Result<usize, Unfit>
-    requires each_in_bounds { slot + width (list_of (table_of list.each.now)) ≤ length slots.now }
+    requires each_in_bounds { slot + width (list_of (table_of list.each.now)) ≤ length values.slots.now }
     ensures { let f = list_of (table_of list.entry.each.now) in
-        result ≡ room_in f source.now (drop slot slots.now) room }
+        result ≡ room_in f values.entry.source.now (drop slot values.entry.slots.now) room }
 {
-    let count = slots[slot];
+    let count = values.slots[slot];
     if count > LIST_MOST {
         return Err(Unfit::TooLarge);
     }
     let mut left = less_by(number_size(count), room);
     let mut place = slot + 1;
     for _ in 0..count {
-        left = table_room(list.each, slots, place, source, left);
+        left = table_room(list.each, values, place, left);
         place += list.size;
     }
     left
@@ -63,21 +62,16 @@ fn list_room(
 // A list, and the fields that follow it.
 pub fn listed_room(
     list: Listed,
-    slots: &[u64],
+    values: LentValues,
     slot: usize,
-    source: &[u8],
     room: Result<usize, Unfit>,
 ) -> Result<usize, Unfit>
-    requires last_in_bounds { slot + width (list_of (table_of list.each.now) then table_of list.last.now) ≤ length slots.now }
+    requires last_in_bounds { let f = list_of (table_of list.each.now) then table_of list.last.now in
+        slot + width f ≤ length values.slots.now }
     ensures { let f = list_of (table_of list.entry.each.now) then table_of list.entry.last.now in
-        result ≡ room_in f source.now (drop slot slots.now) room }
+        result ≡ room_in f values.entry.source.now (drop slot values.entry.slots.now) room }
 {
-    let left = list_room(list, slots, slot, source, room);
-    table_room(
-        list.last,
-        slots,
-        slot + 1 + LIST_PLACES * list.size,
-        source,
-        left,
-    )
+    let left = list_room(list, values, slot, room);
+    let place = slot + 1 + LIST_PLACES * list.size;
+    table_room(list.last, values, place, left)
 }

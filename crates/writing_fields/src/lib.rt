@@ -6,6 +6,7 @@ ghost use Rattle.fields.specs.Codes.{field_of, Ready, Puts};
 ghost use Rattle.fields.specs.Writing.{octets_in};
 
 use fields::field_type::FieldType;
+use fields::lent_values::LentValues;
 use leb128::put_number;
 use octets::limits::ADDRESS_OCTETS;
 use writing::copy_octets;
@@ -27,21 +28,20 @@ pub fn put_field(
     out: &mut [u8],
     at: usize,
     field: FieldType,
-    slots: &[u64],
+    values: LentValues,
     slot: usize,
-    source: &[u8],
 ) -> usize
-    requires { Ready (field_of field) source.now slots.now slot out.old at }
-    ensures { let octets = octets_in (field_of field) source.now (drop slot slots.now) in
+    requires { Ready (field_of field) values.source.now values.slots.now slot out.old at }
+    ensures { let octets = octets_in (field_of field) values.entry.source.now (drop slot values.entry.slots.now) in
         Puts octets out.old at out.new result }
 {
     match field {
-        FieldType::Number(_) => put_number(out, at, slots[slot]),
-        FieldType::Address => put_part(out, at, source, slots[slot], ADDRESS_OCTETS),
+        FieldType::Number(_) => put_number(out, at, values.slots[slot]),
+        FieldType::Address => put_part(out, at, values.source, values.slots[slot], ADDRESS_OCTETS),
         FieldType::OctetString => {
-            let size = slots[slot + 1];
+            let size = values.slots[slot + 1];
             let next = put_number(out, at, size);
-            put_part(out, next, source, slots[slot], size as usize)
+            put_part(out, next, values.source, values.slots[slot], size as usize)
         }
     }
 }

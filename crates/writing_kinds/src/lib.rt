@@ -8,6 +8,7 @@ ghost use Rattle.entries.specs.Kinds.{fields_of};
 
 use entries::ENTRY_SLOTS;
 use entries::kind::Kind;
+use fields::lent_values::LentValues;
 use reading_kinds::tables::{
     ADD_IPSEC, CHECK_RESPONSE, CLONE, CLOSE_IKE, CLOSE_IPSEC, DELETION_MARK, OPEN_BOTH, POLICY,
     REQUEST,
@@ -25,15 +26,16 @@ pub fn put_fields(
     ensures { let octets = octets_in (fields_of kind) source.now slots.now in
         Puts octets out.old at out.new result }
 {
+    let values = LentValues { slots, source };
     match kind {
-        Kind::OpenBoth => put_table(out, at, &OPEN_BOTH, slots, 0, source),
-        Kind::AddIpsec => put_table(out, at, &ADD_IPSEC, slots, 0, source),
-        Kind::CloseIke => put_table(out, at, &CLOSE_IKE, slots, 0, source),
-        Kind::CloseIpsec => put_table(out, at, &CLOSE_IPSEC, slots, 0, source),
-        Kind::Request => put_table(out, at, &REQUEST, slots, 0, source),
-        Kind::Policy => put_listed(out, at, POLICY, slots, 0, source),
-        Kind::CheckResponse => put_table(out, at, &CHECK_RESPONSE, slots, 0, source),
-        Kind::Clone => put_table(out, at, &CLONE, slots, 0, source),
-        Kind::MarkDeletion => put_table(out, at, &DELETION_MARK, slots, 0, source),
+        Kind::OpenBoth => put_table(out, at, &OPEN_BOTH, values, 0),
+        Kind::AddIpsec => put_table(out, at, &ADD_IPSEC, values, 0),
+        Kind::CloseIke => put_table(out, at, &CLOSE_IKE, values, 0),
+        Kind::CloseIpsec => put_table(out, at, &CLOSE_IPSEC, values, 0),
+        Kind::Request => put_table(out, at, &REQUEST, values, 0),
+        Kind::Policy => put_listed(out, at, POLICY, values, 0),
+        Kind::CheckResponse => put_table(out, at, &CHECK_RESPONSE, values, 0),
+        Kind::Clone => put_table(out, at, &CLONE, values, 0),
+        Kind::MarkDeletion => put_table(out, at, &DELETION_MARK, values, 0),
     }
 }

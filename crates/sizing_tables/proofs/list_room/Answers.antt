@@ -12,12 +12,12 @@ use Rattle.sizing_tables.proofs.list_room.Goals as goal
 pub returns-then-count-gt-LIST_MOST : goal.returns-then-count-gt-LIST_MOST
 returns-then-count-gt-LIST_MOST c =
     let a = c.args in
-    copies.list_large (table_of a.list.each.now) a.source.now a.slots.now a.slot a.room c.if-count-gt-LIST_MOST.true
+    copies.list_large (table_of a.list.each.now) a.values.source.now a.values.slots.now a.slot a.room c.if-count-gt-LIST_MOST.true
 
 pub loop-init : goal.loop-init
 loop-init c =
     let a = c.args in
-    let k = get_or a.slots.now a.slot 0 in
+    let k = get_or a.values.slots.now a.slot 0 in
     let f = table_of a.list.each.now in
     let z : k - 0 ≡ k = omega arith in
     let m = mul-le-mul_right (width f) c.if-count-gt-LIST_MOST.false in
@@ -26,7 +26,7 @@ loop-init c =
 pub table_room-left-requires : goal.table_room-left-requires
 table_room-left-requires c =
     let l = c.loop in
-    let k = get_or c.args.slots.now c.args.slot 0 in
+    let k = get_or c.args.values.slots.now c.args.slot 0 in
     let here : l.counter < k = omega arith in
     let w = rw (many_next k l.counter (table_of c.args.list.each.now) here) at l.invariant.told in
     omega arith
@@ -35,7 +35,7 @@ pub loop-preserved : goal.loop-preserved
 loop-preserved c =
     let a = c.args in
     let l = c.loop in
-    let k = get_or a.slots.now a.slot 0 in
+    let k = get_or a.values.slots.now a.slot 0 in
     let f = table_of a.list.each.now in
     let here : l.counter < k = omega arith in
     let e = many_next k l.counter f here in
@@ -43,8 +43,8 @@ loop-preserved c =
     let s = c.args.list.size_value in
     record {
       told = omega (arith, s);
-      whole = rw (s, c.table_room-left.ensures, ← drop-drop (width f) l.place a.slots.now)
-          (then_room f (many (k - (l.counter + 1)) f) a.source.now (drop l.place a.slots.now) l.left
+      whole = rw (s, c.table_room-left.ensures, ← drop-drop (width f) l.place a.values.slots.now)
+          (then_room f (many (k - (l.counter + 1)) f) a.values.source.now (drop l.place a.values.slots.now) l.left
           ∙ (rw e at l.invariant.whole));
     }
 
@@ -52,9 +52,9 @@ pub returns : goal.returns
 returns c =
     let a = c.args in
     let l = c.loop in
-    let k = get_or a.slots.now a.slot 0 in
+    let k = get_or a.values.slots.now a.slot 0 in
     let z : k - l.counter ≡ 0 = omega arith in
-    none_room a.source.now (drop l.place a.slots.now) l.left
+    none_room a.values.source.now (drop l.place a.values.slots.now) l.left
     ∙ (rw z at l.invariant.whole)
     ∙ rw (c.less_by-left.ensures, c.number_size.ensures)
-    (copies.list_room (table_of a.list.each.now) a.source.now a.slots.now a.slot a.room c.if-count-gt-LIST_MOST.false)
+    (copies.list_room (table_of a.list.each.now) a.values.source.now a.values.slots.now a.slot a.room c.if-count-gt-LIST_MOST.false)

@@ -8,7 +8,7 @@ use Rattle.sizing_tables.proofs.list_room.Given as goal
 abbrev pub invariant-loop : goal.invariant-loop
 invariant-loop l =
     record {
-      told : l.place + width (many (l.count - l.counter) (table_of l.list.each.now)) ≤ length l.slots;
-      whole : room_in (many (l.count - l.counter) (table_of l.list.each.now)) l.source (drop l.place l.slots) l.left
-          ≡ room_in (many l.count (table_of l.list.each.now)) l.source (drop (l.slot + 1) l.slots) l.initial.left;
+      told : l.place + width (many (l.count - l.counter) (table_of l.list.each.now)) ≤ length l.values.slots.now;
+      whole : room_in (many (l.count - l.counter) (table_of l.list.each.now)) l.values.source.now (drop l.place l.values.slots.now) l.left
+          ≡ room_in (many l.count (table_of l.list.each.now)) l.values.source.now (drop (l.slot + 1) l.values.slots.now) l.initial.left;
     }

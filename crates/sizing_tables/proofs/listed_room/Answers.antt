@@ -13,5 +13,5 @@ returns c =
     let f = list_of (table_of a.list.each.now) in
     let e : a.slot + 1 + list_most * a.list.size ≡ a.slot + width f = omega arith in
     c.table_room.ensures
-    ∙ rw (e, c.list_room-left.ensures, ← drop-drop (width f) a.slot a.slots.now)
-    (then_room f (table_of a.list.last.now) a.source.now (drop a.slot a.slots.now) a.room)
+    ∙ rw (e, c.list_room-left.ensures, ← drop-drop (width f) a.slot a.values.slots.now)
+    (then_room f (table_of a.list.last.now) a.values.source.now (drop a.slot a.values.slots.now) a.room)

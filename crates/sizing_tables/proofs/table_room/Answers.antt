@@ -29,8 +29,8 @@ loop-field-preserved c =
     let f = field_of (get_or a.table.now l.field-index (Number 0)) in
     record {
       told = omega (arith, n);
-      whole = rw (n, c.field_room-left.ensures, ← drop-drop (width f) l.place a.slots.now)
-          (then_room f (rest_from a.table.now (l.field-index + 1)) a.source.now (drop l.place a.slots.now) l.left
+      whole = rw (n, c.field_room-left.ensures, ← drop-drop (width f) l.place a.values.slots.now)
+          (then_room f (rest_from a.table.now (l.field-index + 1)) a.values.source.now (drop l.place a.values.slots.now) l.left
           ∙ (rw e at l.invariant.whole));
     }
 
@@ -38,5 +38,5 @@ pub returns : goal.returns
 returns c =
     let l = c.loop-field in
     let past : length c.args.table.now ≤ l.field-index = omega arith in
-    none_room c.args.source.now (drop l.place c.args.slots.now) l.left
+    none_room c.args.values.source.now (drop l.place c.args.values.slots.now) l.left
     ∙ (rw (rest_end c.args.table.now l.field-index past) at l.invariant.whole)

@@ -8,7 +8,7 @@ use Rattle.sizing_tables.proofs.table_room.Given as goal
 abbrev pub invariant-loop-field : goal.invariant-loop-field
 invariant-loop-field l =
     record {
-      told : l.place + width (rest_from l.table l.field-index) ≤ length l.slots;
-      whole : room_in (rest_from l.table l.field-index) l.source (drop l.place l.slots) l.left
-          ≡ room_in (table_of l.table) l.source (drop l.slot l.slots) l.fn.room;
+      told : l.place + width (rest_from l.table l.field-index) ≤ length l.values.slots.now;
+      whole : room_in (rest_from l.table l.field-index) l.values.source.now (drop l.place l.values.slots.now) l.left
+          ≡ room_in (table_of l.table) l.values.source.now (drop l.slot l.values.slots.now) l.fn.room;
     }

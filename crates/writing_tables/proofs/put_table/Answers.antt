@@ -15,7 +15,7 @@ put_field-next-requires c =
     let l = c.loop-field in
     let here : l.field-index < length a.table.now = omega arith in
     let e = rest_field a.table.now l.field-index here in
-    first_ready _ _ a.source.now a.slots.now l.place l.out l.next (rw e at l.invariant.ready)
+    first_ready _ _ a.values.source.now a.values.slots.now l.place l.out l.next (rw e at l.invariant.ready)
 
 pub loop-field-preserved : goal.loop-field-preserved
 loop-field-preserved c =
@@ -26,10 +26,10 @@ loop-field-preserved c =
     let p = rw e at l.invariant.ready in
     let n = c.width-place.ensures in
     record {
-      ready = rw n (rest_ready _ _ a.source.now a.slots.now l.place l.out l.next p _ _ c.put_field-next.ensures);
+      ready = rw n (rest_ready _ _ a.values.source.now a.values.slots.now l.place l.out l.next p _ _ c.put_field-next.ensures);
       whole = λ left r h. l.invariant.whole left r
           (rw e
-          (both_put _ _ a.source.now a.slots.now l.place l.out l.next p _ left _ r c.put_field-next.ensures (rw n at h)));
+          (both_put _ _ a.values.source.now a.values.slots.now l.place l.out l.next p _ left _ r c.put_field-next.ensures (rw n at h)));
     }
 
 pub returns : goal.returns

@@ -7,8 +7,8 @@ use Rattle.writing_tables.proofs.put_table.Given as goal
 abbrev pub invariant-loop-field : goal.invariant-loop-field
 invariant-loop-field l =
     record {
-      ready : Ready (rest_from l.table l.field-index) l.source l.slots l.place l.out l.next;
+      ready : Ready (rest_from l.table l.field-index) l.values.source.now l.values.slots.now l.place l.out l.next;
       whole : (left : List ℕ) (r : ℕ)
-          → Puts (octets_in (rest_from l.table l.field-index) l.source (drop l.place l.slots)) l.out l.next left r
-          → Puts (octets_in (table_of l.table) l.source (drop l.slot l.slots)) l.fn.out l.at left r;
+          → Puts (octets_in (rest_from l.table l.field-index) l.values.source.now (drop l.place l.values.slots.now)) l.out l.next left r
+          → Puts (octets_in (table_of l.table) l.values.source.now (drop l.slot l.values.slots.now)) l.fn.out l.at left r;
     }
