@@ -20,6 +20,8 @@ pub enum Turn {
     Show,
 }
 
+// No invariant says that it is `Standing`: `refilled` and `turning` (specs/Turns.antt, under the theorem Replays) make
+// states of any numbers.
 #[derive(Clone, Copy)]
 pub struct State {
     // what the window holds, the first octet of it that is not used, and the offset after the entry that is looked at
