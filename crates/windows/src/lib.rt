@@ -40,7 +40,12 @@ fn refused_in(ended: bool, seen: usize, why: Refusal) -> Result<Next, Refusal>
 }
 
 // What stands at `at` of the window; `ended` says that nothing comes after the window.
-pub fn next_entry(window: &[u8], at: usize, ended: bool, slots: &mut [u64; ENTRY_SLOTS]) -> Result<Next, Refusal>
+pub fn next_entry(
+    window: &[u8],
+    at: usize,
+    ended: bool,
+    slots: &mut [u64; ENTRY_SLOTS],
+) -> Result<Next, Refusal>
     ensures value { result ≡ next_in window.now at ended }
     ensures slots { let reading = entry_at window.now at in
         slots.new ≡ placed slots.old 0 (slots_of reading) }

@@ -13,7 +13,12 @@ use sizing_kinds::fields_room;
 use writing_kinds::put_fields;
 
 // Writes an entry at the front of the output, or nothing; says how many octets.
-pub fn write_entry(out: &mut [u8], kind: Kind, slots: &[u64; ENTRY_SLOTS], source: &[u8]) -> Result<usize, Unfit>
+pub fn write_entry(
+    out: &mut [u8],
+    kind: Kind,
+    slots: &[u64; ENTRY_SLOTS],
+    source: &[u8],
+) -> Result<usize, Unfit>
     ensures value { result ≡ written_step kind source.now slots.now out.old }
     ensures out_after { out.new ≡ written_out kind source.now slots.now out.old }
 {
