@@ -3,7 +3,6 @@
 #![tactic(auto)]
 
 use acting::perform;
-use acts::gateway::Tables;
 use advancing::{advance, report};
 use empty::{no_ikes, no_ipsecs, no_policies, no_response, no_window};
 use replaying::state::State;
@@ -12,11 +11,9 @@ use std::io;
 fn main(rt: HostRuntime) -> io::Result<()> {
     let mut input = rt.stdin();
     let mut output = rt.stdout();
-    let mut tables = Tables {
-        ike: no_ikes(),
-        ipsec: no_ipsecs(),
-        policies: no_policies(),
-    };
+    let mut ike = no_ikes();
+    let mut ipsec = no_ipsecs();
+    let mut policies = no_policies();
     let mut window = no_window();
     let mut out = no_response();
     let mut s = State::begin();
@@ -25,7 +22,14 @@ fn main(rt: HostRuntime) -> io::Result<()> {
             break;
         }
         s = advance(&mut input, &mut window, s)?;
-        let o = perform(&mut tables, &window, s.entry, &mut out);
+        let o = perform(
+            &mut ike,
+            &mut ipsec,
+            &mut policies,
+            &window,
+            s.entry,
+            &mut out,
+        );
         s = report(&mut output, s, o)?;
     }
     Ok(())
