@@ -18,13 +18,8 @@ const SPACE: u8 = b' ';
 const LINE_END: u8 = b'\n';
 
 // The line of an entry. Returns its length, as each of these does.
-pub fn put_entry_line(
-    out: &mut [u8; LINE_ROOM],
-    ordinal: u64,
-    number: u8,
-    update: u8,
-    list: u8,
-) -> usize
+pub fn put_entry_line(out: &mut [u8], ordinal: u64, number: u8, update: u8, list: u8) -> usize
+    requires { line_room ≤ length out.old }
     ensures within { result ≤ line_room }
     ensures size { result ≡ length (entry_line ordinal number update list) }
     ensures octets { out.new ≡ placed out.old 0 (entry_line ordinal number update list) }
@@ -36,7 +31,8 @@ pub fn put_entry_line(
 }
 
 // The line of a refusal, with the offset of the entry that was refused.
-pub fn put_refusal_line(out: &mut [u8; LINE_ROOM], number: u8, offset: u64) -> usize
+pub fn put_refusal_line(out: &mut [u8], number: u8, offset: u64) -> usize
+    requires { line_room ≤ length out.old }
     ensures within { result ≤ line_room }
     ensures size { result ≡ length (refusal_line number offset) }
     ensures octets { out.new ≡ placed out.old 0 (refusal_line number offset) }
@@ -60,7 +56,8 @@ fn put_pair(out: &mut [u8], at: usize, pair: Pair) -> usize
 }
 
 // The line of a record's pair.
-pub fn put_pair_line(out: &mut [u8; LINE_ROOM], ipsec: bool, spi: u64, pair: Pair) -> usize
+pub fn put_pair_line(out: &mut [u8], ipsec: bool, spi: u64, pair: Pair) -> usize
+    requires { line_room ≤ length out.old }
     ensures within { result ≤ line_room }
     ensures size { result ≡ length (pair_line ipsec spi pair) }
     ensures octets { out.new ≡ placed out.old 0 (pair_line ipsec spi pair) }

@@ -8,12 +8,13 @@ ghost use Rattle.replaying.specs.Turns.{printed, pair_at};
 
 use given::outcome::Outcome;
 use given::reading::Asked;
-use printing::lines::{LINE_ROOM, put_entry_line, put_pair_line, put_refusal_line};
+use printing::lines::{put_entry_line, put_pair_line, put_refusal_line};
 use replaying::state::{State, Turn};
 
 // Puts the line of a record's pair; of a free place nothing.
 #[tactic(auto, using(writing::proofs::Placed::placed_none))]
-fn put_pair(line: &mut [u8; LINE_ROOM], ipsec: bool, o: Outcome) -> usize
+fn put_pair(line: &mut [u8], ipsec: bool, o: Outcome) -> usize
+    requires { line_room ≤ length line.old }
     ensures within { result ≤ line_room }
     ensures size { result ≡ length (pair_at ipsec o.spi o.pair) }
     ensures octets { line.new ≡ placed line.old 0 (pair_at ipsec o.spi o.pair) }
@@ -26,7 +27,8 @@ fn put_pair(line: &mut [u8; LINE_ROOM], ipsec: bool, o: Outcome) -> usize
 
 // Puts what a turn prints at the front of a line, and returns how long that is.
 #[tactic(auto, using(writing::proofs::Placed::placed_none))]
-pub fn put_line(line: &mut [u8; LINE_ROOM], s: State, o: Outcome) -> usize
+pub fn put_line(line: &mut [u8], s: State, o: Outcome) -> usize
+    requires { line_room ≤ length line.old }
     ensures within { result ≤ line_room }
     ensures size { result ≡ length (printed s o) }
     ensures octets { line.new ≡ placed line.old 0 (printed s o) }
