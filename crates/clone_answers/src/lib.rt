@@ -1,9 +1,8 @@
-// A clone request by what was looked up for it: checked, read, answered. The table around it is `lent`'s.
+// A clone request by what was looked up for it: checked, read, answered. The table around it is lent to `host_clone`.
 #![tactic(auto)]
 
 ghost use Rattle.std.specs.Prelude.{◌≡◌, ◌≢◌, ◌≤◌, length, unwrap_or, IfSome};
 ghost use Rattle.octets.specs.Limits.{response_room};
-ghost use Rattle.octets.specs.Numbers.{number_of};
 ghost use Rattle.writing.specs.Notify.{placed};
 ghost use Rattle.responding.specs.Put.{Responds};
 ghost use Rattle.cloning.specs.Clone.{clone_notify, clone_notifies, not_cloned};
@@ -55,11 +54,11 @@ pub fn respond_clone(number: u8, r: Reading, out: &mut [u8]) -> Response
 }
 
 // What is told of a request that is refused before its chain is read.
-pub fn not_cloned(number: Number) -> CloneReply
-    ensures { result ≡ not_cloned (number_of number) }
+pub fn not_cloned(number: u8) -> CloneReply
+    ensures { result ≡ not_cloned number }
 {
     CloneReply {
-        number: u8::from(number),
+        number,
         ..CloneReply::default()
     }
 }
@@ -72,7 +71,7 @@ pub fn clone_at(looked: &CloneLooked, request: &LentCloneRequest, out: &mut [u8]
 {
     if let Err(number) = early_checks(looked, request, out.len()) {
         return CloneAnswer {
-            reply: not_cloned(number),
+            reply: not_cloned(u8::from(number)),
             clone: None,
         };
     }

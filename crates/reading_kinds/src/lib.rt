@@ -7,24 +7,19 @@ pub mod tables;
 ghost use Rattle.std.specs.Prelude.{◌≤◌, length};
 ghost use Rattle.fields.specs.Codes.{ReadsTo};
 ghost use Rattle.entries.specs.Kinds.{fields_of};
+ghost use Rattle.entries.specs.Slots.{entry_slots};
 
 use crate::tables::{
     ADD_IPSEC, CHECK_RESPONSE, CLONE, CLOSE_IKE, CLOSE_IPSEC, DELETION_MARK, OPEN_BOTH, POLICY,
     REQUEST,
 };
-use entries::ENTRY_SLOTS;
 use entries::kind::Kind;
 use fields::refusal::Refusal;
 use reading_lists::read_listed;
 use reading_tables::read_table;
 
-pub fn read_fields(
-    kind: Kind,
-    s: &[u8],
-    at: usize,
-    slots: &mut [u64; ENTRY_SLOTS],
-) -> Result<usize, Refusal>
-    requires { at ≤ length s.now }
+pub fn read_fields(kind: Kind, s: &[u8], at: usize, slots: &mut [u64]) -> Result<usize, Refusal>
+    requires { (at ≤ length s.now) × (entry_slots ≤ length slots.old) }
     ensures { ReadsTo (fields_of kind) s.now at slots.old 0 slots.new result }
 {
     match kind {

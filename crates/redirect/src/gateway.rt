@@ -4,7 +4,8 @@ ghost use Rattle.redirect.specs.Gateway.{read_told, written_told};
 
 use octets::number::Number;
 
-// Only a REDIRECT may have a name (FQDN) for an identity, and a nonce behind it.
+// Only a REDIRECT may have a name (FQDN) for an identity, and a nonce behind it; who writes a REDIRECTED_FROM leaves the
+// nonce empty.
 #[derive(Clone, Copy, PartialEq, Eq, Debug)]
 pub enum Notification {
     Redirect,

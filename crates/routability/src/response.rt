@@ -1,4 +1,4 @@
-// The response to a return routability check of ours, by what was looked up for it. The tables around it are `lent`'s.
+// The response to a return routability check of ours, by what was looked up for it. The tables around it are lent to `host_check`.
 ghost use Rattle.std.specs.Prelude.{◌≡◌, ◌≢◌, ◌≤◌, ltb, IfErr};
 ghost use Rattle.octets.specs.Limits.{cookie_most, ike_places};
 ghost use Rattle.octets.specs.Numbers.{number_of, told};

@@ -1,11 +1,11 @@
 // What the fields of a kind of entry leave of the room of an output.
 #![tactic(auto)]
 
-ghost use Rattle.std.specs.Prelude.{◌≡◌};
+ghost use Rattle.std.specs.Prelude.{◌≡◌, ◌≤◌, length};
 ghost use Rattle.fields.specs.Writing.{room_in};
 ghost use Rattle.entries.specs.Kinds.{fields_of};
+ghost use Rattle.entries.specs.Slots.{entry_slots};
 
-use entries::ENTRY_SLOTS;
 use entries::kind::Kind;
 use fields::lent_values::LentValues;
 use fields::room::Unfit;
@@ -17,10 +17,11 @@ use sizing_tables::{listed_room, table_room};
 
 pub fn fields_room(
     kind: Kind,
-    slots: &[u64; ENTRY_SLOTS],
+    slots: &[u64],
     source: &[u8],
     room: Result<usize, Unfit>,
 ) -> Result<usize, Unfit>
+    requires { entry_slots ≤ length slots.now }
     ensures { result ≡ room_in (fields_of kind) source.now slots.now room }
 {
     let values = LentValues { slots, source };

@@ -2,13 +2,13 @@
 // used.
 #![tactic(auto)]
 
-ghost use Rattle.std.specs.Prelude.{◌≡◌};
+ghost use Rattle.std.specs.Prelude.{◌≡◌, ◌≤◌, length};
 ghost use Rattle.writing.specs.Notify.{placed};
 ghost use Rattle.fields.specs.Reading.{slots_of};
 ghost use Rattle.entries.specs.Entries.{entry_at};
+ghost use Rattle.entries.specs.Slots.{entry_slots};
 ghost use Rattle.windows.specs.Windows.{next_in, refused_in, Within};
 
-use entries::ENTRY_SLOTS;
 use entries::kind::Kind;
 use fields::refusal::Refusal;
 use reading_entries::read_entry;
@@ -40,12 +40,8 @@ fn refused_in(ended: bool, seen: usize, why: Refusal) -> Result<Next, Refusal>
 }
 
 // What stands at `at` of the window; `ended` says that nothing comes after the window.
-pub fn next_entry(
-    window: &[u8],
-    at: usize,
-    ended: bool,
-    slots: &mut [u64; ENTRY_SLOTS],
-) -> Result<Next, Refusal>
+pub fn next_entry(window: &[u8], at: usize, ended: bool, slots: &mut [u64]) -> Result<Next, Refusal>
+    requires { entry_slots ≤ length slots.old }
     ensures value { result ≡ next_in window.now at ended }
     ensures slots { let reading = entry_at window.now at in
         slots.new ≡ placed slots.old 0 (slots_of reading) }

@@ -2,10 +2,10 @@
 // are parts of what is lent beside them.
 #![tactic(auto)]
 
-ghost use Rattle.std.specs.Prelude.{◌≡◌};
+ghost use Rattle.std.specs.Prelude.{◌≡◌, ◌≤◌, length};
+ghost use Rattle.entries.specs.Slots.{entry_slots};
 ghost use Rattle.entries.specs.Writing.{written_step, written_out};
 
-use entries::ENTRY_SLOTS;
 use entries::kind::Kind;
 use fields::room::{Unfit, less_by};
 use leb128::{number_size, put_number};
@@ -13,12 +13,8 @@ use sizing_kinds::fields_room;
 use writing_kinds::put_fields;
 
 // Writes an entry at the front of the output, or nothing; says how many octets.
-pub fn write_entry(
-    out: &mut [u8],
-    kind: Kind,
-    slots: &[u64; ENTRY_SLOTS],
-    source: &[u8],
-) -> Result<usize, Unfit>
+pub fn write_entry(out: &mut [u8], kind: Kind, slots: &[u64], source: &[u8]) -> Result<usize, Unfit>
+    requires { entry_slots ≤ length slots.now }
     ensures value { result ≡ written_step kind source.now slots.now out.old }
     ensures out_after { out.new ≡ written_out kind source.now slots.now out.old }
 {

@@ -6,7 +6,6 @@ ghost use Rattle.fields.specs.Codes.{Ready, Puts};
 ghost use Rattle.fields.specs.Writing.{octets_in};
 ghost use Rattle.entries.specs.Kinds.{fields_of};
 
-use entries::ENTRY_SLOTS;
 use entries::kind::Kind;
 use fields::lent_values::LentValues;
 use reading_kinds::tables::{
@@ -15,13 +14,7 @@ use reading_kinds::tables::{
 };
 use writing_tables::{put_listed, put_table};
 
-pub fn put_fields(
-    out: &mut [u8],
-    at: usize,
-    kind: Kind,
-    slots: &[u64; ENTRY_SLOTS],
-    source: &[u8],
-) -> usize
+pub fn put_fields(out: &mut [u8], at: usize, kind: Kind, slots: &[u64], source: &[u8]) -> usize
     requires { Ready (fields_of kind) source.now slots.now 0 out.old at }
     ensures { let octets = octets_in (fields_of kind) source.now slots.now in
         Puts octets out.old at out.new result }

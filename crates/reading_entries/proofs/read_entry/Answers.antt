@@ -22,7 +22,7 @@ returns-in_err-kind c =
 
 pub read_fields-requires : goal.read_fields-requires
 read_fields-requires c =
-    (rw c.in_ok-number.ensures.ok_part at c.read_number.ensures.within).1
+    ((rw c.in_ok-number.ensures.ok_part at c.read_number.ensures.within).1, c.requires)
 
 pub returns-in_err-end : goal.returns-in_err-end
 returns-in_err-end c =
