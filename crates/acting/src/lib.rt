@@ -18,7 +18,8 @@ use policy::rules::Policy;
 use records::ike::IkeRecord;
 use records::ipsec::IpsecRecord;
 
-// Makes the call of an entry, or shows a record.
+// Makes the call of an entry, or shows a record. The tables are three parameters, here and in each act: a list of IPsec
+// records of any length may be lent, and a struct of the tables would ask for one length.
 pub fn perform(
     ike: &mut [IkeRecord; IKE_PLACES],
     ipsec: &mut [IpsecRecord],

@@ -10,7 +10,7 @@ use wording::hex::put_address;
 use wording::number::{put_number, put_short};
 use wording::word::put_word;
 
-// What every line has room in.
+// What every line has room in. A longer buffer may be lent too, so that the room is asked by a clause and no type.
 pub const LINE_ROOM: usize = 128;
 
 const SPACE: u8 = b' ';
