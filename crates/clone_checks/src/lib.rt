@@ -46,9 +46,11 @@ pub fn early_checks(
 }
 
 // Those of a chain that was read whole, in their order: CLONE_IKE_SA is there, the record is not being deleted and a
-// place is free, the peer is below its limit, the new SPI is not taken, the operator is below its share.
+// place is free, the peer is below its limit, the new SPI is not taken, the operator is below its share. No refusal is
+// told as done.
 pub fn whole_checks(there: bool, looked: &CloneLooked) -> Result<(), Number>
-    ensures { told result ≡ first_failed (whole_checks_at there looked.now) }
+    ensures value { told result ≡ first_failed (whole_checks_at there looked.now) }
+    ensures refused { IfErr result (λ number. number_of number ≢ 0) }
 {
     if !there {
         return Err(Number::NoCloneRequest);

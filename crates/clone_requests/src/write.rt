@@ -1,7 +1,8 @@
 // The request writer as a host calls it: where one of the two notifications of a clone is asked for it stands alone,
 // and else the request is written as ever.
-ghost use Rattle.std.specs.Prelude.{◌≡◌, ◌≤◌, length, Ok};
+ghost use Rattle.std.specs.Prelude.{◌≡◌, ◌≢◌, ◌≤◌, length, Ok, IfErr};
 ghost use Rattle.octets.specs.Limits.{request_room};
+ghost use Rattle.octets.specs.Numbers.{number_of};
 ghost use Rattle.writing.specs.Notify.{placed};
 ghost use Rattle.asking.specs.Wanted.{draft_of};
 ghost use Rattle.requests.specs.Told.{told_as};
@@ -71,9 +72,10 @@ pub fn put_clone(asked: CloneAsk, out: &mut [u8]) -> Chain
     }
 }
 
-// Writes what is asked for to the start of `out`, and leaves the octets past it as they are.
+// Writes what is asked for to the start of `out`, and leaves the octets past it as they are. No refusal is told as done.
 pub fn write_any(asked: CloneAsk, wanted: Wanted<'_>, out: &mut [u8]) -> Result<Chain, Number>
-    ensures { WrittenAnyAs asked (draft_of wanted.entry) out.old (told_as result) out.new }
+    ensures value { WrittenAnyAs asked (draft_of wanted.entry) out.old (told_as result) out.new }
+    ensures refused { IfErr result (λ number. number_of number ≢ 0) }
 {
     if !asks_clone(asked) {
         return requests::request::write(wanted, out);

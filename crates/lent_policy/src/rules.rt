@@ -1,6 +1,6 @@
 // The lent policies, set and asked.
-ghost use Rattle.std.specs.Prelude.{◌≡◌, ◌&&◌};
-ghost use Rattle.octets.specs.Numbers.{told};
+ghost use Rattle.std.specs.Prelude.{◌≡◌, ◌≢◌, ◌&&◌, IfErr};
+ghost use Rattle.octets.specs.Numbers.{number_of, told};
 ghost use Rattle.policy.specs.Policy.{acceptable, policy_of, set_policy};
 
 use address::pair::Pair;
@@ -9,15 +9,16 @@ use octets::number::Number;
 use policy::rules::{Policy, Rule, policy_number};
 use walks::store;
 
-// Sets an operator's whole policy, or refuses and leaves it. The other's stays.
+// Sets an operator's whole policy, or refuses and leaves it. The other's stays. No refusal is told as done.
 pub fn set_policy(
     policies: &mut [Policy; OPERATORS],
     count: u16,
     rules: &[Rule; RULES_MOST],
     operator: u8,
 ) -> Result<(), Number>
-    ensures { let set = set_policy policies.old count rules.now operator in
+    ensures value { let set = set_policy policies.old count rules.now operator in
         (told result ≡ set.number) × (policies.new ≡ set.policies) }
+    ensures refused { IfErr result (λ number. number_of number ≢ 0) }
 {
     policy_number(count as usize, rules, operator)?;
     store(policies, operator as usize, Policy::new(count, rules));

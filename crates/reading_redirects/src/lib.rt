@@ -2,9 +2,9 @@
 // the data.
 #![tactic(auto)]
 
-ghost use Rattle.std.specs.Prelude.{◌≡◌, ◌≤◌, false, length};
+ghost use Rattle.std.specs.Prelude.{◌≡◌, ◌≢◌, ◌≤◌, false, length, IfErr};
 ghost use Rattle.octets.specs.Checks.{first_failed};
-ghost use Rattle.octets.specs.Numbers.{told};
+ghost use Rattle.octets.specs.Numbers.{number_of, told};
 ghost use Rattle.redirect.specs.Read.{nonce_at, supported_checks};
 ghost use Rattle.redirect.specs.Gateway.{malformed, ReadAs, HandedOut};
 
@@ -59,9 +59,10 @@ pub fn handed_out<'a>(read: Result<Gateway<'a>, Number>, data: &'a [u8]) -> Gate
     })
 }
 
-// Reads the data of a REDIRECT_SUPPORTED, which has none.
+// Reads the data of a REDIRECT_SUPPORTED, which has none. No refusal is told as done.
 pub fn read_redirect_supported(data: &[u8]) -> Result<(), Number>
-    ensures { told result ≡ first_failed (supported_checks «data».now) }
+    ensures value { told result ≡ first_failed (supported_checks «data».now) }
+    ensures refused { IfErr result (λ number. number_of number ≢ 0) }
 {
     if data.is_empty() {
         Ok(())

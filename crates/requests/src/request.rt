@@ -1,6 +1,7 @@
 // The request writer: the notifications that are asked for, in one fixed order, as a payload chain.
-ghost use Rattle.std.specs.Prelude.{◌≡◌, true, ◌≤◌, length, Ok};
+ghost use Rattle.std.specs.Prelude.{◌≡◌, ◌≢◌, true, ◌≤◌, length, Ok, IfErr};
 ghost use Rattle.octets.specs.Limits.{request_room};
+ghost use Rattle.octets.specs.Numbers.{number_of};
 ghost use Rattle.writing.specs.Notify.{placed};
 ghost use Rattle.asking.specs.Draft.{request_octets};
 ghost use Rattle.asking.specs.Fits.{request_fits};
@@ -91,9 +92,11 @@ const ROOM: usize = REQUEST_ROOM;
 
 // Writes a request to the start of `out`, and leaves the octets past it as they are. The longest request has 564
 // octets and 21 Notify payloads; a peer may refuse that many (strongSwan 5.9.8 refuses a message with more than 20,
-// and destroys the SA), so ask for less at once where the peer isn't known.
+// and destroys the SA), so ask for less at once where the peer isn't known. No refusal is told as
+// done.
 pub fn write(wanted: Wanted<'_>, out: &mut [u8]) -> Result<Chain, Number>
-    ensures { WrittenAs (draft_of wanted.entry) out.old (told_as result) out.new }
+    ensures value { WrittenAs (draft_of wanted.entry) out.old (told_as result) out.new }
+    ensures refused { IfErr result (λ number. number_of number ≢ 0) }
 {
     if !wanted.fits() {
         return Err(Number::BadArgument);

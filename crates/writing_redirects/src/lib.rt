@@ -1,8 +1,9 @@
 // The data of each redirect notification written to the start of an output.
 #![tactic(auto)]
 
-ghost use Rattle.std.specs.Prelude.{◌≡◌, [], ◌+◌, ◌<◌, ◌≤◌, false, length, not, MatchResult};
+ghost use Rattle.std.specs.Prelude.{◌≡◌, [], ◌+◌, ◌<◌, ◌≤◌, ◌≢◌, false, length, not, IfErr, MatchResult};
 ghost use Rattle.octets.specs.declared.number.Number.TheVariants.{OutputTooShort};
+ghost use Rattle.octets.specs.Numbers.{number_of};
 ghost use Rattle.writing.specs.Notify.{placed};
 ghost use Rattle.redirect.specs.Wire.{identity_header, fqdn_most, redirect_room};
 ghost use Rattle.redirect.specs.Write.{gateway_octets, unfit, DataWrittenAs};
@@ -67,10 +68,11 @@ pub fn write_gateway(
     Ok(put_gateway(gateway, out))
 }
 
-// Writes the data of a REDIRECT_SUPPORTED: none.
+// Writes the data of a REDIRECT_SUPPORTED: none. No refusal is told as done.
 #[tactic(auto, using(writing::proofs::Placed::placed_none), unfolding(redirect::specs::Write::written))]
 pub fn write_redirect_supported(out: &mut [u8]) -> Result<usize, Number>
-    ensures { DataWrittenAs false [] out.old (written_told result) out.new }
+    ensures value { DataWrittenAs false [] out.old (written_told result) out.new }
+    ensures refused { IfErr result (λ number. number_of number ≢ 0) }
 {
     check_room(out.len()).map(|()| 0)
 }
