@@ -31,7 +31,7 @@ impl Ask {
 }
 
 // Whether each of the first n addresses is one of its family.
-fn addresses_fit(addresses: &[Address; ADDRESSES_MOST], n: usize) -> bool
+pub fn addresses_fit(addresses: &[Address; ADDRESSES_MOST], n: usize) -> bool
     requires { n ≤ addresses_most }
     ensures { let families = families_of addresses.now in
         let octets = octets_of addresses.now in

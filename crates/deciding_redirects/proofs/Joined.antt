@@ -14,7 +14,7 @@ use Rattle.redirecting.specs.Exchange.{exchange_of}
 use Rattle.redirecting.specs.Times.{time_checks}
 use Rattle.deciding_redirects.specs.Decision.{asked, data_checks, decision_number}
 
-joined : (xs ys : List Check) → all refuses xs ≡ true
+pub joined : (xs ys : List Check) → all refuses xs ≡ true
     → first_failed (xs ++ ys) ≡ cond (eqb (first_failed xs) 0) (first_failed ys) (first_failed xs)
 joined [] ys h = refl
 joined (x ∷ xs) ys h = go x.fails (both (refuses x) (all refuses xs) h) (joined xs ys)

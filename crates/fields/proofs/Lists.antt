@@ -26,6 +26,9 @@ pub record Like {A B : Type 0} (x : Reading A) (y : Reading B) : Type 0 where
   pub step : step_of x ≡ step_of y
   pub slots : slots_of x ≡ slots_of y
 
+pub like_trans : {A B C : Type 0} {x : Reading A} {y : Reading B} {z : Reading C} → Like x y → Like y z → Like x z
+like_trans p q = record { step = p.step ∙ q.step; slots = p.slots ∙ q.slots }
+
 module _ {A B B' C C' : Type 0} (join : A → B → C) (join' : A → B' → C') where
   joined_like : (r : Reading A) (k : ℕ → Reading B) (l : ℕ → Reading B') → ((n : ℕ) → Like (k n) (l n))
       → Like (joined join r k) (joined join' r l)

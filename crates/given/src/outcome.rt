@@ -20,7 +20,7 @@ pub struct Outcome {
 
 impl Outcome {
     // A record's SPI and pair; SPI 0 of a free place.
-    fn shown(spi: u64, pair: Pair) -> Outcome
+    pub fn shown(spi: u64, pair: Pair) -> Outcome
         ensures { result ≡ shown_of spi pair }
     {
         Outcome {

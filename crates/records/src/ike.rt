@@ -72,7 +72,7 @@ impl IkeRecord {
     }
 
     // A record with no marks, an empty list, no tally and no check.
-    fn fresh(spi: u64, agreed: Agreed, pair: Pair) -> IkeRecord
+    pub fn fresh(spi: u64, agreed: Agreed, pair: Pair) -> IkeRecord
         ensures { result ≡ fresh_ike spi agreed pair }
     {
         IkeRecord {

@@ -1,0 +1,2 @@
+-- Laws of one record.
+pub mod Stays
