@@ -99,9 +99,9 @@ fn mark_deletion(ike: &mut [IkeRecord; IKE_PLACES], spi: u64, operator: u8) -> R
         (told result ≡ marked.number) × (ike.new ≡ marked.ike) }
 {
     let place = ike_place(ike, spi);
-    let entry = ike_at(ike, place);
-    let own = is_own(place, entry, operator);
+    let own = is_own(place, ike_at(ike, place), operator);
     closing_number(is_bad_marking(spi, operator), own)?;
-    store(ike, place, entry.deletion_marked());
+    let marked = ike_at(ike, place).deletion_marked();
+    store(ike, place, marked);
     Ok(())
 }

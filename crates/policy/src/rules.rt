@@ -48,13 +48,14 @@ impl Rule {
         self.source_len as u16 <= bits && self.destination_len as u16 <= bits
     }
 
-    // Whether the rule accepts a pair: one rule must match both addresses.
+    // Whether the rule accepts a pair: one rule must match both addresses. Of the two families, which are one then, the
+    // pair's is asked what it is, once for all rules.
     #[tactic(auto, unfolding(crate::specs::Policy::rule_matches))]
     pub fn matches(&self, pair: &Pair) -> bool
         ensures { result ≡ rule_matches self.now pair.now }
     {
         self.family == pair.family
-            && width_of(self.family) != 0
+            && width_of(pair.family) != 0
             && self.lengths_fit()
             && prefix_matches(self.source, self.source_len, pair.source)
             && prefix_matches(self.destination, self.destination_len, pair.destination)
@@ -103,14 +104,14 @@ impl Policy {
 }
 
 // Whether each rule's addresses are of its family.
-fn all_fit(rules: &[Rule]) -> bool
+pub fn all_fit(rules: &[Rule]) -> bool
     ensures { result ≡ all rule_fits rules.now }
 {
     rules.iter().all(|r| r.fits())
 }
 
 // Whether each rule's lengths fit.
-fn all_lengths_fit(rules: &[Rule]) -> bool
+pub fn all_lengths_fit(rules: &[Rule]) -> bool
     ensures { result ≡ all lengths_fit rules.now }
 {
     rules.iter().all(|r| r.lengths_fit())
