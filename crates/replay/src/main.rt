@@ -17,10 +17,9 @@ fn main(rt: HostRuntime) -> io::Result<()> {
     let mut window = no_window();
     let mut out = no_response();
     let mut s = State::begin();
-    for _ in 0..u64::MAX {
-        if !s.going {
-            break;
-        }
+    // Nothing here tells how long a trace is: the count is what shows that the loop ends.
+    let mut turns = u64::MAX;
+    while turns > 0 && s.going {
         s = advance(&mut input, &mut window, s)?;
         let o = perform(
             &mut ike,
@@ -31,6 +30,7 @@ fn main(rt: HostRuntime) -> io::Result<()> {
             &mut out,
         );
         s = report(&mut output, s, o)?;
+        turns -= 1;
     }
     Ok(())
 }
